@@ -1,0 +1,34 @@
+-- A source of bytes in memory gives the bytes from one place to the next.
+use Rattle.std.proofs.Common.{◌≡◌, ℕ, ◌+◌, ◌-◌, ◌<◌, ◌≤◌, min, List, [], ◌++◌, length, take, drop, Some, refl, sym, ◌∙◌, ap, arith, take-add}
+use Rattle.std.proofs.lemmas.List.{take-append-drop, drop-drop, drop_all}
+use Rattle.site_io.specs.Got.{GivesBytes}
+use Rattle.site_io.specs.Scripted.{source_stream}
+
+module _ (faults from to : ℕ) (bytes buffer : List ℕ) (next : to ≡ from + min (length buffer) (length bytes - from)) (copied : take (to - from) buffer ≡ take (to - from) (drop from bytes)) where
+  moved : to ≡ from + (to - from)
+  moved = omega (arith, next)
+
+  rest : drop (to - from) (drop from bytes) ≡ drop to bytes
+  rest = drop-drop (to - from) from bytes ∙ ap (λ n. drop n bytes) (sym moved)
+
+  left : drop from bytes ≡ take (to - from) buffer ++ drop to bytes
+  left = sym (take-append-drop (to - from) (drop from bytes)) ∙ ap (λ xs. xs ++ drop (to - from) (drop from bytes)) (sym copied) ∙ ap (λ xs. take (to - from) buffer ++ xs) rest
+
+  read : take to bytes ≡ take from bytes ++ take (to - from) buffer
+  read = ap (λ n. take n bytes) moved ∙ take-add from (to - from) bytes ∙ ap (λ xs. take from bytes ++ xs) (sym copied)
+
+  ended : to - from ≡ 0 → 0 < length buffer → drop to bytes ≡ []
+  ended none room = let past : length bytes ≤ to = omega (arith, next, none, room) in drop_all to bytes past
+
+  pub given : GivesBytes (to - from) buffer (source_stream faults bytes from) (source_stream faults bytes to)
+  given = record {
+    fits = omega (arith, next);
+    given = record {
+      later = omega arith;
+      left = left;
+      read = ap Some read;
+      written = refl;
+      shut = refl;
+    };
+    ended = λ none room. ap Some (ended none room);
+  }

@@ -1,0 +1,83 @@
+-- Reads and writes one after another, and what a stream that tells its bytes says of them.
+use Rattle.std.proofs.Common.{◌≡◌, ℕ, ◌+◌, ◌-◌, ◌<◌, ◌≤◌, List, [], ◌++◌, length, take, drop, Option, Some, None, refl, sym, ◌∙◌, ap, subst, append_assoc, append-nil, length-drop, arith}
+use Rattle.std.proofs.lemmas.List.{take-append-drop, take_all}
+use Rattle.std.specs.Io.KnownBytes.{Consumes, append_known}
+use Rattle.std.proofs.KnownBytes.{Consumes-nil, Consumes-trans}
+use Rattle.site_io.specs.Stream.{Stream, Rose, HasRead, HasWritten, HasFailed}
+
+pub append_known-nil : (known : Option (List ℕ)) → append_known known [] ≡ known
+append_known-nil None = refl
+append_known-nil (Some xs) = ap Some (append-nil xs)
+
+pub append_known-append : (known : Option (List ℕ)) (xs ys : List ℕ) → append_known (append_known known xs) ys ≡ append_known known (xs ++ ys)
+append_known-append None xs ys = refl
+append_known-append (Some zs) xs ys = ap Some (append_assoc zs xs ys)
+
+pub nothing_read : (s : Stream) → HasRead [] s s
+nothing_read s = record {
+  later = omega arith;
+  left = Consumes-nil s.left;
+  read = sym (append_known-nil s.read);
+  written = refl;
+  shut = refl;
+}
+
+pub nothing_written : (s : Stream) → HasWritten [] s s
+nothing_written s = record {
+  later = omega arith;
+  left = refl;
+  read = refl;
+  written = sym (append_known-nil s.written);
+  shut = refl;
+}
+
+pub read_then_read : {xs ys : List ℕ} {s t u : Stream} → HasRead xs s t → HasRead ys t u → HasRead (xs ++ ys) s u
+read_then_read {xs} {ys} {s} {t} {u} first second = record {
+  later = omega (arith, first.later, second.later);
+  left = Consumes-trans s.left t.left u.left xs ys first.left second.left;
+  read = second.read ∙ ap (λ known. append_known known ys) first.read ∙ append_known-append s.read xs ys;
+  written = second.written ∙ first.written;
+  shut = second.shut ∙ first.shut;
+}
+
+pub written_then_written : {xs ys : List ℕ} {s t u : Stream} → HasWritten xs s t → HasWritten ys t u → HasWritten (xs ++ ys) s u
+written_then_written {xs} {ys} {s} {t} {u} first second = record {
+  later = omega (arith, first.later, second.later);
+  left = second.left ∙ first.left;
+  read = second.read ∙ first.read;
+  written = second.written ∙ ap (λ known. append_known known ys) first.written ∙ append_known-append s.written xs ys;
+  shut = second.shut ∙ first.shut;
+}
+
+-- A read that failed moved nothing.
+pub read_then_failed : {xs : List ℕ} {s t u : Stream} → HasRead xs s t → HasFailed t u → HasRead xs s u
+read_then_failed {xs} {s} {t} {u} first second = record {
+  later = omega (arith, first.later, second.later);
+  left = subst (λ known. Consumes s.left known xs) (sym second.left) first.left;
+  read = second.read ∙ first.read;
+  written = second.written ∙ first.written;
+  shut = second.shut ∙ first.shut;
+}
+
+pub written_then_failed : {xs : List ℕ} {s t u : Stream} → HasWritten xs s t → HasFailed t u → HasWritten xs s u
+written_then_failed {xs} {s} {t} {u} first second = record {
+  later = omega (arith, first.later, second.later);
+  left = second.left ∙ first.left;
+  read = second.read ∙ first.read;
+  written = second.written ∙ first.written;
+  shut = second.shut ∙ first.shut;
+}
+
+-- The count rises over a whole in which it rises at the end, or at the beginning.
+pub Rose-after : (a b c : ℕ) → a ≤ b → Rose b c → Rose a c
+Rose-after a b c later rose = omega arith
+
+pub Rose-before : (a b c : ℕ) → Rose a b → b ≤ c → Rose a c
+Rose-before a b c rose later = omega arith
+
+-- What is written moves from the rest, as a slice past `count` has it, to the front.
+pub front_grown : (count : ℕ) (bytes front rest : List ℕ) → bytes ≡ front ++ rest → bytes ≡ (front ++ take count rest) ++ take (length rest - count) (drop count rest)
+front_grown count bytes front rest whole =
+    let all : take (length rest - count) (drop count rest) ≡ drop count rest =
+    take_all (length rest - count) (drop count rest) (let e = length-drop count rest in omega (arith, e)) in
+    whole ∙ ap (λ xs. front ++ xs) (sym (take-append-drop count rest)) ∙ sym (append_assoc front (take count rest) (drop count rest)) ∙ ap (λ xs. (front ++ take count rest) ++ xs) (sym all)

@@ -1,0 +1,6 @@
+pub mod Stream
+pub mod Got
+pub mod Took
+pub mod Scripted
+pub mod Adapter
+pub mod Transfer

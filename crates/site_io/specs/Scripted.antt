@@ -1,0 +1,43 @@
+-- What contracts see of a form in memory that is told which of its calls are to fail.
+use Rattle.std.specs.Prelude.{◌≡◌, ℕ, Bool, if◌then◌else◌, nat_eq, nat_lt, ◌||◌, ◌&&◌, List, [], drop, take, Option, Some, None}
+use Rattle.std.specs.List.{list_any}
+use Rattle.site_io.specs.Stream.{Stream, next_count}
+
+pub record Scripted : Type 0 where
+  pub stream : Stream
+  -- how many calls it has met
+  pub calls : ℕ
+  -- the numbers of the calls that are to fail, counted from 1
+  pub failing : List ℕ
+
+-- whether the next call is to fail
+abbrev pub is_failing_next : Scripted → Bool
+is_failing_next s = list_any (λ n. nat_eq n (next_count s.calls)) s.failing
+
+-- One call was counted, and a fault where it was to fail.
+pub record IsNextCall (failed : Bool) (before after : Scripted) : Type 0 where
+  pub calls : after.calls ≡ next_count before.calls
+  pub failing : after.failing ≡ before.failing
+  pub faults : after.stream.faults ≡ (if failed then next_count before.stream.faults else before.stream.faults)
+
+-- a source of these bytes, of which the first `at` were read
+abbrev pub source_stream : ℕ → List ℕ → ℕ → Stream
+source_stream faults bytes at = record { faults = faults; left = Some (drop at bytes); read = Some (take at bytes); written = None; shut = None }
+
+-- a sink to which these bytes were written
+abbrev pub sink_stream : ℕ → List ℕ → Stream
+sink_stream faults bytes = record { faults = faults; left = None; read = None; written = Some bytes; shut = None }
+
+-- a sink that has room for so many bytes more
+pub record ScriptedSink : Type 0 where
+  pub scripted : Scripted
+  pub room : ℕ
+
+-- whether a write of `count` bytes is to fail, or finds no room
+abbrev pub is_refused : ScriptedSink → ℕ → Bool
+is_refused s count = is_failing_next s.scripted || (nat_eq s.room 0 && nat_lt 0 count)
+
+-- the bytes that a sink keeps, and for how many more it has room
+pub record Kept : Type 0 where
+  pub bytes : List ℕ
+  pub room : ℕ

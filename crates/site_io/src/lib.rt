@@ -1,0 +1,27 @@
+//! Byte streams of the outside: what is read from, what is written to, and how their faults are counted.
+//!
+//! [`Source`] and [`Sink`] are the traits. [`MemSource`] and [`MemSink`] are forms in memory that fail when
+//! they are told to, [`SureSource`] and [`SureSink`] never fail, and [`ReaderSource`] and [`WriterSink`]
+//! adapt std's readers and writers, the standard streams among them. [`read_all`] reads a source to its end
+//! within a limit, and [`write_all`] writes all of a text.
+#![tactic(auto)]
+
+mod bytes;
+mod mem_sink;
+mod mem_source;
+mod outside;
+mod reader_source;
+mod sure_sink;
+mod sure_source;
+mod transfer;
+mod writer_sink;
+
+pub use bytes::Bytes;
+pub use mem_sink::MemSink;
+pub use mem_source::MemSource;
+pub use outside::{Got, Outside, Sink, Source, Took};
+pub use reader_source::{ReaderSource, StandardInput};
+pub use sure_sink::SureSink;
+pub use sure_source::SureSource;
+pub use transfer::{ReadStop, WriteFault, read_all, write_all};
+pub use writer_sink::{StandardError, StandardOutput, WriterSink};

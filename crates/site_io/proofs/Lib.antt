@@ -1,2 +1,3 @@
 pub mod Streams
 mod Sources
+mod Examples

@@ -20,7 +20,7 @@ module _ (faults from to : ℕ) (bytes buffer : List ℕ) (next : to ≡ from + 
   ended : to - from ≡ 0 → 0 < length buffer → drop to bytes ≡ []
   ended none room = let past : length bytes ≤ to = omega (arith, next, none, room) in drop_all to bytes past
 
-  pub given : GivesBytes (to - from) buffer (source_stream faults bytes from) (source_stream faults bytes to)
+  pub given : GivesBytes (to - from) buffer (source_stream faults (take from bytes) (drop from bytes)) (source_stream faults (take to bytes) (drop to bytes))
   given = record {
     fits = omega (arith, next);
     given = record {

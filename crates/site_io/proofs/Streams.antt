@@ -1,9 +1,10 @@
 -- Reads and writes one after another, and what a stream that tells its bytes says of them.
-use Rattle.std.proofs.Common.{◌≡◌, ℕ, ◌+◌, ◌-◌, ◌<◌, ◌≤◌, List, [], ◌++◌, length, take, drop, Option, Some, None, refl, sym, ◌∙◌, ap, subst, append_assoc, append-nil, length-drop, arith}
-use Rattle.std.proofs.lemmas.List.{take-append-drop, take_all}
+use Rattle.std.proofs.Common.{◌≡◌, ℕ, ◌-◌, ◌≤◌, List, [], ◌∷◌, ◌++◌, length, take, drop, Option, Some, None, refl, sym, ◌∙◌, ap, subst, append_assoc, append-nil, length-drop, arith}
+use Rattle.std.proofs.lemmas.List.{take-append-drop, take_all, length-take-le}
 use Rattle.std.specs.Io.KnownBytes.{Consumes, append_known}
 use Rattle.std.proofs.KnownBytes.{Consumes-nil, Consumes-trans}
 use Rattle.site_io.specs.Stream.{Stream, Rose, HasRead, HasWritten, HasFailed}
+use Rattle.site_io.specs.Got.{GivesBytes}
 
 pub append_known-nil : (known : Option (List ℕ)) → append_known known [] ≡ known
 append_known-nil None = refl
@@ -81,3 +82,16 @@ front_grown count bytes front rest whole =
     let all : take (length rest - count) (drop count rest) ≡ drop count rest =
     take_all (length rest - count) (drop count rest) (let e = length-drop count rest in omega (arith, e)) in
     whole ∙ ap (λ xs. front ++ xs) (sym (take-append-drop count rest)) ∙ sym (append_assoc front (take count rest) (drop count rest)) ∙ ap (λ xs. (front ++ take count rest) ++ xs) (sym all)
+
+-- Once nothing is left, no read gives a byte.
+none_known : (known : Option (List ℕ)) (bytes : List ℕ) → Consumes (Some []) known bytes → bytes ≡ []
+none_known None bytes consumes = absurd consumes
+none_known (Some ys) [] consumes = refl
+none_known (Some ys) (x ∷ xs) consumes = cc
+
+pub ended_stays : (count : ℕ) (buffer : List ℕ) (before after : Stream) → before.left ≡ Some [] → GivesBytes count buffer before after → count ≡ 0
+ended_stays count buffer before after ended given =
+    let consumes : Consumes (Some []) after.left (take count buffer) = subst (λ known. Consumes known after.left (take count buffer)) ended given.given.left in
+    let none : length (take count buffer) ≡ 0 = ap length (none_known after.left (take count buffer) consumes) in
+    let whole = length-take-le count buffer given.fits in
+    sym whole ∙ none

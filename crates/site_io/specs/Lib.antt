@@ -3,4 +3,5 @@ pub mod Got
 pub mod Took
 pub mod Scripted
 pub mod Adapter
+pub mod Sure
 pub mod Transfer

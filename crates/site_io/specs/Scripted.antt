@@ -1,5 +1,5 @@
 -- What contracts see of a form in memory that is told which of its calls are to fail.
-use Rattle.std.specs.Prelude.{◌≡◌, ℕ, Bool, if◌then◌else◌, nat_eq, nat_lt, ◌||◌, ◌&&◌, List, [], drop, take, Option, Some, None}
+use Rattle.std.specs.Prelude.{◌≡◌, ℕ, Bool, if◌then◌else◌, nat_eq, nat_lt, ◌||◌, ◌&&◌, List, Some, None}
 use Rattle.std.specs.List.{list_any}
 use Rattle.site_io.specs.Stream.{Stream, next_count}
 
@@ -20,11 +20,11 @@ pub record IsNextCall (failed : Bool) (before after : Scripted) : Type 0 where
   pub failing : after.failing ≡ before.failing
   pub faults : after.stream.faults ≡ (if failed then next_count before.stream.faults else before.stream.faults)
 
--- a source of these bytes, of which the first `at` were read
-abbrev pub source_stream : ℕ → List ℕ → ℕ → Stream
-source_stream faults bytes at = record { faults = faults; left = Some (drop at bytes); read = Some (take at bytes); written = None; shut = None }
+-- the stream of a source in memory, from which these bytes were read and those are left
+abbrev pub source_stream : ℕ → List ℕ → List ℕ → Stream
+source_stream faults read left = record { faults = faults; left = Some left; read = Some read; written = None; shut = None }
 
--- a sink to which these bytes were written
+-- the stream of a sink in memory, to which these bytes were written
 abbrev pub sink_stream : ℕ → List ℕ → Stream
 sink_stream faults bytes = record { faults = faults; left = None; read = None; written = Some bytes; shut = None }
 
@@ -36,8 +36,3 @@ pub record ScriptedSink : Type 0 where
 -- whether a write of `count` bytes is to fail, or finds no room
 abbrev pub is_refused : ScriptedSink → ℕ → Bool
 is_refused s count = is_failing_next s.scripted || (nat_eq s.room 0 && nat_lt 0 count)
-
--- the bytes that a sink keeps, and for how many more it has room
-pub record Kept : Type 0 where
-  pub bytes : List ℕ
-  pub room : ℕ

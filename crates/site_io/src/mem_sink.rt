@@ -63,6 +63,13 @@ impl MemSink {
         Bytes::from_vec(written)
     }
 
+    /// How many calls it has met.
+    pub fn calls(&self) -> u64
+        ensures { result ≡ self.now.scripted.calls }
+    {
+        self.calls
+    }
+
     /// How many calls have failed.
     pub fn faults(&self) -> u64
         ensures { result ≡ self.now.scripted.stream.faults }

@@ -18,12 +18,12 @@ pub struct MemSource {
 }
 
 impl Model for MemSource {
-    ghost use Rattle.std.specs.Prelude.{◌≤◌, length};
+    ghost use Rattle.std.specs.Prelude.{◌≤◌, length, take, drop};
     ghost use Rattle.site_io.specs.Scripted.{Scripted, source_stream};
 
     ghost Value = { Scripted };
 
-    ghost view = { λ s. record { stream = source_stream s.faults s.bytes s.at; calls = s.calls; failing = s.failing.items } };
+    ghost view = { λ s. record { stream = source_stream s.faults (take s.at s.bytes) (drop s.at s.bytes); calls = s.calls; failing = s.failing.items } };
 
     ghost invariant = { λ s. s.at ≤ length s.bytes };
 }
@@ -31,7 +31,7 @@ impl Model for MemSource {
 impl MemSource {
     /// Copies the bytes, and the numbers of the calls that are to fail, which count from 1.
     pub fn new(alloc: Global, bytes: &[u8], failing: &[u64]) -> Result<Self, AllocError>
-        ensures { IfOk result (λ source. source ≡ record { stream = source_stream 0 bytes.now 0; calls = 0; failing = failing.now }) }
+        ensures { IfOk result (λ source. source ≡ record { stream = source_stream 0 [] bytes.now; calls = 0; failing = failing.now }) }
     {
         Ok(MemSource {
             bytes: Bytes::from_slice(alloc, bytes)?,
@@ -47,6 +47,13 @@ impl MemSource {
         ensures { self.now.stream.left ≡ Some result.now }
     {
         &self.bytes.as_slice()[self.at..]
+    }
+
+    /// How many calls it has met.
+    pub fn calls(&self) -> u64
+        ensures { result ≡ self.now.calls }
+    {
+        self.calls
     }
 
     /// How many calls have failed.

@@ -4,6 +4,8 @@ ghost use Rattle.site_io.specs.Transfer.{HasReadAll, StopsBy, HasWrittenPart};
 
 use super::{Bytes, Got, Sink, Source, Took};
 use std::alloc::{AllocError, Global};
+use std::error::Error;
+use std::fmt;
 
 /// The most bytes that one read of `read_all` asks for.
 const CHUNK: usize = 8192;
@@ -28,9 +30,29 @@ impl From<AllocError> for ReadStop {
     }
 }
 
+impl fmt::Display for ReadStop {
+    fn fmt<W: fmt::Write>(&self, f: &mut fmt::Formatter<W>) -> fmt::Result {
+        f.write_str(match self {
+            ReadStop::Fault => "a read failed",
+            ReadStop::TooLong => "the input is too long",
+            ReadStop::Memory => "out of memory",
+        })
+    }
+}
+
+impl Error for ReadStop {}
+
 /// A write failed.
 #[derive(Clone, Copy, Debug, PartialEq, Eq)]
 pub struct WriteFault;
+
+impl fmt::Display for WriteFault {
+    fn fmt<W: fmt::Write>(&self, f: &mut fmt::Formatter<W>) -> fmt::Result {
+        f.write_str("a write failed")
+    }
+}
+
+impl Error for WriteFault {}
 
 /// Reads to the end of input, which may have `limit` bytes and no more. After a stop the bytes that were
 /// read so far are lost.
@@ -40,8 +62,7 @@ pub fn read_all<S: Source>(alloc: Global, source: &mut S, limit: usize) -> Resul
 
     // Where the source tells what it has left, these are the bytes read, or they are too many.
     ensures told { IfOk result (λ bytes. IfSome (S.stream source.old).left (λ input. bytes ≡ input)) }
-    ensures told_too_long {
-        result ≡ Err ReadStop.TooLong → IfSome (S.stream source.old).left (λ input. limit < length input) }
+    ensures told_too_long { result ≡ Err ReadStop.TooLong → IfSome (S.stream source.old).left (λ input. limit < length input) }
 {
     let mut bytes = Bytes::new(alloc);
     let mut chunk = [0; CHUNK];

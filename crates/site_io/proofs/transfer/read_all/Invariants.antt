@@ -1,4 +1,4 @@
-use Rattle.std.proofs.Common.{◌≡◌, ℕ, ◌+◌, ◌-◌, length}
+use Rattle.std.proofs.Common.{◌≡◌, ◌+◌, ◌-◌, length}
 use Rattle.site_io.specs.Stream.{HasRead}
 use Rattle.site_io.proofs.transfer.read_all.Given as goal
 

@@ -1,5 +1,5 @@
 -- What contracts see of a form in memory that is told which of its calls are to fail.
-use Rattle.std.specs.Prelude.{◌≡◌, ℕ, Bool, if◌then◌else◌, nat_eq, nat_lt, ◌||◌, ◌&&◌, List, Some, None}
+use Rattle.std.specs.Prelude.{◌≡◌, ℕ, Bool, if◌then◌else◌, nat_eq, nat_lt, ◌||◌, ◌&&◌, List, [], Some, None}
 use Rattle.std.specs.List.{list_any}
 use Rattle.site_io.specs.Stream.{Stream, next_count}
 
@@ -36,3 +36,10 @@ pub record ScriptedSink : Type 0 where
 -- whether a write of `count` bytes is to fail, or finds no room
 abbrev pub is_refused : ScriptedSink → ℕ → Bool
 is_refused s count = is_failing_next s.scripted || (nat_eq s.room 0 && nat_lt 0 count)
+
+-- a source of these bytes, and a sink with this room, before their first calls
+abbrev pub new_source : List ℕ → List ℕ → Scripted
+new_source bytes failing = record { stream = source_stream 0 [] bytes; calls = 0; failing = failing }
+
+abbrev pub new_sink : ℕ → List ℕ → ScriptedSink
+new_sink room failing = record { scripted = record { stream = sink_stream 0 []; calls = 0; failing = failing }; room = room }

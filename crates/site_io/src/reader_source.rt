@@ -55,7 +55,8 @@ impl<R: Read + Drop> Outside for ReaderSource<R> {
 impl<R: Read + Drop> Source for ReaderSource<R> {
     fn read(&mut self, into: &mut [u8]) -> Got
         ensures reads { Reads result into.new self.old self.new }
-        ensures counts { self.new.faults ≡ (if is_failure result then next_count self.old.faults else self.old.faults) }
+        ensures counts { self.new.faults ≡
+            (if is_failure result then next_count self.old.faults else self.old.faults) }
     {
         if self.has_ended || into.is_empty() {
             return Got::Bytes(0);

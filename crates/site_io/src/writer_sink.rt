@@ -53,7 +53,8 @@ impl<W: Write + Drop> Outside for WriterSink<W> {
 impl<W: Write + Drop> Sink for WriterSink<W> {
     fn write(&mut self, piece: &[u8]) -> Took
         ensures writes { Writes result piece.now self.old self.new }
-        ensures counts { self.new.faults ≡ (if is_failure result then next_count self.old.faults else self.old.faults) }
+        ensures counts { self.new.faults ≡
+            (if is_failure result then next_count self.old.faults else self.old.faults) }
     {
         if piece.is_empty() {
             return Took::Bytes(0);

@@ -1,0 +1,11 @@
+//! The values of the language, and the texts, references, places and faults that all other crates speak of.
+#![tactic(auto)]
+
+pub mod fault;
+pub mod memory;
+pub mod place;
+pub mod places;
+pub mod reference;
+pub mod refs;
+pub mod text;
+pub mod texts;

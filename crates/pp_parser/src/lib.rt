@@ -1,0 +1,5 @@
+//! Reads a manifest: its text as a tree of statements, or the place of its first syntax fault.
+#![tactic(auto)]
+
+mod lexer;
+mod token;

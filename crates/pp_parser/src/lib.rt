@@ -2,4 +2,7 @@
 #![tactic(auto)]
 
 mod lexer;
+mod refusal;
 mod token;
+mod tokens;
+pub mod tree;

@@ -51,3 +51,22 @@ impl<'a> Model for Token<'a> {
     ghost view = { λ t. record { kind = t.kind; text = t.text.now; line = t.line } };
 }
 
+impl<'a> Token<'a> {
+    pub fn kind(&self) -> Kind
+        ensures { result ≡ self.now.kind }
+    {
+        self.kind
+    }
+
+    pub fn text(&self) -> &'a str
+        ensures { result.now ≡ self.now.text }
+    {
+        self.text
+    }
+
+    pub fn line(&self) -> u32
+        ensures { result ≡ self.now.line }
+    {
+        self.line
+    }
+}

@@ -1,1 +1,2 @@
 pub mod LexLemmas
+pub mod QuotedLemmas

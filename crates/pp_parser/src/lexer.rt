@@ -275,3 +275,11 @@ pub fn lex(alloc: Global, text: &str) -> Result<Vec<Token<'_>>, AllocError>
     }
     Ok(found)
 }
+
+/// The line of the end of the file.
+pub fn end_line(text: &str) -> u32
+    requires { length text.now + 1 < 2 ^ 32 }
+    ensures { result ≡ spec.end_line text.now }
+{
+    line_at(1, text.as_bytes())
+}

@@ -2,6 +2,8 @@
 #![tactic(auto)]
 
 mod lexer;
+mod manifest;
+mod quoted;
 mod refusal;
 mod token;
 mod tokens;

@@ -1,2 +1,3 @@
 pub mod LexLemmas
 pub mod QuotedLemmas
+pub mod Reading

@@ -7,6 +7,7 @@ use Rattle.pp_parser.specs.declared.token.Kind.TheVariants as kinds
 use Rattle.pp_parser.specs.declared.tree.Notify.{Notify}
 use Rattle.pp_parser.specs.Grammar.{value, notify_of}
 use Rattle.pp_parser.specs.Manifest.{finish, Position, between, named, opened, titled, parted, asked, pointed, valued, ended, Move, to, closes, advance, step, refused, statements_from}
+use Rattle.pp_parser.proofs.Parts.{from_comma, from_text, from_arrow, from_close, from_message, from_colon, from_title, from_brace}
 use Rattle.pp_parser.specs.Steps.{Outcome, Parser, and_then, pure, ◌>>=◌, spot_of, spot, text_spot, sees, rest, eat, expect, text, title, message, notify}
 use Rattle.pp_parser.specs.Tokens.{Lexeme, same_kind}
 
@@ -77,21 +78,12 @@ module _ (path : List ℕ) (found : List Notify) where
   comma_or_not x v true us = ends_with (ended x v) (notify_of path x (Some (value v))) (λ t. refl) (λ t. refl) refl us
   comma_or_not x v false us = refl
 
-  abbrev from_comma : Lexeme → Parser (Option (List ℕ))
-  from_comma v = eat kinds.Comma >>= (λ _. pure (Some (value v)))
-
   at_valued : (x v : Lexeme) (ts : List Lexeme) → read (valued x v) ts ≡ followed (from_comma v ts) (close_of x)
   unfolding step
   at_valued x v ts =
       may_eat (valued x v) (ended x v) kinds.Comma (notify_of path x (Some (value v))) (λ t. refl) (λ t. refl) refl ts
       ∙ (λ i. followed (eat kinds.Comma ts) (λ is us. comma_or_not x v is us i))
       ∙ sym (followed-and_then (eat kinds.Comma ts) (λ _. pure (Some (value v))) (close_of x))
-
-  abbrev from_text : Parser (Option (List ℕ))
-  from_text = text >>= (λ v. from_comma v)
-
-  abbrev from_arrow : Parser (Option (List ℕ))
-  from_arrow = expect kinds.Arrow >>= (λ _. from_text)
 
   at_asked : (x : Lexeme) (ts : List Lexeme) → read (asked x) ts ≡ followed (from_arrow ts) (close_of x)
   unfolding step
@@ -111,43 +103,28 @@ module _ (path : List ℕ) (found : List Notify) where
       ∙ (λ i. followed (eat kinds.Message ts) (λ is us. message_or_not x is us i))
       ∙ sym (followed-and_then (eat kinds.Message ts) (λ is. cond is from_arrow (pure None)) (close_of x))
 
-  abbrev from_close : Lexeme → Option (List ℕ) → Parser Notify
-  from_close x m = expect kinds.CloseBrace >>= (λ _. pure (notify_of path x m))
-
-  abbrev from_message : Lexeme → Parser Notify
-  from_message x = message >>= (λ m. from_close x m)
-
-  abbrev from_colon : Lexeme → Parser Notify
-  from_colon x = expect kinds.Colon >>= (λ _. from_message x)
-
-  abbrev from_title : Parser Notify
-  from_title = title >>= (λ x. from_colon x)
-
-  abbrev from_brace : Parser Notify
-  from_brace = expect kinds.OpenBrace >>= (λ _. from_title)
-
-  at_close : (x : Lexeme) (m : Option (List ℕ)) (ts : List Lexeme) → close_of x m ts ≡ followed (from_close x m ts) behind
+  at_close : (x : Lexeme) (m : Option (List ℕ)) (ts : List Lexeme) → close_of x m ts ≡ followed (from_close path x m ts) behind
   at_close x m ts = sym (followed-and_then (expect kinds.CloseBrace ts) (λ _. pure (notify_of path x m)) behind)
 
-  at_message : (x : Lexeme) (ts : List Lexeme) → read (parted x) ts ≡ followed (from_message x ts) behind
-  at_message x ts = at_parted x ts ∙ (λ i. followed (message ts) (λ m us. at_close x m us i)) ∙ sym (followed-and_then (message ts) (λ m. from_close x m) behind)
+  at_message : (x : Lexeme) (ts : List Lexeme) → read (parted x) ts ≡ followed (from_message path x ts) behind
+  at_message x ts = at_parted x ts ∙ (λ i. followed (message ts) (λ m us. at_close x m us i)) ∙ sym (followed-and_then (message ts) (λ m. from_close path x m) behind)
 
-  at_titled : (x : Lexeme) (ts : List Lexeme) → read (titled x) ts ≡ followed (from_colon x ts) behind
+  at_titled : (x : Lexeme) (ts : List Lexeme) → read (titled x) ts ≡ followed (from_colon path x ts) behind
   unfolding step
   at_titled x ts =
       expects (titled x) (parted x) kinds.Colon (λ t. refl) (λ t. refl) refl ts
       ∙ (λ i. followed (expect kinds.Colon ts) (λ _ us. at_message x us i))
-      ∙ sym (followed-and_then (expect kinds.Colon ts) (λ _. from_message x) behind)
+      ∙ sym (followed-and_then (expect kinds.Colon ts) (λ _. from_message path x) behind)
 
-  at_title : (ts : List Lexeme) → read opened ts ≡ followed (from_title ts) behind
-  at_title ts = at_opened ts ∙ (λ i. followed (title ts) (λ x us. at_titled x us i)) ∙ sym (followed-and_then (title ts) (λ x. from_colon x) behind)
+  at_title : (ts : List Lexeme) → read opened ts ≡ followed (from_title path ts) behind
+  at_title ts = at_opened ts ∙ (λ i. followed (title ts) (λ x us. at_titled x us i)) ∙ sym (followed-and_then (title ts) (λ x. from_colon path x) behind)
 
-  at_named : (ts : List Lexeme) → read named ts ≡ followed (from_brace ts) behind
+  at_named : (ts : List Lexeme) → read named ts ≡ followed (from_brace path ts) behind
   unfolding step
   at_named ts =
       expects named opened kinds.OpenBrace (λ t. refl) (λ t. refl) refl ts
       ∙ (λ i. followed (expect kinds.OpenBrace ts) (λ _ us. at_title us i))
-      ∙ sym (followed-and_then (expect kinds.OpenBrace ts) (λ _. from_title) behind)
+      ∙ sym (followed-and_then (expect kinds.OpenBrace ts) (λ _. from_title path) behind)
 
   -- where a statement begins
   at_between : (t : Lexeme) (ts : List Lexeme) → read between (t ∷ ts) ≡ followed (expect kinds.Notify (t ∷ ts)) (λ _ us. read named us)
@@ -160,4 +137,4 @@ module _ (path : List ℕ) (found : List Notify) where
   begins t ts =
       at_between t ts
       ∙ (λ i. followed (expect kinds.Notify (t ∷ ts)) (λ _ us. at_named us i))
-      ∙ sym (followed-and_then (expect kinds.Notify (t ∷ ts)) (λ _. from_brace) behind)
+      ∙ sym (followed-and_then (expect kinds.Notify (t ∷ ts)) (λ _. from_brace path) behind)

@@ -3,3 +3,4 @@ pub mod Parts
 pub mod QuotedLemmas
 pub mod Reading
 pub mod Sound
+pub mod Turns

@@ -1,3 +1,5 @@
+pub mod Complete
+pub mod Faults
 pub mod LexLemmas
 pub mod Parts
 pub mod QuotedLemmas

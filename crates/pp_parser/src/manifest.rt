@@ -3,6 +3,7 @@
 ghost use Rattle.std.specs.Prelude.{◌≡◌, ◌+◌, ◌<◌, ◌^◌, length, OnOk};
 ghost use Rattle.pp_parser.specs.Manifest as spec;
 ghost use Rattle.pp_parser.specs.Steps as steps;
+ghost use Rattle.pp_parser.specs.Tokens.{end_line};
 ghost use Rattle.pp_parser.specs.Steps.{Gives, Reads};
 
 use crate::lexer::{end_line, lex};
@@ -95,7 +96,7 @@ pub fn parse(alloc: Global, file: &Text, text: &Text) -> Result<File, Stop>
 
 fn line_of(text: &str, spot: Spot) -> u32
     requires { length text.now + 1 < 2 ^ 32 }
-    ensures { result ≡ spec.line_of text.now spot }
+    ensures { result ≡ spec.line_of (end_line text.now) spot }
 {
     match spot {
         Spot::Line(line) => line,

@@ -1,6 +1,7 @@
 //! Reads a manifest: its text as a tree of statements, or the place of its first syntax fault.
 #![tactic(auto)]
 
+pub mod law;
 mod lexer;
 pub mod manifest;
 mod quoted;

@@ -21,7 +21,6 @@ not_empty [] full = absurd (full (unfold unescaped in refl))
 not_empty (b ∷ z) full = grind arith
 
 module _ (path : List ℕ) where
-
   notify_is : (front left : List Lexeme) (n : Notify) → IsNotify path front n → notify path (front ++ left) ≡ Ok (n, left)
   unfolding notify expect title sees rest same_kind
   notify_is front left n (grammar.notify name brace head colon close attribute m nk bk hk full ck said ek) =

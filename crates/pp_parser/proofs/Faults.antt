@@ -19,7 +19,6 @@ followed_ok (Ok p) f y h = (p, refl, h)
 followed_ok (Err e) f y h = absurd (cc)
 
 module _ (path : List ℕ) where
-
   -- what was read is in the grammar, for at most n tokens
   in_grammar : (n : ℕ) (ts : List Lexeme) (found ns : List Notify) → length ts ≤ n → statements_from path ts found between ≡ Ok ns → (ms : List Notify) × Reads path ts ms × (ns ≡ found ++ ms)
   unfolding statements_from
@@ -131,7 +130,6 @@ module _ (path : List ℕ) where
   finish_end _ found spot is = cc
 
   module _ (end : ℕ) (spot : Spot) where
-
     -- F1 of the tokens from a place on
     abbrev Faults : List Lexeme → List Lexeme → Type 0
     Faults front ts = FaultsAt path end front ts (line_of end spot)
@@ -195,10 +193,10 @@ module _ (path : List ℕ) where
     unfolding statements_from Leads
     faults_from [] front found p leads is =
         placed front [] spots.End (finish_end p found spot is) (grammar.at_end front (λ ns reads.
-            let read = statements_read path front ns [] reads in
-            let refuses = ap (λ us. statements_from path us [] between) (sym (append-nil front)) ∙ leads [] ∙ is in
-            let both = sym refuses ∙ read in
-            cc))
+        let read = statements_read path front ns [] reads in
+        let refuses = ap (λ us. statements_from path us [] between) (sym (append-nil front)) ∙ leads [] ∙ is in
+        let both = sym refuses ∙ read in
+        cc))
     faults_from (t ∷ ts) front found p leads is = by_move (step path p t) t ts front found p (λ front found p leads is. faults_from ts front found p leads is) leads refl is
 
     pub faults : (ts : List Lexeme) → statements_from path ts [] between ≡ Err spot → FaultsAt path end [] ts (line_of end spot)

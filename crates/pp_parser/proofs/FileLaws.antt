@@ -12,7 +12,6 @@ use Rattle.pp_parser.proofs.Complete.{statements_read}
 use Rattle.pp_parser.proofs.Faults.{statements_in_grammar, faults}
 
 module _ (path text : List ℕ) where
-
   tree_by : (o : Result (List Notify) Spot) (f : File) → statements_of path text ≡ o → file_or_fault path (end_line text) o ≡ Ok f → IsTree path text f
   unfolding statements_of
   tree_by (Ok ns) f is tree =

@@ -22,7 +22,6 @@ followed-and_then (Ok p) f g = refl
 followed-and_then (Err e) f g = refl
 
 module _ (path : List ℕ) (found : List Notify) where
-
   abbrev read : Position → List Lexeme → Result (List Notify) Spot
   read position ts = statements_from path ts found position
 
@@ -53,7 +52,7 @@ module _ (path : List ℕ) (found : List Notify) where
   may_eat p q k n steps refuses ends (t ∷ ts) =
       (λ i. advance (statements_from path ts) found (steps t i) (refuses t i))
       ∙ elim (same_kind t.kind k) as (λ b. advance (statements_from path ts) found (cond b (Some (to q)) (cond (same_kind t.kind kinds.CloseBrace) (Some (closes n)) None)) (spot_of t.kind t.line) ≡ followed (cond b (Ok (true, ts)) (Ok (false, t ∷ ts))) (λ is us. cond is (read q us) (followed (expect kinds.CloseBrace us) (λ _ vs. behind n vs)))) [
-        true ↦ refl
+        | true ↦ refl
         | false ↦ elim (same_kind t.kind kinds.CloseBrace) as (λ b. advance (statements_from path ts) found (cond b (Some (closes n)) None) (spot_of t.kind t.line) ≡ followed (cond b (Ok (tt, ts)) (Err (spot_of t.kind t.line))) (λ _ vs. behind n vs)) [ true ↦ refl | false ↦ refl ]
       ]
 

@@ -8,7 +8,6 @@ use Rattle.pp_parser.specs.Tokens.{Lexeme}
 use Rattle.pp_parser.proofs.Reading.{begins, followed}
 
 module _ (path : List ℕ) where
-
   -- a statement more
   pub statement_more : (ts : List Lexeme) (found : List Notify) (n : Notify) (left : List Lexeme) → 0 < length ts → notify path ts ≡ Ok (n, left) → statements_from path left (found ++ n ∷ []) between ≡ statements_from path ts found between
   statement_more [] found n left some is = absurd (omega arith)

@@ -21,7 +21,6 @@ pub data IsMessage : List Lexeme → Option (List ℕ) → Type 0 where
   with_comma : (message arrow text comma : Lexeme) → message.kind ≡ kinds.Message → arrow.kind ≡ kinds.Arrow → text.kind ≡ kinds.Quoted → comma.kind ≡ kinds.Comma → IsMessage (message ∷ arrow ∷ text ∷ comma ∷ []) (Some (value text))
 
 module _ (path : List ℕ) where
-
   -- a statement is placed at its title
   abbrev pub notify_of : Lexeme → Option (List ℕ) → Notify
   notify_of title message = record { title = value title; message = message; at = record { file = path; line = title.line } }

@@ -9,7 +9,6 @@ use Rattle.pp_parser.specs.Manifest.{syntax_fault}
 use Rattle.pp_parser.specs.Tokens.{tokens, end_line}
 
 module _ (path text : List ℕ) where
-
   -- the tree is one of the grammar, for the text's tokens
   abbrev pub IsTree : File → Type 0
   IsTree file = Reads path (tokens text) file.statements

@@ -15,5 +15,4 @@ pub fn reads_the_grammar()
     ensures trees { (path text : List ℕ) (file : File) → (file_of path text ≡ Ok file) ↔ IsTree path text file }
     ensures one_tree { (path : List ℕ) (ts : List Lexeme) (ns ms : List Notify) → Reads path ts ns → Reads path ts ms → ns ≡ ms }
     ensures faults { (path text : List ℕ) (fault : Fault) → file_of path text ≡ Err fault → IsSyntaxFault path text fault }
-{
-}
+{}

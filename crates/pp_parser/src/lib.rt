@@ -6,6 +6,8 @@ mod lexer;
 pub mod manifest;
 mod quoted;
 mod refusal;
+#[cfg(test)]
+mod tests;
 mod token;
 mod tokens;
 pub mod tree;

@@ -1,5 +1,5 @@
 -- Where F1 stands.
-use Rattle.std.proofs.Common.{◌≡◌, ◌⊎◌, inl, inr, ⊎_elim, ℕ, zero, suc, ◌+◌, ◌<◌, ◌≤◌, Bool, true, false, List, [], ◌∷◌, ◌++◌, length, Option, Some, None, Result, Ok, Err, refl, sym, ap, ◌∙◌, subst, append_assoc, append-nil, length-append, arith, rules}
+use Rattle.std.proofs.Common.{◌≡◌, ◌⊎◌, inl, inr, ⊎_elim, ℕ, zero, suc, ◌≤◌, List, [], ◌∷◌, ◌++◌, length, Option, Some, None, Result, Ok, Err, refl, sym, ap, ◌∙◌, subst, append_assoc, append-nil, arith}
 use Rattle.pp_parser.specs.declared.refusal.Spot.{Spot}
 use Rattle.pp_parser.specs.declared.refusal.Spot.TheVariants as spots
 use Rattle.pp_parser.specs.declared.token.Kind.{Kind}
@@ -9,7 +9,7 @@ use Rattle.pp_parser.specs.Grammar.{notify_of, IsNotify, Reads, GoesOn, GoesOnWi
 use Rattle.pp_parser.specs.Grammar as grammar
 use Rattle.pp_parser.specs.Manifest.{Position, finish, between, named, opened, titled, parted, asked, pointed, valued, ended, Move, to, closes, advance, step, refused, statements_from, line_of}
 use Rattle.pp_parser.specs.Steps.{Outcome, spot_of, text_spot_of, notify}
-use Rattle.pp_parser.specs.Tokens.{Lexeme, same_kind, end_line}
+use Rattle.pp_parser.specs.Tokens.{Lexeme, same_kind}
 use Rattle.pp_parser.proofs.Reading.{begins, followed}
 use Rattle.pp_parser.proofs.Sound.{notify_ok, notify_shorter}
 use Rattle.pp_parser.proofs.Complete.{statements_read}

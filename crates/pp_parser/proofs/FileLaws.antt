@@ -6,7 +6,7 @@ use Rattle.pp_parser.specs.declared.tree.File.{File}
 use Rattle.pp_parser.specs.declared.tree.Notify.{Notify}
 use Rattle.pp_parser.specs.Grammar.{Reads}
 use Rattle.pp_parser.specs.Laws.{IsTree, IsSyntaxFault}
-use Rattle.pp_parser.specs.Manifest.{statements_from, statements_of, between, line_of, syntax_fault, file_or_fault, file_of}
+use Rattle.pp_parser.specs.Manifest.{statements_of, line_of, syntax_fault, file_or_fault, file_of}
 use Rattle.pp_parser.specs.Tokens.{Lexeme, tokens, end_line}
 use Rattle.pp_parser.proofs.Complete.{statements_read}
 use Rattle.pp_parser.proofs.Faults.{statements_in_grammar, faults}

@@ -1,14 +1,14 @@
 -- The reader of a whole file goes on as the steps of one statement do.
-use Rattle.std.proofs.Common.{◌≡◌, ℕ, ◌+◌, ◌<◌, ◌≤◌, Bool, true, false, not, ◌&&◌, ◌==◌, cond, List, [], ◌∷◌, ◌++◌, length, Option, Some, None, Result, Ok, Err, refl, sym, ap, ◌∙◌, arith}
+use Rattle.std.proofs.Common.{◌≡◌, ℕ, Bool, true, false, not, ◌&&◌, ◌==◌, cond, List, [], ◌∷◌, ◌++◌, length, Option, Some, None, Result, Ok, Err, refl, sym, ◌∙◌}
 use Rattle.pp_parser.specs.declared.refusal.Spot.{Spot}
 use Rattle.pp_parser.specs.declared.refusal.Spot.TheVariants as spots
 use Rattle.pp_parser.specs.declared.token.Kind.{Kind}
 use Rattle.pp_parser.specs.declared.token.Kind.TheVariants as kinds
 use Rattle.pp_parser.specs.declared.tree.Notify.{Notify}
 use Rattle.pp_parser.specs.Grammar.{value, notify_of}
-use Rattle.pp_parser.specs.Manifest.{finish, Position, between, named, opened, titled, parted, asked, pointed, valued, ended, Move, to, closes, advance, step, refused, statements_from}
+use Rattle.pp_parser.specs.Manifest.{finish, Position, between, named, opened, titled, parted, asked, pointed, valued, ended, to, closes, advance, step, refused, statements_from}
 use Rattle.pp_parser.proofs.Parts.{from_comma, from_text, from_arrow, from_close, from_message, from_colon, from_title, from_brace}
-use Rattle.pp_parser.specs.Steps.{Outcome, Parser, and_then, pure, ◌>>=◌, spot_of, spot, text_spot, sees, rest, eat, expect, text, title, message, notify}
+use Rattle.pp_parser.specs.Steps.{Outcome, Parser, and_then, pure, spot_of, spot, text_spot, sees, rest, eat, expect, text, title, message, notify}
 use Rattle.pp_parser.specs.Tokens.{Lexeme, same_kind}
 
 -- the outcome of the steps, and then of what reads on from there

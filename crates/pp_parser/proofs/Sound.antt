@@ -1,5 +1,5 @@
 -- What the steps read is in the grammar.
-use Rattle.std.proofs.Common.{◌≡◌, ◌≢◌, ◌⊎◌, inl, inr, ℕ, ◌<◌, Bool, true, false, not, ◌&&◌, ◌==◌, cond, List, [], ◌∷◌, ◌++◌, length, Option, Some, None, Result, Ok, Err, refl, sym, ap, ◌∙◌, subst, append_assoc, length-append, arith, rules}
+use Rattle.std.proofs.Common.{◌≡◌, ◌≢◌, ℕ, ◌<◌, Bool, true, false, not, ◌&&◌, ◌==◌, cond, List, [], ◌∷◌, ◌++◌, length, Option, Some, None, Result, Ok, Err, refl, sym, ap, ◌∙◌, subst, append_assoc, length-append, arith, rules}
 use denote.Enum.Bare.{same_true}
 use Rattle.pp_parser.specs.contracts.token.Kind.{the_type}
 use Rattle.pp_parser.specs.declared.refusal.Spot.{Spot}
@@ -9,7 +9,7 @@ use Rattle.pp_parser.specs.declared.tree.Notify.{Notify}
 use Rattle.pp_parser.specs.Grammar.{value, notify_of, IsMessage, IsNotify}
 use Rattle.pp_parser.specs.Grammar as grammar
 use Rattle.pp_parser.proofs.Parts.{from_comma, from_text, from_arrow, from_close, from_message, from_colon, from_title, from_brace}
-use Rattle.pp_parser.specs.Steps.{Outcome, Parser, and_then, pure, ◌>>=◌, spot, text_spot, sees, rest, eat, expect, text, title, message, notify}
+use Rattle.pp_parser.specs.Steps.{Outcome, Parser, and_then, pure, spot, sees, rest, eat, expect, text, title, message, notify}
 use Rattle.pp_parser.specs.Tokens.{Lexeme, same_kind, unescaped, unescaped_from, is_escape}
 
 pub kind_is : (a k : Kind) → same_kind a k ≡ true → a ≡ k

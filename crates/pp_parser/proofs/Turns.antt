@@ -1,11 +1,11 @@
 -- The turns of the loop that reads statements.
-use Rattle.std.proofs.Common.{◌≡◌, ℕ, ◌<◌, List, [], ◌∷◌, ◌++◌, length, Ok, Err, refl, sym, ap, ◌∙◌, arith}
+use Rattle.std.proofs.Common.{◌≡◌, ℕ, ◌<◌, List, [], ◌∷◌, ◌++◌, length, Ok, Err, refl, sym, ◌∙◌, arith}
 use Rattle.pp_parser.specs.declared.refusal.Spot.{Spot}
 use Rattle.pp_parser.specs.declared.tree.Notify.{Notify}
 use Rattle.pp_parser.specs.Manifest.{statements_from, between}
 use Rattle.pp_parser.specs.Steps.{notify}
 use Rattle.pp_parser.specs.Tokens.{Lexeme}
-use Rattle.pp_parser.proofs.Reading.{begins, followed}
+use Rattle.pp_parser.proofs.Reading.{begins}
 
 module _ (path : List ℕ) where
   -- a statement more

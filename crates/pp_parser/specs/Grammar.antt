@@ -5,7 +5,6 @@
 --
 -- A TEXT is in single quotes, and a TITLE is a TEXT that is not empty. Nothing here says how a text is read.
 use Rattle.std.specs.Prelude.{◌≡◌, ◌≢◌, ℕ, List, [], ◌∷◌, ◌++◌, Option, Some, None}
-use Rattle.pp_values.specs.declared.place.Place.{Place}
 use Rattle.pp_parser.specs.declared.token.Kind.TheVariants as kinds
 use Rattle.pp_parser.specs.declared.tree.Notify.{Notify}
 use Rattle.pp_parser.specs.Tokens.{Lexeme, unescaped}

@@ -1,1 +1,5 @@
 pub mod References
+pub mod Sort
+pub mod SortCodes
+pub mod PTypes
+pub mod SortFalls

@@ -1,11 +1,14 @@
 //! The values of the language, and the texts, references, places and faults that all other crates speak of.
 #![tactic(auto)]
 
+pub mod bounds;
 pub mod fault;
 pub mod memory;
 pub mod place;
 pub mod places;
+pub mod ptype;
 pub mod reference;
 pub mod refs;
 pub mod text;
 pub mod texts;
+pub mod types;

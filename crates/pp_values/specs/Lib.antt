@@ -3,3 +3,9 @@ pub mod Sort
 pub mod SortCodes
 pub mod PTypes
 pub mod SortFalls
+pub mod Datum
+pub mod Codes
+pub mod Sizes
+pub mod Keys
+pub mod Views
+pub mod Falls

@@ -4,6 +4,7 @@
 pub mod bounds;
 pub mod fault;
 pub mod memory;
+pub mod pairs;
 pub mod place;
 pub mod places;
 pub mod ptype;
@@ -12,3 +13,5 @@ pub mod refs;
 pub mod text;
 pub mod texts;
 pub mod types;
+pub mod value;
+pub mod values;

@@ -12,6 +12,7 @@ pub mod reference;
 pub mod refs;
 pub mod text;
 pub mod texts;
+pub mod type_copying;
 pub mod types;
 pub mod value;
 pub mod values;

@@ -1,11 +1,16 @@
 pub mod References
 pub mod Sort
 pub mod SortCodes
-pub mod PTypes
 pub mod SortFalls
+pub mod SortText
+pub mod PTypes
+pub mod Words
 pub mod Datum
 pub mod Codes
 pub mod Sizes
 pub mod Keys
 pub mod Views
 pub mod Falls
+pub mod Equal
+pub mod Order
+pub mod TextOf

@@ -7,6 +7,7 @@ pub mod memory;
 pub mod pairs;
 pub mod place;
 pub mod places;
+pub mod printing;
 pub mod ptype;
 pub mod reference;
 pub mod refs;

@@ -1,24 +1,18 @@
 -- What a `PType` says: its name and its arguments as given.
 use Rattle.std.specs.Prelude.{ℕ, List, map, Option, None, Some}
-use Rattle.pp_values.specs.declared.bounds.Bound.{Bound}
-use Rattle.pp_values.specs.declared.bounds.Bound.TheVariants as bound
 use Rattle.pp_values.specs.declared.bounds.Bounds.{Bounds}
 use Rattle.pp_values.specs.declared.bounds.Bounds.TheVariants as bounds
 use Rattle.pp_values.specs.declared.ptype.PType.{PType}
 use Rattle.pp_values.specs.declared.ptype.PType.TheVariants as v
 use Rattle.pp_values.specs.declared.ptype.MemberType.{MemberType}
 use Rattle.pp_values.specs.declared.ptype.EntryType.{EntryType}
-use Rattle.pp_values.specs.Sort.{Sort, Arguments, of, none, kind, number, default_, text, texts_arguments, types_arguments}
+use Rattle.pp_values.specs.Sort.{Sort, Arguments, of, none, kind, bound, text, texts_arguments, types_arguments}
 use Rattle.pp_values.specs.Sort as n
-
-abbrev pub bound_argument : Bound → Arguments → Arguments
-bound_argument bound.Default rest = default_ rest
-bound_argument (bound.Number a) rest = number a rest
 
 abbrev pub bounds_arguments : Bounds → Arguments
 bounds_arguments bounds.Omitted = none
-bounds_arguments (bounds.Least a) = bound_argument a none
-bounds_arguments (bounds.Both a b) = bound_argument a (bound_argument b none)
+bounds_arguments (bounds.Least a) = bound a none
+bounds_arguments (bounds.Both a b) = bound a (bound b none)
 
 abbrev pub type_argument : Option Sort → Arguments
 type_argument None = none

@@ -2,6 +2,8 @@
 use Rattle.std.specs.Prelude.{ℕ, ◌+◌, ◌==◌, Bool, true, false, ◌&&◌, List, [], ◌∷◌, ℤ}
 use Rattle.std.specs.Ordering.{int_eq}
 use Rattle.std.specs.Str.{bytes_eq}
+use Rattle.pp_values.specs.declared.bounds.Bound.{Bound}
+use Rattle.pp_values.specs.declared.bounds.Bound.TheVariants.{Default, Number}
 
 -- the names; `kind_of_resource` is a kind of resource, such as `file` or `web::vhost`, in lower case
 pub data Name : Type 0 where
@@ -28,15 +30,14 @@ pub data Name : Type 0 where
   resource : Name
   kind_of_resource : List ℕ → Name
 
--- an argument is a data type, an integer, `default` or a text
+-- an argument is a data type, a bound (an integer or `default`), or a text
 mutual
   pub data Sort : Type 0 where
     of : Name → Arguments → Sort
   pub data Arguments : Type 0 where
     none : Arguments
     kind : Sort → Arguments → Arguments
-    number : ℤ → Arguments → Arguments
-    default_ : Arguments → Arguments
+    bound : Bound → Arguments → Arguments
     text : List ℕ → Arguments → Arguments
 
 abbrev pub texts_arguments : List (List ℕ) → Arguments
@@ -80,6 +81,11 @@ named_kind n = []
 abbrev pub same_name : Name → Name → Bool
 same_name m n = (name_number m == name_number n) && bytes_eq (named_kind m) (named_kind n)
 
+abbrev pub same_bound : Bound → Bound → Bool
+same_bound Default Default = true
+same_bound (Number a) (Number b) = int_eq a b
+same_bound a b = false
+
 -- two data types are the same where names and arguments as given are, the letters' case included
 abbrev mutual
   pub same_type : Sort → Sort → Bool
@@ -87,8 +93,7 @@ abbrev mutual
   pub same_arguments : Arguments → Arguments → Bool
   same_arguments none none = true
   same_arguments (kind s xs) (kind t ys) = same_type s t && same_arguments xs ys
-  same_arguments (number a xs) (number b ys) = int_eq a b && same_arguments xs ys
-  same_arguments (default_ xs) (default_ ys) = same_arguments xs ys
+  same_arguments (bound a xs) (bound b ys) = same_bound a b && same_arguments xs ys
   same_arguments (text a xs) (text b ys) = bytes_eq a b && same_arguments xs ys
   same_arguments xs ys = false
 
@@ -99,8 +104,7 @@ abbrev mutual
   pub arguments_size : Arguments → ℕ
   arguments_size none = 0
   arguments_size (kind s xs) = sort_size s + arguments_size xs + 1
-  arguments_size (number a xs) = arguments_size xs
-  arguments_size (default_ xs) = arguments_size xs
+  arguments_size (bound a xs) = arguments_size xs
   arguments_size (text a xs) = arguments_size xs
 
 abbrev pub sorts_size : List Sort → ℕ

@@ -1,8 +1,10 @@
 -- How a data type is printed: its name, with the arguments in brackets.
-use Rattle.std.specs.Prelude.{ℕ, ◌+◌, List, [], ◌++◌, codes}
+use Rattle.std.specs.Prelude.{ℕ, List, [], ◌++◌, codes}
 use Rattle.std.specs.Fmt.{signed_decimal}
-use Rattle.pp_values.specs.Sort.{Name, any, undef, default, boolean, integer, numeric, string, enum, scalar, data_, array, hash, collection, optional, variant, not_undef, tuple, type_, catalog_entry, class, resource, kind_of_resource, Sort, of, Arguments, none, kind, number, default_, text}
-use Rattle.pp_values.specs.Words.{before, quoted, kind_text}
+use Rattle.pp_values.specs.declared.bounds.Bound.{Bound}
+use Rattle.pp_values.specs.declared.bounds.Bound.TheVariants.{Default, Number}
+use Rattle.pp_values.specs.Sort.{Name, any, undef, default, boolean, integer, numeric, string, enum, scalar, data_, array, hash, collection, optional, variant, not_undef, tuple, type_, catalog_entry, class, resource, kind_of_resource, Sort, of, Arguments, none, kind, bound, text}
+use Rattle.pp_values.specs.Words.{quoted, kind_text}
 
 abbrev pub name_text : Name → List ℕ
 name_text any = codes "Any"
@@ -28,6 +30,10 @@ name_text class = codes "Class"
 name_text resource = codes "Resource"
 name_text (kind_of_resource k) = kind_text k
 
+abbrev pub bound_text : Bound → List ℕ
+bound_text Default = codes "default"
+bound_text (Number z) = signed_decimal z
+
 abbrev mutual
   pub type_text : Sort → List ℕ
   type_text (of n xs) = name_text n ++ bracketed xs
@@ -35,15 +41,13 @@ abbrev mutual
   -- nothing where there are no arguments
   pub bracketed : Arguments → List ℕ
   bracketed none = []
-  bracketed (kind s xs) = codes "[" ++ type_text s ++ arguments_text 1 xs ++ codes "]"
-  bracketed (number z xs) = codes "[" ++ signed_decimal z ++ arguments_text 1 xs ++ codes "]"
-  bracketed (default_ xs) = codes "[default" ++ arguments_text 1 xs ++ codes "]"
-  bracketed (text t xs) = codes "[" ++ quoted t ++ arguments_text 1 xs ++ codes "]"
+  bracketed (kind s xs) = codes "[" ++ type_text s ++ more_text xs ++ codes "]"
+  bracketed (bound b xs) = codes "[" ++ bound_text b ++ more_text xs ++ codes "]"
+  bracketed (text t xs) = codes "[" ++ quoted t ++ more_text xs ++ codes "]"
 
-  -- the arguments from argument `n` on
-  pub arguments_text : ℕ → Arguments → List ℕ
-  arguments_text n none = []
-  arguments_text n (kind s xs) = before n ++ type_text s ++ arguments_text (n + 1) xs
-  arguments_text n (number z xs) = before n ++ signed_decimal z ++ arguments_text (n + 1) xs
-  arguments_text n (default_ xs) = before n ++ codes "default" ++ arguments_text (n + 1) xs
-  arguments_text n (text t xs) = before n ++ quoted t ++ arguments_text (n + 1) xs
+  -- the arguments after the first
+  pub more_text : Arguments → List ℕ
+  more_text none = []
+  more_text (kind s xs) = codes ", " ++ type_text s ++ more_text xs
+  more_text (bound b xs) = codes ", " ++ bound_text b ++ more_text xs
+  more_text (text t xs) = codes ", " ++ quoted t ++ more_text xs

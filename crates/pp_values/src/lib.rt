@@ -14,6 +14,7 @@ pub mod refs;
 pub mod text;
 pub mod texts;
 pub mod type_copying;
+pub mod type_equality;
 pub mod type_printing;
 pub mod types;
 pub mod value;

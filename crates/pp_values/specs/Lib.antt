@@ -9,6 +9,7 @@ pub mod Datum
 pub mod Codes
 pub mod Sizes
 pub mod Keys
+pub mod Places
 pub mod Views
 pub mod Falls
 pub mod Equal

@@ -2,7 +2,9 @@
 #![tactic(auto)]
 
 pub mod bounds;
+pub mod equality;
 pub mod fault;
+pub mod keys;
 pub mod memory;
 pub mod pairs;
 pub mod place;

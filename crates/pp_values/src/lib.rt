@@ -2,10 +2,12 @@
 #![tactic(auto)]
 
 pub mod bounds;
+pub mod copying;
 pub mod equality;
 pub mod fault;
 pub mod keys;
 pub mod memory;
+pub mod ordering;
 pub mod pairs;
 pub mod place;
 pub mod places;

@@ -5,6 +5,7 @@ pub mod bounds;
 pub mod copying;
 pub mod equality;
 pub mod fault;
+pub mod interpolating;
 pub mod keys;
 pub mod memory;
 pub mod ordering;

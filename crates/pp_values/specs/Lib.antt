@@ -12,6 +12,7 @@ pub mod Keys
 pub mod Places
 pub mod Views
 pub mod Falls
+pub mod PairLists
 pub mod Equal
 pub mod Order
 pub mod TextOf

@@ -4,6 +4,7 @@
 pub mod bounds;
 pub mod copying;
 pub mod equality;
+pub mod fact_pairs;
 pub mod fault;
 pub mod interpolating;
 pub mod keys;
@@ -17,6 +18,7 @@ pub mod ptype;
 pub mod reference;
 pub mod refs;
 pub mod text;
+pub mod text_pairs;
 pub mod texts;
 pub mod type_copying;
 pub mod type_equality;

@@ -6,6 +6,7 @@ pub mod copying;
 pub mod equality;
 pub mod fact_pairs;
 pub mod fault;
+pub mod fault_copying;
 pub mod interpolating;
 pub mod keys;
 pub mod memory;

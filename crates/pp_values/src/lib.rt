@@ -27,3 +27,6 @@ pub mod type_printing;
 pub mod types;
 pub mod value;
 pub mod values;
+
+#[cfg(test)]
+mod tests;

@@ -18,6 +18,8 @@ pub mod printing;
 pub mod ptype;
 pub mod reference;
 pub mod refs;
+#[cfg(test)]
+mod tests;
 pub mod text;
 pub mod text_pairs;
 pub mod texts;
@@ -27,6 +29,3 @@ pub mod type_printing;
 pub mod types;
 pub mod value;
 pub mod values;
-
-#[cfg(test)]
-mod tests;

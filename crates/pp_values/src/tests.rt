@@ -73,7 +73,11 @@ fn member(alloc: Global, of: PType, count: Bounds) -> Result<MemberType, Memory>
 /// `Hash[String, Any, 1, default]`.
 fn hash_type(alloc: Global) -> Result<PType, Memory> {
     let key = TypeBox::new(alloc, PType::String(Bounds::Omitted))?;
-    let value = member(alloc, PType::Any, Bounds::Both(Bound::Number(1), Bound::Default))?;
+    let value = member(
+        alloc,
+        PType::Any,
+        Bounds::Both(Bound::Number(1), Bound::Default),
+    )?;
     Ok(PType::Hash(Some(EntryType {
         key,
         value: Some(value),
@@ -227,7 +231,10 @@ fn copies_names_and_places(rt: HostRuntime) -> Result<(), Fail> {
 #[test]
 fn copies_pairs_of_texts_and_facts(rt: HostRuntime) -> Result<(), Fail> {
     let mut files = TextPairs::new(rt.alloc());
-    files.push(Text::from_str(rt.alloc(), "site.pp")?, Text::from_str(rt.alloc(), "")?.copy(rt.alloc())?)?;
+    files.push(
+        Text::from_str(rt.alloc(), "site.pp")?,
+        Text::from_str(rt.alloc(), "")?.copy(rt.alloc())?,
+    )?;
     assert_eq!(rt; files.copy(rt.alloc())?.len(), 1);
     let mut nodes = FactPairs::new(rt.alloc());
     nodes.push(Text::from_str(rt.alloc(), "n0")?, Value::Undef)?;
@@ -238,7 +245,10 @@ fn copies_pairs_of_texts_and_facts(rt: HostRuntime) -> Result<(), Fail> {
 #[test]
 fn prints_names(rt: HostRuntime) -> Result<(), Fail> {
     let named = reference(rt.alloc(), "web::vhost", "it's")?;
-    assert_eq!(rt; reference_text(rt.alloc(), &named)?.as_str(), "Web::Vhost[it's]");
+    assert_eq!(rt;
+        reference_text(rt.alloc(), &named)?.as_str(),
+        "Web::Vhost[it's]"
+    );
     assert_eq!(rt; kind_text(rt.alloc(), &named.kind)?.as_str(), "Web::Vhost");
     Ok(())
 }

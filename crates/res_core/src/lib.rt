@@ -1,8 +1,14 @@
 //! Resources, their tags and the catalogs that hold them.
 #![tactic(auto)]
 
-mod tagging;
-mod tags;
-
-pub use tagging::{tags_are_the_set, tags_of};
-pub use tags::Tags;
+pub mod catalog;
+pub mod edge;
+pub mod edges;
+pub mod held;
+pub mod held_list;
+pub mod indexes;
+pub mod log_line;
+pub mod log_lines;
+pub mod resource;
+pub mod tagging;
+pub mod tags;

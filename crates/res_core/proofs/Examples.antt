@@ -1,5 +1,5 @@
 -- What the definitions give on worked examples.
-use Rattle.std.proofs.Common.{◌≡◌, true, false, List, [], ◌∷◌, refl, codes}
+use Rattle.std.proofs.Common.{◌≡◌, false, [], ◌∷◌, refl, codes}
 use Rattle.res_core.specs.Rising.{sorted, is_rising}
 use Rattle.res_core.specs.TagNames.{segments, is_word_byte, is_tag_byte, is_taggable, tags}
 

@@ -1,5 +1,5 @@
 -- Names that are put into a set one after another.
-use Rattle.std.proofs.Common.{◌≡◌, ◌↔◌, ℕ, Bool, true, false, ◌||◌, IsTrue, List, [], ◌∷◌, ◌++◌, map, filter, refl, ap, sym, ◌∙◌, if◌then◌else◌}
+use Rattle.std.proofs.Common.{◌≡◌, ℕ, Bool, true, false, ◌||◌, IsTrue, List, [], ◌∷◌, ◌++◌, map, filter, refl, ap, sym, ◌∙◌, if◌then◌else◌}
 use Rattle.std.proofs.lemmas.List.{map-append}
 use Rattle.std.specs.BTreeSet.{insert_key}
 use Rattle.res_core.specs.Rising.{text_cmp, with_texts, sorted, is_rising, has_text}
@@ -33,7 +33,7 @@ pub all_names : (kind title : List ℕ) (given container start a b c d : List (L
 all_names kind title given container start a b c d empty of_kind of_title of_given of_container =
     of_container
     ∙ ap (λ h. with_texts h (map lowered container)) (of_given
-      ∙ ap (λ h. with_texts h (map lowered given)) (of_title ∙ ap (λ h. with_texts h (map lowered (if is_taggable title then with_segments title else []))) (of_kind ∙ ap (λ h. with_texts h (map lowered (with_segments kind))) empty)))
+    ∙ ap (λ h. with_texts h (map lowered given)) (of_title ∙ ap (λ h. with_texts h (map lowered (if is_taggable title then with_segments title else []))) (of_kind ∙ ap (λ h. with_texts h (map lowered (with_segments kind))) empty)))
     ∙ sym (joined (with_segments kind) (if is_taggable title then with_segments title else []) given container) where
       joined : (k t g n : List (List ℕ)) → sorted (map lowered (k ++ (t ++ (g ++ n)))) ≡ with_texts (with_texts (with_texts (with_texts [] (map lowered k)) (map lowered t)) (map lowered g)) (map lowered n)
       joined k t g n =
@@ -58,5 +58,6 @@ pub tags_are_the_set : TagsAreTheSet
 tags_are_the_set kind title given container ts = (there, back) where
   there : ts ≡ tags kind title given container → IsTrue (is_rising ts) × ((t : List ℕ) → has_text ts t ≡ has_text (map lowered (names kind title given container)) t)
   there e = (rising_tags kind title given container ts e, λ t. ap (λ us. has_text us t) e ∙ tags_hold kind title given container t)
+
   back : IsTrue (is_rising ts) × ((t : List ℕ) → has_text ts t ≡ has_text (map lowered (names kind title given container)) t) → ts ≡ tags kind title given container
   back h = same_rising ts _ h.0 (rising_tags kind title given container _ refl) (λ t. h.1 t ∙ sym (tags_hold kind title given container t))

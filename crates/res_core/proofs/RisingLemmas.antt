@@ -1,17 +1,15 @@
 -- Rising texts: a text put at its place keeps them rising, and they are told apart by what they hold.
-use Rattle.std.proofs.Common.{◌≡◌, ℕ, Bool, true, false, ◌&&◌, ◌||◌, List, [], ◌∷◌, Ordering, refl, sym, ap, subst, ◌∙◌}
+use Rattle.std.proofs.Common.{◌≡◌, ℕ, Bool, true, false, ◌||◌, List, [], ◌∷◌, Ordering, refl, sym, ap, subst, ◌∙◌}
 use Rattle.std.specs.declared.cmp.Ordering.TheVariants.{Less, Equal, Greater}
-use Rattle.std.specs.Ordering.{is_lt, is_eq, match_ordering, ordering_reverse, nat_cmp}
-use Rattle.std.specs.Cmp.{IsTotalOrder, first_so, second_so, Equal-is, tied_itself}
-use Rattle.std.specs.Cmp.Lexicographic.{slice_cmp}
+use Rattle.std.specs.Ordering.{is_lt, is_eq, match_ordering, ordering_reverse}
+use Rattle.std.specs.Cmp.{first_so, second_so, tied_itself}
 use Rattle.std.specs.Cmp.Derive.{both_true}
 use Rattle.std.specs.FinMap.{slice_cmp-IsAntisymmetric, nat_cmp-IsAntisymmetric}
 use Rattle.std.proofs.lemmas.Cmp.{nat_list_cmp_total}
 use Rattle.std.proofs.lemmas.Map.Text.{is_eq-slice_cmp}
 use Rattle.std.specs.BTreeSet.{insert_key}
-use Rattle.std.specs.List.{list_any}
 use Rattle.std.specs.Str.{bytes_eq}
-use Rattle.res_core.specs.Rising.{text_cmp, precedes, is_rising, has_text, with_texts, sorted}
+use Rattle.res_core.specs.Rising.{text_cmp, precedes, is_rising, has_text, with_texts}
 
 less : (o : Ordering) → is_lt o ≡ true → o ≡ Less
 less Less e = refl
@@ -122,6 +120,6 @@ same_rising (t ∷ ts) (u ∷ us) h k alike =
     elim (text_cmp t u) as (λ o. text_cmp t u ≡ o → (t ∷ ts) ≡ (u ∷ us)) [
       | Less ↦ λ e. contradiction _ (has_first t ts) (alike t ∙ absent t (u ∷ us) (ap is_lt e) k)
       | Equal ↦ λ e. ap (λ v. v ∷ ts) (same_texts t u e)
-        ∙ ap (λ vs. u ∷ vs) (same_rising ts us (second_so _ _ h) (second_so _ _ k) (in_rest u ts us (subst (λ v. is_rising (v ∷ ts) ≡ true) (same_texts t u e) h) k (subst (λ v. (q : List ℕ) → has_text (v ∷ ts) q ≡ has_text (u ∷ us) q) (same_texts t u e) alike)))
+          ∙ ap (λ vs. u ∷ vs) (same_rising ts us (second_so _ _ h) (second_so _ _ k) (in_rest u ts us (subst (λ v. is_rising (v ∷ ts) ≡ true) (same_texts t u e) h) k (subst (λ v. (q : List ℕ) → has_text (v ∷ ts) q ≡ has_text (u ∷ us) q) (same_texts t u e) alike)))
       | Greater ↦ λ e. contradiction _ (has_first u us) (sym (alike u) ∙ absent u (t ∷ ts) (above t u e) h)
     ] refl

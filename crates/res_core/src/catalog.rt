@@ -7,7 +7,7 @@ use pp_values::text::Text;
 ///
 /// No two resources have the same kind and title, and each index in the catalog is that of one of them.
 /// The edges rise by `from`, then `to`, and no pair stands twice.
-#[derive(Debug, Drop)]
+#[derive(Drop)]
 pub struct Catalog {
     pub node: Text,
     pub resources: HeldList,

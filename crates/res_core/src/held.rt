@@ -2,7 +2,7 @@ use crate::indexes::Indexes;
 use crate::resource::Resource;
 
 /// A resource in a catalog.
-#[derive(Debug, Drop)]
+#[derive(Drop)]
 pub struct Held {
     pub item: Resource,
     /// The indexes of the resources that contain it directly, rising.

@@ -6,7 +6,7 @@ use std::alloc::Global;
 use std::marker::Model;
 
 /// The resources of a catalog. A resource's place in this list is its index.
-#[derive(Debug, Drop)]
+#[derive(Drop)]
 pub struct HeldList {
     items: Vec<Held>,
 }
@@ -14,8 +14,12 @@ pub struct HeldList {
 impl Model for HeldList {
     ghost use Rattle.std.specs.Prelude.{List};
     ghost use Rattle.res_core.specs.declared.held.Held.{Held};
+    ghost use Rattle.std.specs.Coded.{coded_list};
+    ghost use Rattle.res_core.specs.ResourceCodes.{coded_held};
 
     ghost Value = { List Held };
+
+    ghost coded = { coded_list coded_held };
 
     ghost view = { λ l. l.items.items };
 }

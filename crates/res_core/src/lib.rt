@@ -1,6 +1,8 @@
 //! Resources, their tags and the catalogs that hold them.
 #![tactic(auto)]
 
+pub mod attribute;
+pub mod attributes;
 pub mod catalog;
 pub mod edge;
 pub mod edges;
@@ -12,3 +14,5 @@ pub mod log_lines;
 pub mod resource;
 pub mod tagging;
 pub mod tags;
+#[cfg(test)]
+mod tests;

@@ -48,8 +48,7 @@ fn gather(
 /// What `tags_of` gives is the one list that rises and holds exactly the names, in lower case.
 pub fn tags_are_the_set()
     ensures { TagsAreTheSet }
-{
-}
+{}
 
 /// Whether a title may be a tag: it begins with an ASCII letter, a digit or `_`, and holds nothing
 /// but these, `:`, `.` and `-`.

@@ -1,5 +1,3 @@
-use Rattle.std.proofs.Common.{◌≡◌, subst}
-use Rattle.res_core.specs.TagNames.{tags}
 use Rattle.res_core.proofs.NameLemmas.{all_names, rising_tags}
 use Rattle.res_core.proofs.tagging.gather.Goals as goal
 

@@ -1,1 +1,3 @@
 pub mod FaultText
+pub mod ValueForm
+pub mod CatalogText

@@ -1,5 +1,5 @@
 -- Rising texts: a text put at its place keeps them rising, and they are told apart by what they hold.
-use Rattle.std.proofs.Common.{◌≡◌, ℕ, Bool, true, false, ◌||◌, List, [], ◌∷◌, Ordering, refl, sym, ap, subst, ◌∙◌}
+use Rattle.std.proofs.Common.{◌≡◌, ℕ, Bool, true, false, ◌||◌, List, [], ◌∷◌, ◌++◌, Ordering, refl, sym, ap, subst, ◌∙◌}
 use Rattle.std.specs.declared.cmp.Ordering.TheVariants.{Less, Equal, Greater}
 use Rattle.std.specs.Ordering.{is_lt, is_eq, match_ordering, ordering_reverse}
 use Rattle.std.specs.Cmp.{first_so, second_so, tied_itself}
@@ -123,3 +123,11 @@ same_rising (t ∷ ts) (u ∷ us) h k alike =
           ∙ ap (λ vs. u ∷ vs) (same_rising ts us (second_so _ _ h) (second_so _ _ k) (in_rest u ts us (subst (λ v. is_rising (v ∷ ts) ≡ true) (same_texts t u e) h) k (subst (λ v. (q : List ℕ) → has_text (v ∷ ts) q ≡ has_text (u ∷ us) q) (same_texts t u e) alike)))
       | Greater ↦ λ e. contradiction _ (has_first u us) (sym (alike u) ∙ absent u (t ∷ ts) (above t u e) h)
     ] refl
+
+first_below : (t u : List ℕ) (ts us : List (List ℕ)) → is_rising (t ∷ (ts ++ u ∷ us)) ≡ true → is_lt (text_cmp t u) ≡ true
+first_below t u [] us r = first_so _ _ r
+first_below t u (v ∷ vs) us r = ap is_lt (nat_list_cmp_total.trans t v u (less _ (first_so _ _ r)) (less _ (first_below v u vs us (second_so (is_lt (text_cmp t v)) _ r))))
+
+-- of rising texts, each later one is above the first
+pub above_first : (t u : List ℕ) (ts us : List (List ℕ)) → is_rising (t ∷ (ts ++ u ∷ us)) ≡ true → text_cmp u t ≡ Greater
+above_first t u ts us h = nat_list_cmp_total.antisymm u t ∙ ap ordering_reverse (less _ (first_below t u ts us h))

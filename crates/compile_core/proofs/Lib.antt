@@ -1,3 +1,4 @@
 pub mod LineLemmas
 pub mod Floats
 pub mod AttributeMembers
+pub mod Declared

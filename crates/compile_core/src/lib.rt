@@ -2,5 +2,6 @@
 #![tactic(auto)]
 
 pub mod catalog_texts;
+pub mod compiling;
 pub mod fault_texts;
 pub mod value_forms;

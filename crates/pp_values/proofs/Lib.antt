@@ -1,3 +1,5 @@
+pub mod Distinct
 pub mod Inner
 pub mod Letters
+pub mod Lists
 pub mod SameLists

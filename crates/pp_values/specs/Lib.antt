@@ -9,8 +9,10 @@ pub mod Datum
 pub mod Codes
 pub mod Sizes
 pub mod Keys
+pub mod Places
 pub mod Views
 pub mod Falls
+pub mod PairLists
 pub mod Equal
 pub mod Order
 pub mod TextOf

@@ -2,8 +2,14 @@
 #![tactic(auto)]
 
 pub mod bounds;
+pub mod copying;
+pub mod equality;
+pub mod fact_pairs;
 pub mod fault;
+pub mod interpolating;
+pub mod keys;
 pub mod memory;
+pub mod ordering;
 pub mod pairs;
 pub mod place;
 pub mod places;
@@ -12,6 +18,7 @@ pub mod ptype;
 pub mod reference;
 pub mod refs;
 pub mod text;
+pub mod text_pairs;
 pub mod texts;
 pub mod type_copying;
 pub mod type_equality;

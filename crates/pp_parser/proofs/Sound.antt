@@ -164,3 +164,12 @@ module _ (path : List ℕ) where
         subst (IsNotify path front) (ap statement_of same) (grammar.notify is_name.0 is_brace.0 headed.0.0 is_colon.0 is_close.0 is_message.0 said.0.0 is_name.2 is_brace.2 is_title.1 is_title.2 is_colon.2 is_message.1 is_close.2),
         is_name.1 ∙ ap (λ vs. is_name.0 ∷ vs) (is_brace.1 ∙ ap (λ vs. is_brace.0 ∷ vs) (is_title.0 ∙ ap (λ vs. headed.0.0 ∷ vs) (is_colon.1 ∙ ap (λ vs. is_colon.0 ∷ vs) rest))),
       )
+
+  -- a statement has tokens
+  pub notify_shorter : (ts : List Lexeme) (n : Notify) (left : List Lexeme) → notify path ts ≡ Ok (n, left) → length left < length ts
+  notify_shorter ts n left h =
+      let found = notify_ok ts n left h in
+      omega (arith, ap length found.2, length-append found.0 left, some found.0 n found.1)
+    where
+      some : (front : List Lexeme) (n : Notify) → IsNotify path front n → 0 < length front
+      some front n (grammar.notify name brace title colon close attribute message nk bk tk full ck is ek) = omega arith

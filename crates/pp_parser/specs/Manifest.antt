@@ -1,6 +1,8 @@
 -- What a manifest is: its tree, or its first fault. The tokens are read once, from left to right.
-use Rattle.std.specs.Prelude.{ℕ, ◌==◌, ◌&&◌, not, if◌then◌else◌, List, [], ◌∷◌, ◌++◌, length, Option, Some, None, Result, Ok, Err}
+use Rattle.std.specs.Prelude.{◌≡◌, ℕ, ◌==◌, ◌&&◌, not, if◌then◌else◌, List, [], ◌∷◌, ◌++◌, length, Option, Some, None, Result, Ok, Err}
 use Rattle.pp_values.specs.declared.fault.Fault.{Fault}
+use Rattle.pp_values.specs.declared.fault.Stop.{Stop}
+use Rattle.pp_values.specs.declared.fault.Stop.TheVariants as stops
 use Rattle.pp_values.specs.declared.fault.What.TheVariants.{Syntax}
 use Rattle.pp_parser.specs.declared.refusal.Spot.{Spot}
 use Rattle.pp_parser.specs.declared.refusal.Spot.TheVariants as spots
@@ -69,18 +71,28 @@ module _ (path : List ℕ) where
   statements_from [] found position = finish position found
   statements_from (t ∷ ts) found position = advance (statements_from ts) found (step position t) (refused position t)
 
-abbrev pub line_of : List ℕ → Spot → ℕ
-line_of text (spots.Line line) = line
-line_of text spots.End = end_line text
+-- the line of a spot, by the line of the end of the file
+abbrev pub line_of : ℕ → Spot → ℕ
+line_of end (spots.Line line) = line
+line_of end spots.End = end
 
 -- F1 at a line of the file
 abbrev pub syntax_fault : List ℕ → ℕ → Fault
 syntax_fault path line = record { at = record { file = path; line = line }; what = Syntax }
 
-abbrev pub file_or_fault : List ℕ → List ℕ → Result (List Notify) Spot → Result File Fault
-file_or_fault path text (Ok ns) = Ok (record { statements = ns })
-file_or_fault path text (Err spot) = Err (syntax_fault path (line_of text spot))
+abbrev pub file_or_fault : List ℕ → ℕ → Result (List Notify) Spot → Result File Fault
+file_or_fault path end (Ok ns) = Ok (record { statements = ns })
+file_or_fault path end (Err spot) = Err (syntax_fault path (line_of end spot))
+
+unfoldable pub statements_of : List ℕ → List ℕ → Result (List Notify) Spot
+statements_of path text = statements_from path (tokens text) [] between
 
 -- the tree of a manifest of this path and text, or its fault
 unfoldable pub file_of : List ℕ → List ℕ → Result File Fault
-file_of path text = file_or_fault path text (statements_from path (tokens text) [] between)
+file_of path text = file_or_fault path (end_line text) (statements_of path text)
+
+-- `parse` answers the tree or the fault, unless memory fails
+abbrev pub Parses : Result File Fault → Result File Stop → Type 0
+Parses outcome (Ok file) = outcome ≡ Ok file
+Parses outcome (Err (stops.Fault fault)) = outcome ≡ Err fault
+Parses outcome (Err stops.Memory) = Unit {0}

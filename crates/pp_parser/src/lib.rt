@@ -2,7 +2,7 @@
 #![tactic(auto)]
 
 mod lexer;
-mod manifest;
+pub mod manifest;
 mod quoted;
 mod refusal;
 mod token;

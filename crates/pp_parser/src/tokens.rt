@@ -1,6 +1,6 @@
 //! A cursor over the tokens of a text.
 
-ghost use Rattle.std.specs.Prelude.{◌≡◌, ◌<◌, [], ◌↔◌, length, IsTrue, OnOk};
+ghost use Rattle.std.specs.Prelude.{◌≡◌, ◌==◌, length, Ok};
 ghost use Rattle.pp_parser.specs.Steps as spec;
 ghost use Rattle.pp_parser.specs.Steps.{Reads};
 
@@ -9,6 +9,7 @@ use crate::token::{Kind, Token};
 use std::marker::Model;
 
 /// The tokens that are left.
+#[derive(Drop)]
 pub struct Tokens<'a> {
     left: &'a [Token<'a>],
 }
@@ -30,7 +31,7 @@ impl<'a> Tokens<'a> {
     }
 
     pub fn is_empty(&self) -> bool
-        ensures { IsTrue result ↔ (self.now ≡ []) }
+        ensures { result ≡ (length self.now == 0) }
     {
         self.left.is_empty()
     }

@@ -1,6 +1,7 @@
 -- The declarations of a manifest, one after another, and the places of their titles.
 use Rattle.std.proofs.Common.{◌≡◌, ◌≢◌, ℕ, suc, ◌+◌, ◌<◌, ◌≤◌, Bool, true, false, cond, if◌then◌else◌, List, [], ◌∷◌, ◌++◌, length, get_or, take, drop, Option, Some, None, option_map, Ok, Err, Result, Bor, refl, ap, sym, subst, ◌∙◌, add-one, arith}
-use Rattle.std.proofs.lemmas.List.{take_more}
+use Rattle.std.proofs.lemmas.List.{take_more, take_all}
+use Rattle.std.proofs.Math.ListN.{drop_of_length-le}
 use Rattle.std.proofs.lemmas.Slice.Eq.{bytes_eq-Decides}
 use Rattle.std.proofs.Math.Seq.{drop-cons}
 use Rattle.std.specs.Cmp.Lexicographic.{nat_list_eq_equiv}
@@ -30,17 +31,13 @@ pub declared_more : (s : List Notify) (i : ℕ) (n : Notify) (all : Result (List
 unfolding declare
 declared_more s i n all low is new held =
     ap (λ x. declare x (drop (i + 1) s)) (one_more s i n low is)
-    ∙ ap (λ k. declare (take i s ++ n ∷ []) (drop k s)) add-one
+    ∙ ap (λ k. declare (take i s ++ n ∷ []) (drop k s)) (add-one i)
     ∙ sym (ap (λ o. unless_declared o n (declare (take i s ++ n ∷ []) (drop (suc i) s))) new)
     ∙ sym (ap (declare (take i s)) (at_front s i n low is)) ∙ held
 
 pub declared_all : (s : List Notify) (i : ℕ) → length s ≤ i → declare (take i s) (drop i s) ≡ declare [] s → declare [] s ≡ Ok s
 unfolding declare
-declared_all s i high held = sym held ∙ ap (λ x. declare x (drop i s)) (take_all_of s i high) ∙ ap (declare s) (drop_all_of s i high) where
-  take_all_of : (s : List Notify) (i : ℕ) → length s ≤ i → take i s ≡ s
-  take_all_of s i h = ?
-  drop_all_of : (s : List Notify) (i : ℕ) → length s ≤ i → drop i s ≡ []
-  drop_all_of s i h = ?
+declared_all s i high held = sym held ∙ ap (λ x. declare x (drop i s)) (take_all i s high) ∙ ap (declare s) (drop_of_length-le s high)
 
 no_place : (b : Bool) (x : Place) (o : Option Place) → (if b then Some x else o) ≡ None → (b ≡ false) × (o ≡ None)
 no_place true x o e = absurd cc
@@ -60,11 +57,11 @@ now_of true r o = refl
 now_of false r o = refl
 
 -- what the map of places finds after one more statement
-pub places_more : (s : List Notify) (i : ℕ) (n : Notify) (r : Bor Place) (q : List ℕ) (old new : Option (Bor Place)) → i < length s → n ≡ get_or s i n →
-    place_of n.title (take i s) ≡ None → r.now ≡ n.at → new ≡ cond (bytes_eq n.title q) (Some r) old → option_map (λ p. p.now) old ≡ place_of q (take i s) →
+pub places_more : (s : List Notify) (i : ℕ) (n : Notify) (r : Bor Place) (t q : List ℕ) (old new : Option (Bor Place)) → i < length s → n ≡ get_or s i n →
+    place_of n.title (take i s) ≡ None → r.now ≡ n.at → t ≡ n.title → new ≡ cond (bytes_eq t q) (Some r) old → option_map (λ p. p.now) old ≡ place_of q (take i s) →
     option_map (λ p. p.now) new ≡ place_of q (take (i + 1) s)
-places_more s i n r q old new low is absent same set held =
-    ap (option_map (λ p. p.now)) set ∙ now_of (bytes_eq n.title q) r old
+places_more s i n r t q old new low is absent same named set held =
+    ap (option_map (λ p. p.now)) (set ∙ ap (λ u. cond (bytes_eq u q) (Some r) old) named) ∙ now_of (bytes_eq n.title q) r old
     ∙ ap (λ p. if bytes_eq n.title q then Some p else option_map (λ p. p.now) old) same
     ∙ ap (λ o. if bytes_eq n.title q then Some n.at else o) held
     ∙ sym (ap (place_of q) (one_more s i n low is) ∙ place_of-append q (take i s) n absent)

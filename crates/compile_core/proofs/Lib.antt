@@ -2,3 +2,4 @@ pub mod LineLemmas
 pub mod Floats
 pub mod AttributeMembers
 pub mod Declared
+pub mod Forms

@@ -1,9 +1,10 @@
-ghost use Rattle.std.specs.Prelude.{◌≡◌, ◌∷◌, [], map, codes, IfOk, IsTrue};
+ghost use Rattle.std.specs.Prelude.{◌≡◌, ◌+◌, ◌<◌, ◌^◌, ◌∷◌, [], length, map, codes, IfOk, IsTrue};
 ghost use Rattle.pp_values.specs.Datum.{text};
 ghost use Rattle.res_core.specs.AttributeViews.{setting};
 ghost use Rattle.compile_core.specs.CatalogText.{has_forms};
-ghost use Rattle.compile_core.specs.Meaning.{duplicate as duplicate_of, declare, catalog_of as catalog_meant, main_tags as tags_of_main, main_class as class_main, message_settings, notify_resource as resource_of, meaning_of_file, Answers, Checks};
+ghost use Rattle.compile_core.specs.Meaning.{duplicate as duplicate_of, declare, catalog_of as catalog_meant, main_tags as tags_of_main, main_class as class_main, message_settings, notify_resource as resource_of, meaning_of_file, meaning, Answers, Checks};
 
+use pp_parser::manifest::parse;
 use pp_parser::tree::{File, Notify};
 use pp_values::fault::{Fault, Stop, What};
 use pp_values::memory::Memory;
@@ -25,6 +26,22 @@ use res_core::tagging::tags_of;
 use res_core::tags::Tags;
 use std::alloc::Global;
 use std::collections::HashMap;
+
+/// The path of the main manifest in a site.
+pub const MAIN_MANIFEST: &str = "manifests/site.pp";
+
+/// The catalog of a node by the text of the main manifest, or the first fault.
+#[tactic(auto, unfolding(crate::specs::Meaning::meaning))]
+pub fn compile(alloc: Global, node: &Text, text: &Text) -> Result<Catalog, Stop>
+    // Places count lines in 32 bits.
+    requires { length text.now + 1 < 2 ^ 32 }
+    ensures meant { Answers result (meaning node.now text.now) }
+    ensures forms { IfOk result (λ c. IsTrue (has_forms c)) }
+{
+    let path = Text::from_str(alloc, MAIN_MANIFEST)?;
+    let file = parse(alloc, &path, text)?;
+    compile_file(alloc, node, &file)
+}
 
 /// The catalog of a node by the tree of the main manifest.
 pub fn compile_file(alloc: Global, node: &Text, file: &File) -> Result<Catalog, Stop>

@@ -3,3 +3,4 @@ pub mod Floats
 pub mod AttributeMembers
 pub mod Declared
 pub mod Forms
+pub mod FormLemmas

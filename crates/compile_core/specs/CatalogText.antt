@@ -1,7 +1,7 @@
 -- The text of a catalog: compact JSON, with the members of each object in byte order.
 use Rattle.std.specs.Prelude.{ℕ, Bool, List, [], ◌∷◌, map, codes}
 use Rattle.std.specs.List.{list_all}
-use Rattle.serde_json.specs.Data.{Data, boolean, number, unsigned, string, array, object, no_items, item, Members, no_members, member}
+use Rattle.serde_json.specs.Data.{Data, boolean, number, unsigned, string, array, object, no_items, item, Members, no_members, member, put}
 use Rattle.serde_json.specs.View.{items_of}
 use Rattle.serde_json.specs.Written.{compact_text}
 use Rattle.pp_values.specs.Words.{kind_text}
@@ -27,6 +27,11 @@ held_object attributes inside tags title kind =
         (member (codes "tags") tags
           (member (codes "title") (string title)
             (member (codes "type") (string kind) no_members)))))
+
+-- the attributes put into an object's members one after another
+abbrev pub put_all : List Setting → Members → Members
+put_all [] ms = ms
+put_all (s ∷ ss) ms = put_all ss (put s.0 (form s.1) ms)
 
 unfoldable pub held_data : Held → Data
 held_data h =

@@ -1,6 +1,6 @@
 -- What a hash's edits do to its pairs and its keys.
-use Rattle.std.proofs.Common.{◌≡◌, ℕ, zero, suc, ◌+◌, ◌<◌, Bool, true, false, ◌&&◌, if◌then◌else◌, IsTrue, not, Option, None, Some, List, [], ◌∷◌, ◌++◌, length, refl, ap, sym, ◌∙◌, subst, arith, cond, get_or, remove}
-use Rattle.std.specs.Prelude.{option_map, slice_set}
+use Rattle.std.proofs.Common.{◌≡◌, ℕ, zero, suc, ◌<◌, ◌&&◌, IsTrue, not, None, Some, List, [], ◌∷◌, ◌++◌, length, refl, ap, arith, get_or, remove}
+use Rattle.std.specs.Prelude.{slice_set}
 use Rattle.std.proofs.lemmas.Grind.{common_steps}
 use Rattle.pp_values.specs.declared.value.Value.{Value}
 use Rattle.pp_values.specs.Datum.{Datum, Pair}
@@ -63,13 +63,13 @@ lacks-append j k v [] = grind arith
 lacks-append j k v (p ∷ ps) = grind (arith, lacks-append j k v ps)
 
 pub are_distinct-append : (k v : Datum) (ps : List Pair) → IsTrue (is_key k) → place_of k ps ≡ None → IsTrue (are_distinct ps) →
-  IsTrue (are_distinct (ps ++ (k, v) ∷ []))
+    IsTrue (are_distinct (ps ++ (k, v) ∷ []))
 are_distinct-append k v [] key e h = grind arith
 are_distinct-append k v (p ∷ ps) key e h = grind (arith, common_steps, are_distinct-append k v ps, lacks-append p.0 k v ps)
 
 -- what the edits of the code's own list are
 pub pair_views-set : (items : List (Value × Value)) (n : ℕ) (v : Value) (d : Value × Value) → n < length items →
-  pair_views (slice_set items n ((get_or items n d).0, v)) ≡ with_value (view v) n (pair_views items)
+    pair_views (slice_set items n ((get_or items n d).0, v)) ≡ with_value (view v) n (pair_views items)
 pair_views-set [] n v d h = absurd (omega (arith, h))
 pair_views-set (x ∷ xs) zero v d h = refl
 pair_views-set (x ∷ xs) (suc n) v d h = let h' : n < length xs = omega (arith, h) in ap (λ ps. pair_view x ∷ ps) (pair_views-set xs n v d h')
@@ -80,7 +80,7 @@ pair_views-remove (x ∷ xs) zero h = refl
 pair_views-remove (x ∷ xs) (suc n) h = let h' : n < length xs = omega (arith, h) in ap (λ ps. pair_view x ∷ ps) (pair_views-remove xs n h')
 
 pub value_of_place-get : (items : List (Value × Value)) (n : ℕ) (d : Value × Value) → n < length items →
-  value_of_place n (pair_views items) ≡ Some (view (get_or items n d).1)
+    value_of_place n (pair_views items) ≡ Some (view (get_or items n d).1)
 value_of_place-get [] n d h = absurd (omega (arith, h))
 value_of_place-get (x ∷ xs) zero d h = refl
 value_of_place-get (x ∷ xs) (suc n) d h = let h' : n < length xs = omega (arith, h) in value_of_place-get xs n d h'

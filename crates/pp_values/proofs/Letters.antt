@@ -1,8 +1,7 @@
 -- Quotes, backslashes and capitals are told by single bytes, since the bytes of other characters are 128 and above.
-use Rattle.std.proofs.Common.{◌≡◌, ℕ, ◌+◌, ◌<◌, ◌≤◌, ◌==◌, Bool, true, false, cond, if◌then◌else◌, List, [], ◌∷◌, ◌++◌, length, refl, ap, sym, ◌∙◌, arith, nat_lt, ◌⊎◌, inl, inr}
+use Rattle.std.proofs.Common.{◌≡◌, ℕ, ◌<◌, ◌≤◌, ◌==◌, Bool, true, false, cond, if◌then◌else◌, List, [], ◌∷◌, ◌++◌, length, refl, ap, arith, nat_lt, ◌⊎◌, inl, inr}
 use Rattle.std.specs.Char.{to_ascii_uppercase, encode_utf8}
 use Rattle.std.proofs.lemmas.Str.{encode_ascii, length-encode, len_utf8_bounds}
-use Rattle.std.proofs.lemmas.Grind.{common_steps}
 use Rattle.pp_values.specs.Words.{is_quote_or_backslash, escaped, capitalised_after}
 
 -- each byte is 128 or above
@@ -57,12 +56,12 @@ capital_high : (last b : ℕ) → 128 ≤ b → (if last == 58 then to_ascii_upp
 capital_high last b h = grind (arith, upper_high b h)
 
 capitals_high : (last b : ℕ) (bs rest : List ℕ) (c : ℕ) → AreHigh (b ∷ bs) → 128 ≤ c →
-  capitalised_after last ((b ∷ bs) ++ rest) ≡ (b ∷ bs) ++ capitalised_after c rest
+    capitalised_after last ((b ∷ bs) ++ rest) ≡ (b ∷ bs) ++ capitalised_after c rest
 capitals_high last b [] rest c h k = rw (capital_high last b h.0) (ap (λ xs. b ∷ xs) (capital_same b c rest (grind (arith, h.0))))
 capitals_high last b (d ∷ bs) rest c h k = rw (capital_high last b h.0) (ap (λ xs. b ∷ xs) (capitals_high b d bs rest c h.1 k))
 
 capitals_high-all : (last : ℕ) (bs rest : List ℕ) (c : ℕ) → AreHigh bs → 0 < length bs → 128 ≤ c →
-  capitalised_after last (bs ++ rest) ≡ bs ++ capitalised_after c rest
+    capitalised_after last (bs ++ rest) ≡ bs ++ capitalised_after c rest
 capitals_high-all last [] rest c h some k = absurd (omega (arith, some))
 capitals_high-all last (b ∷ bs) rest c h some k = capitals_high last b bs rest c h k
 
@@ -71,7 +70,8 @@ capital_low last c h = grind arith
 
 -- one character, and then the rest
 pub capitalised_after-letter : (last c : ℕ) (rest : List ℕ) →
-  capitalised_after last (encode_utf8 c ++ rest) ≡ encode_utf8 (if last == 58 then to_ascii_uppercase c else c) ++ capitalised_after c rest
+    capitalised_after last (encode_utf8 c ++ rest) ≡ encode_utf8 (if last == 58 then to_ascii_uppercase c else c) ++ capitalised_after c rest
 capitalised_after-letter last c rest = elim (ascii_or_high c) [
-  inl low ↦ rw (encode_ascii c low, encode_ascii _ (capital_low last c low)) refl
-  | inr high ↦ rw (capital_high last c high) (capitals_high-all last _ rest c (encode_high c high) (omega (arith, length-encode c, (len_utf8_bounds c).0)) high) ]
+  | inl low ↦ rw (encode_ascii c low, encode_ascii _ (capital_low last c low)) refl
+  | inr high ↦ rw (capital_high last c high) (capitals_high-all last _ rest c (encode_high c high) (omega (arith, length-encode c, (len_utf8_bounds c).0)) high)
+]

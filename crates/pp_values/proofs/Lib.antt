@@ -1,4 +1,5 @@
 pub mod Distinct
+mod Examples
 pub mod Inner
 pub mod Letters
 pub mod Lists

@@ -1,5 +1,5 @@
 -- Lists of members and of pairs, as data and as lists.
-use Rattle.std.proofs.Common.{◌≡◌, ℕ, ◌+◌, List, [], ◌∷◌, length, refl, ap, arith}
+use Rattle.std.proofs.Common.{◌≡◌, List, [], ◌∷◌, length, refl, ap, arith}
 use Rattle.std.specs.Cmp.Lexicographic.{pointwise}
 use Rattle.pp_values.specs.Datum.{Datum, Data, Pair, Entries, data_of, members_of, entries_of, pairs_of, no_data, datum, no_entries, entry}
 use Rattle.pp_values.specs.Equal.{equal, members_equal, entry_count}

@@ -1,5 +1,5 @@
 -- Lists of arguments are the same where they are so member by member.
-use Rattle.std.proofs.Common.{◌≡◌, List, ℕ, [], ◌∷◌, refl, arith}
+use Rattle.std.proofs.Common.{◌≡◌, List, ℕ, [], ◌∷◌, refl}
 use Rattle.std.specs.Str.{bytes_eq}
 use Rattle.std.specs.Cmp.Lexicographic.{pointwise}
 use Rattle.pp_values.specs.Sort.{Sort, same_type, same_arguments, types_arguments, texts_arguments}

@@ -25,9 +25,11 @@ abbrev mutual
   datum_code (reference r) = gcons (gnum 6) (coded_reference.code r)
   datum_code (kind s) = gcons (gnum 7) (coded_sort.code s)
   datum_code default = gcons (gnum 8) gnil
+
   pub data_code : Data → Gv
   data_code no_data = gcons (gnum 0) gnil
   data_code (datum d ds) = gcons (gnum 1) (gcons (datum_code d) (data_code ds))
+
   pub entries_code : Entries → Gv
   entries_code no_entries = gcons (gnum 0) gnil
   entries_code (entry k v es) = gcons (gnum 1) (gcons (datum_code k) (gcons (datum_code v) (entries_code es)))
@@ -44,14 +46,16 @@ mutual
   datum_inj (kind a) (kind b) p = λ i. kind (coded_sort.inj a b (ap tail p) i)
   datum_inj default default p = refl
   datum_inj x y p = absurd (subst (Tagged (tag (datum_code x))) p tt)
+
   pub data_inj : (x y : Data) → data_code x ≡ data_code y → x ≡ y
   data_inj no_data no_data p = refl
   data_inj (datum a xs) (datum b ys) p = λ i. datum (datum_inj a b (ap (λ g. head (tail g)) p) i) (data_inj xs ys (ap (λ g. tail (tail g)) p) i)
   data_inj x y p = absurd (subst (Tagged (tag (data_code x))) p tt)
+
   pub entries_inj : (x y : Entries) → entries_code x ≡ entries_code y → x ≡ y
   entries_inj no_entries no_entries p = refl
   entries_inj (entry k v es) (entry l w fs) p =
-    λ i. entry (datum_inj k l (ap (λ g. head (tail g)) p) i) (datum_inj v w (ap (λ g. head (tail (tail g))) p) i)
+      λ i. entry (datum_inj k l (ap (λ g. head (tail g)) p) i) (datum_inj v w (ap (λ g. head (tail (tail g))) p) i)
       (entries_inj es fs (ap (λ g. tail (tail (tail g))) p) i)
   entries_inj x y p = absurd (subst (Tagged (tag (entries_code x))) p tt)
 

@@ -1,5 +1,5 @@
 -- What a value says: the nine kinds of value, with lists and hashes of such values.
-use Rattle.std.specs.Prelude.{ℕ, ◌+◌, Bool, List, [], ◌∷◌, ℤ}
+use Rattle.std.specs.Prelude.{ℕ, Bool, List, [], ◌∷◌, ℤ}
 use Rattle.pp_values.specs.declared.reference.Reference.{Reference}
 use Rattle.pp_values.specs.Sort.{Sort}
 
@@ -14,9 +14,11 @@ mutual
     reference : Reference → Datum
     kind : Sort → Datum
     default : Datum
+
   pub data Data : Type 0 where
     no_data : Data
     datum : Datum → Data → Data
+
   pub data Entries : Type 0 where
     no_entries : Entries
     entry : Datum → Datum → Entries → Entries

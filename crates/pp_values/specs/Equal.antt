@@ -31,6 +31,7 @@ abbrev mutual
   equal (kind a) (kind b) = same_type a b
   equal default default = true
   equal a b = false
+
   pub members_equal : Data → Data → Bool
   members_equal no_data no_data = true
   members_equal (datum a ds) (datum b es) = equal a b && members_equal ds es

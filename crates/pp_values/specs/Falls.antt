@@ -1,5 +1,5 @@
 -- Each value within a value, and each value of a list, is smaller than the whole.
-use Rattle.std.specs.Prelude.{ℕ, ◌+◌, ◌≤◌, ◌≡◌, List, [], ◌∷◌, max, refl}
+use Rattle.std.specs.Prelude.{◌≤◌, ◌≡◌, List, [], ◌∷◌, max, refl}
 use Rattle.std.proofs.Common.{arith}
 use denote.Param.Weighed.{most}
 use Rattle.pp_values.specs.declared.value.Value.{Value}
@@ -8,7 +8,6 @@ use Rattle.pp_values.specs.declared.pairs.Pairs.TheDeep.{deep-Value}
 use Rattle.pp_values.specs.declared.pairs.Pairs.TheShapes.{weighed-Pairs-items-at-2}
 use Rattle.pp_values.specs.Datum.{Datum, Pair, data_of, entries_of}
 use Rattle.pp_values.specs.Sizes.{datum_size, inner_size, entries_size, data_size, pairs_size}
-use Rattle.pp_values.specs.SortFalls.{deep_le-sort_size}
 use Rattle.pp_values.specs.Views.{view, views, pair_views}
 
 pub inner_size-data_of : (ds : List Datum) → inner_size (data_of ds) ≡ data_size ds
@@ -35,6 +34,6 @@ values_fall [] = omega arith
 values_fall (x ∷ xs) = omega (arith, deep_le-datum_size x, values_fall xs)
 
 pub pairs_fall : (ps : List (Value × Value)) →
-  max (most (λ p. weighed-Pairs-items-at-2.weight Value deep-Value p) ps) 0 ≤ pairs_size (pair_views ps)
+    max (most (λ p. weighed-Pairs-items-at-2.weight Value deep-Value p) ps) 0 ≤ pairs_size (pair_views ps)
 pairs_fall [] = omega arith
 pairs_fall (p ∷ ps) = omega (arith, deep_le-datum_size p.0, deep_le-datum_size p.1, pairs_fall ps)

@@ -1,7 +1,7 @@
 -- A size by which a recursion over a value ends: each member, key and value is smaller than the whole.
 use Rattle.std.specs.Prelude.{ℕ, ◌+◌, List, [], ◌∷◌}
 use Rattle.pp_values.specs.Sort.{sort_size}
-use Rattle.pp_values.specs.Datum.{Datum, undef, flag, int, text, list, hash, reference, kind, default, Data, no_data, datum, Entries, no_entries, entry, Pair}
+use Rattle.pp_values.specs.Datum.{Datum, list, hash, kind, Data, no_data, datum, Entries, no_entries, entry, Pair}
 
 abbrev mutual
   pub datum_size : Datum → ℕ
@@ -9,9 +9,11 @@ abbrev mutual
   datum_size (hash es) = entries_size es + 1
   datum_size (kind s) = sort_size s + 1
   datum_size d = 0
+
   pub inner_size : Data → ℕ
   inner_size no_data = 0
   inner_size (datum d ds) = datum_size d + inner_size ds + 1
+
   pub entries_size : Entries → ℕ
   entries_size no_entries = 0
   entries_size (entry k v es) = datum_size k + datum_size v + entries_size es + 1

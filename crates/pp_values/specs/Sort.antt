@@ -1,5 +1,5 @@
 -- A data type as it was written: its name and its arguments, each as given.
-use Rattle.std.specs.Prelude.{ℕ, ◌+◌, ◌==◌, Bool, true, false, ◌&&◌, List, [], ◌∷◌, ℤ}
+use Rattle.std.specs.Prelude.{ℕ, ◌+◌, ◌==◌, Bool, true, false, ◌&&◌, List, [], ◌∷◌}
 use Rattle.std.specs.Ordering.{int_eq}
 use Rattle.std.specs.Str.{bytes_eq}
 use Rattle.pp_values.specs.declared.bounds.Bound.{Bound}
@@ -34,6 +34,7 @@ pub data Name : Type 0 where
 mutual
   pub data Sort : Type 0 where
     of : Name → Arguments → Sort
+
   pub data Arguments : Type 0 where
     none : Arguments
     kind : Sort → Arguments → Arguments
@@ -90,6 +91,7 @@ same_bound a b = false
 abbrev mutual
   pub same_type : Sort → Sort → Bool
   same_type (of m xs) (of n ys) = same_name m n && same_arguments xs ys
+
   pub same_arguments : Arguments → Arguments → Bool
   same_arguments none none = true
   same_arguments (kind s xs) (kind t ys) = same_type s t && same_arguments xs ys
@@ -101,6 +103,7 @@ abbrev mutual
 abbrev mutual
   pub sort_size : Sort → ℕ
   sort_size (of n xs) = arguments_size xs + 1
+
   pub arguments_size : Arguments → ℕ
   arguments_size none = 0
   arguments_size (kind s xs) = sort_size s + arguments_size xs + 1

@@ -85,6 +85,7 @@ coded_bound = code_by (Option ℤ) (coded_option coded_ℤ) bound_parts bound_fr
 abbrev mutual
   pub sort_code : Sort → Gv
   sort_code (of n xs) = gcons (coded_name.code n) (arguments_code xs)
+
   pub arguments_code : Arguments → Gv
   arguments_code none = gcons (gnum 0) gnil
   arguments_code (kind s xs) = gcons (gnum 1) (gcons (sort_code s) (arguments_code xs))
@@ -94,6 +95,7 @@ abbrev mutual
 mutual
   pub sort_inj : (x y : Sort) → sort_code x ≡ sort_code y → x ≡ y
   sort_inj (of m xs) (of n ys) p = λ i. of (coded_name.inj m n (ap head p) i) (arguments_inj xs ys (ap tail p) i)
+
   pub arguments_inj : (x y : Arguments) → arguments_code x ≡ arguments_code y → x ≡ y
   arguments_inj none none p = refl
   arguments_inj (kind s xs) (kind t ys) p = λ i. kind (sort_inj s t (ap (λ g. head (tail g)) p) i) (arguments_inj xs ys (ap (λ g. tail (tail g)) p) i)

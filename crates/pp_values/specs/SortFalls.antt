@@ -1,11 +1,10 @@
 -- Each type within a type, and each type of a list, is smaller than the whole.
-use Rattle.std.specs.Prelude.{ℕ, ◌+◌, ◌≤◌, ◌≡◌, List, [], ◌∷◌, Option, None, Some, max, refl}
+use Rattle.std.specs.Prelude.{◌+◌, ◌≤◌, ◌≡◌, List, [], ◌∷◌, Option, None, Some, max, refl}
 use Rattle.std.proofs.Common.{arith}
 use denote.Param.Weighed.{most}
 use Rattle.pp_values.specs.declared.ptype.PType.{PType}
 use Rattle.pp_values.specs.declared.ptype.PType.TheVariants as v
 use Rattle.pp_values.specs.declared.ptype.TypeBox.TheDeep.{deep-PType, deep-EntryType}
-use Rattle.pp_values.specs.declared.ptype.EntryType.{EntryType}
 use Rattle.pp_values.specs.declared.ptype.MemberType.{MemberType}
 use Rattle.pp_values.specs.Sort.{Sort, sort_size, sorts_size, arguments_size, types_arguments}
 use Rattle.pp_values.specs.PTypes.{sort, sorts, member_arguments}
@@ -15,7 +14,7 @@ arguments_size-types_arguments [] = refl
 arguments_size-types_arguments (t ∷ ts) = omega (arith, arguments_size-types_arguments ts)
 
 pub deep_le-entry_arguments : (key : Sort) (value : Option MemberType)
-  → deep-EntryType (record { key = key; value = value }) ≤ sort_size key + arguments_size (member_arguments value) + 2
+    → deep-EntryType (record { key = key; value = value }) ≤ sort_size key + arguments_size (member_arguments value) + 2
 deep_le-entry_arguments key None = omega arith
 deep_le-entry_arguments key (Some m) = omega arith
 

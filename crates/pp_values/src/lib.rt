@@ -6,6 +6,7 @@ pub mod copying;
 pub mod equality;
 pub mod fact_pairs;
 pub mod fault;
+pub mod fault_copying;
 pub mod interpolating;
 pub mod keys;
 pub mod memory;
@@ -17,6 +18,8 @@ pub mod printing;
 pub mod ptype;
 pub mod reference;
 pub mod refs;
+#[cfg(test)]
+mod tests;
 pub mod text;
 pub mod text_pairs;
 pub mod texts;

@@ -15,7 +15,10 @@ pub fn order(a: &Value, b: &Value) -> Option<Ordering>
 {
     match (a, b) {
         (Value::Int(a), Value::Int(b)) => Some(a.cmp(b)),
-        (Value::Text(a), Value::Text(b)) => Some(compare_folded(a.as_str().as_bytes(), b.as_str().as_bytes())),
+        (Value::Text(a), Value::Text(b)) => Some(compare_folded(
+            a.as_str().as_bytes(),
+            b.as_str().as_bytes(),
+        )),
         _ => None,
     }
 }

@@ -130,7 +130,8 @@ fn same_members(a: &Option<MemberType>, b: &Option<MemberType>) -> bool
 {
     match (a, b) {
         (None, None) => true,
-        (Some(a), Some(b)) => same_type(a.of.as_type(), b.of.as_type()) && same_bounds(&a.count, &b.count),
+        (Some(a), Some(b)) => same_type(a.of.as_type(), b.of.as_type())
+            && same_bounds(&a.count, &b.count),
         _ => false,
     }
 }
@@ -141,7 +142,8 @@ fn same_entries(a: &Option<EntryType>, b: &Option<EntryType>) -> bool
 {
     match (a, b) {
         (None, None) => true,
-        (Some(a), Some(b)) => same_type(a.key.as_type(), b.key.as_type()) && same_members(&a.value, &b.value),
+        (Some(a), Some(b)) => same_type(a.key.as_type(), b.key.as_type())
+            && same_members(&a.value, &b.value),
         _ => false,
     }
 }

@@ -27,14 +27,14 @@ equal-is_within-requires t c =
 pub equal-returns-in-List-List : goal.equal-returns-in-List-List
 equal-returns-in-List-List t c =
     rw (c.in-List-List.is-0, c.in-List-List.is-1, members_equal-data_of c.in-List-List.a c.in-List-List.b, ← c.as_slice.ensures, ← c.as_slice-in-List-List.ensures)
-      c.equal_items.ensures
+    c.equal_items.ensures
 
 pub equal-returns-then-len : goal.equal-returns-then-len
 equal-returns-then-len t c =
     rw (c.in-Hash-Hash.is-0, c.in-Hash-Hash.is-1, entry_count-entries_of c.in-Hash-Hash.a, entry_count-entries_of c.in-Hash-Hash.b, pairs_of-entries_of c.in-Hash-Hash.b)
-      (grind (arith, common_steps))
+    (grind (arith, common_steps))
 
 pub equal-returns-else-len : goal.equal-returns-else-len
 equal-returns-else-len t c =
     rw (c.in-Hash-Hash.is-0, c.in-Hash-Hash.is-1, entry_count-entries_of c.in-Hash-Hash.a, entry_count-entries_of c.in-Hash-Hash.b)
-      (grind (arith, common_steps))
+    (grind (arith, common_steps))

@@ -18,12 +18,12 @@ same_type-same_types-requires-in-Tuple-b t c =
 pub same_type-returns-in-Variant-b : goal.same_type-returns-in-Variant-b
 same_type-returns-in-Variant-b t c =
     rw (c.in-Variant.is, c.in-Variant-b.is, same_arguments-types_arguments c.in-Variant.a c.in-Variant-b.b, ← c.as_slice.ensures, ← c.as_slice-in-Variant-b.ensures)
-      c.same_types.ensures
+    c.same_types.ensures
 
 pub same_type-returns-in-Tuple-b : goal.same_type-returns-in-Tuple-b
 same_type-returns-in-Tuple-b t c =
     rw (c.in-Tuple.is, c.in-Tuple-b.is, same_arguments-types_arguments c.in-Tuple.a c.in-Tuple-b.b, ← c.as_slice-in-Tuple-b.ensures, ← c.as_slice-in-Tuple-b-2.ensures)
-      c.same_types-in-Tuple-b.ensures
+    c.same_types-in-Tuple-b.ensures
 
 pub same_types-same_type-requires : goal.same_types-same_type-requires
 same_types-same_type-requires t c =

@@ -1,5 +1,5 @@
 -- The measures: the size of what is printed. The loop: what was written, and what the types from the index on add, is what all of them add.
-use Rattle.std.proofs.Common.{◌≡◌, ◌+◌, ◌++◌, drop, string_bytes}
+use Rattle.std.proofs.Common.{◌≡◌, ◌++◌, drop, string_bytes}
 use Rattle.pp_values.specs.Sort.{sort_size, sorts_size, arguments_size, types_arguments}
 use Rattle.pp_values.specs.SortText.{more_text}
 use Rattle.pp_values.specs.PTypes.{sort, sorts, type_argument, member_arguments, entry_arguments}

@@ -1,5 +1,7 @@
 pub mod Complete
+mod Examples
 pub mod Faults
+pub mod FileLaws
 pub mod LexLemmas
 pub mod Parts
 pub mod QuotedLemmas

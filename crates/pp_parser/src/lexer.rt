@@ -183,7 +183,9 @@ fn begins_path(bytes: &[u8]) -> bool
     ensures { result ≡ spec.begins_path bytes.now }
 {
     let third = byte(bytes, 2);
-    byte(bytes, 0) == b':' && byte(bytes, 1) == b':' && (third.is_ascii_alphabetic() || third == b'_')
+    byte(bytes, 0) == b':'
+        && byte(bytes, 1) == b':'
+        && (third.is_ascii_alphabetic() || third == b'_')
 }
 
 #[tactic(auto, unfolding(crate::specs::Tokens::mark))]
@@ -247,7 +249,12 @@ fn said(kind: Kind, spelling: &str) -> &str
     }
 }
 
-fn emit<'a>(found: &mut Vec<Token<'a>>, kind: Option<Kind>, spelling: &'a str, line: u32) -> Result<(), AllocError>
+fn emit<'a>(
+    found: &mut Vec<Token<'a>>,
+    kind: Option<Kind>,
+    spelling: &'a str,
+    line: u32,
+) -> Result<(), AllocError>
     requires { kind ≡ Some Kind.Quoted → IsBetweenQuotes spelling.now (length spelling.now) }
     ensures { OnOk result (found.new.items ≡ found.old.items ++ spec.emitted line kind spelling.now) }
 {

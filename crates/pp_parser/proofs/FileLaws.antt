@@ -4,12 +4,13 @@ use Rattle.pp_values.specs.declared.fault.Fault.{Fault}
 use Rattle.pp_parser.specs.declared.refusal.Spot.{Spot}
 use Rattle.pp_parser.specs.declared.tree.File.{File}
 use Rattle.pp_parser.specs.declared.tree.Notify.{Notify}
-use Rattle.pp_parser.specs.Grammar.{Reads}
+use Rattle.pp_parser.specs.Grammar.{Reads, FaultsAt}
 use Rattle.pp_parser.specs.Laws.{IsTree, IsSyntaxFault}
 use Rattle.pp_parser.specs.Manifest.{statements_of, line_of, syntax_fault, file_or_fault, file_of}
 use Rattle.pp_parser.specs.Tokens.{Lexeme, tokens, end_line}
 use Rattle.pp_parser.proofs.Complete.{statements_read}
 use Rattle.pp_parser.proofs.Faults.{statements_in_grammar, faults}
+use Rattle.pp_parser.proofs.Lines.{no_fault, same_line}
 
 module _ (path text : List ℕ) where
   tree_by : (o : Result (List Notify) Spot) (f : File) → statements_of path text ≡ o → file_or_fault path (end_line text) o ≡ Ok f → IsTree path text f
@@ -42,6 +43,17 @@ module _ (path text : List ℕ) where
   pub is_syntax_fault : (fault : Fault) → file_of path text ≡ Err fault → IsSyntaxFault path text fault
   unfolding file_of
   is_syntax_fault fault refused = fault_by (statements_of path text) fault refl refused
+
+module _ (path text : List ℕ) where
+  line_by : (o : Result File Fault) (line : ℕ) → file_of path text ≡ o → FaultsAt path (end_line text) [] (tokens text) line → o ≡ Err (syntax_fault path line)
+  line_by (Ok f) line is stands = absurd (no_fault path (end_line text) line [] (tokens text) f.statements stands (is_tree path text f is))
+  line_by (Err fault) line is stands =
+      let found = is_syntax_fault path text fault is in
+      ap (λ e. Err e) (found.is ∙ ap (syntax_fault path) (same_line path (end_line text) found.line line [] (tokens text) found.stands stands))
+
+  -- where the text leaves the grammar, that is its fault
+  pub has_syntax_fault : (fault : Fault) → IsSyntaxFault path text fault → file_of path text ≡ Err fault
+  has_syntax_fault fault found = line_by (file_of path text) found.line refl found.stands ∙ ap (λ e. Err e) (sym found.is)
 
 -- tokens have one tree at most
 pub same_statements : (path : List ℕ) (ts : List Lexeme) (ns ms : List Notify) → Reads path ts ns → Reads path ts ms → ns ≡ ms

@@ -3,6 +3,7 @@ mod Examples
 pub mod Faults
 pub mod FileLaws
 pub mod LexLemmas
+pub mod Lines
 pub mod Parts
 pub mod QuotedLemmas
 pub mod Reading

@@ -55,7 +55,8 @@ fn line_end(bytes: &[u8], from: usize) -> usize
 fn comment_end(bytes: &[u8], from: usize) -> Option<usize>
     requires { from ≤ length bytes.now }
     ensures value { result ≡ spec.comment_end from (drop from bytes.now) }
-    ensures within { IfSome result (λ end. (from < end) × (end ≤ length bytes.now) × (slice_index bytes.now (end - 1) < 128)) }
+    ensures within { IfSome result (λ end. (from < end) × (end ≤ length bytes.now)) }
+    ensures ends { IfSome result (λ end. slice_index bytes.now (end - 1) < 128) }
 {
     for at in from..bytes.len() {
         if bytes[at] == b'*' && byte(bytes, at + 1) == b'/' {
@@ -77,7 +78,8 @@ fn is_escape_at(bytes: &[u8], at: usize) -> bool
 fn quoted_end(bytes: &[u8], from: usize) -> Option<usize>
     requires { from ≤ length bytes.now }
     ensures value { result ≡ spec.quoted_end false from (drop from bytes.now) }
-    ensures within { IfSome result (λ end. (from < end) × (end ≤ length bytes.now) × (slice_index bytes.now (end - 1) ≡ 39)) }
+    ensures within { IfSome result (λ end. (from < end) × (end ≤ length bytes.now)) }
+    ensures ends { IfSome result (λ end. slice_index bytes.now (end - 1) ≡ 39) }
 {
     let mut is_taken = false;
     for at in from..bytes.len() {

@@ -4,7 +4,6 @@
 pub mod catalog_texts;
 pub mod compiling;
 pub mod fault_texts;
-pub mod value_forms;
-
 #[cfg(test)]
 mod tests;
+pub mod value_forms;

@@ -1,6 +1,7 @@
 use crate::catalog_texts::catalog_text;
 use crate::compiling::compile;
 use crate::fault_texts::fault_text;
+use crate::value_forms::value_form;
 use pp_values::fault::{Fault, Stop, Subject, What};
 use pp_values::memory::Memory;
 use pp_values::pairs::Pairs;
@@ -11,6 +12,7 @@ use pp_values::text::Text;
 use pp_values::value::Value;
 use pp_values::values::Values;
 use std::alloc::Global;
+use std::process::Abort;
 use std::test::Fail;
 
 // A node's catalog, or the fault, as a text.
@@ -99,88 +101,129 @@ fn thousands_of_resources(rt: HostRuntime) -> Result<(), Fail> {
     assert_eq!(rt; count_resources(rt.alloc(), manifest.as_str())?, 5001);
     let manifest = long_manifest(rt.alloc(), 5000, true)?;
     let text = outcome(rt.alloc(), "n1", manifest.as_str())?;
-    assert_eq!(rt; text.as_str(), "F14 manifests/site.pp:5001 Duplicate Notify[title 0] manifests/site.pp:1");
+    assert_eq!(rt;
+        text.as_str(),
+        "F14 manifests/site.pp:5001 Duplicate Notify[title 0] manifests/site.pp:1"
+    );
     Ok(())
 }
 
+fn text(alloc: Global, text: &str) -> Result<Text, Memory> {
+    Text::from_str(alloc, text)
+}
+
 fn reference(alloc: Global, kind: &str, title: &str) -> Result<Reference, Memory> {
-    let kind = Text::from_str(alloc, kind)?;
-    let title = Text::from_str(alloc, title)?;
+    let kind = text(alloc, kind)?;
+    let title = text(alloc, title)?;
     Ok(Reference { kind, title })
 }
 
 fn line(alloc: Global, what: What) -> Result<Text, Memory> {
-    let file = Text::from_str(alloc, "m.pp")?;
-    let fault = Fault {
-        at: Place { file, line: 7 },
-        what,
-    };
-    fault_text(alloc, &fault)
+    let file = text(alloc, "m.pp")?;
+    let at = Place { file, line: 7 };
+    fault_text(alloc, &Fault { at, what })
+}
+
+fn failed(alloc: Global, message: &str) -> Result<Text, Memory> {
+    line(alloc, What::Failed(text(alloc, message)?))
+}
+
+fn default_set(alloc: Global) -> Result<Text, Memory> {
+    let subject = Subject::Kind(text(alloc, "web::vhost")?);
+    let name = text(alloc, "mode")?;
+    line(alloc, What::AlreadySet { subject, name })
+}
+
+fn class_virtual(alloc: Global) -> Result<Text, Memory> {
+    line(
+        alloc,
+        What::ClassVirtual(Subject::Kind(text(alloc, "class")?)),
+    )
+}
+
+fn same_namevar(alloc: Global) -> Result<Text, Memory> {
+    let later = reference(alloc, "user", "b")?;
+    let earlier = reference(alloc, "user", "a")?;
+    line(alloc, What::SameNamevar { later, earlier })
+}
+
+fn cycle(alloc: Global) -> Result<Text, Memory> {
+    let mut references = Refs::new(alloc);
+    references.push(reference(alloc, "file", "/a")?)?;
+    references.push(reference(alloc, "notify", "f")?)?;
+    line(alloc, What::Cycle(references))
+}
+
+fn says(rt: &impl Abort, made: Result<Text, Memory>, want: &str) -> Result<(), Memory> {
+    let made = made?;
+    assert_eq!(rt; made.as_str(), want);
+    Ok(())
 }
 
 #[test]
 fn lines_of_faults(rt: HostRuntime) -> Result<(), Fail> {
     let alloc = rt.alloc();
-    let what = What::AlreadySet {
-        subject: Subject::Kind(Text::from_str(alloc, "web::vhost")?),
-        name: Text::from_str(alloc, "mode")?,
-    };
-    assert_eq!(rt; line(alloc, what)?.as_str(), "F15 m.pp:7 AlreadySet Web::Vhost mode");
-    let what = What::Failed(Text::from_str(alloc, "a\nb\n")?);
-    assert_eq!(rt; line(alloc, what)?.as_str(), "F25 m.pp:7 Failed a b ");
-    let what = What::Failed(Text::from_str(alloc, "")?);
-    assert_eq!(rt; line(alloc, what)?.as_str(), "F25 m.pp:7 Failed");
-    let what = What::ClassVirtual(Subject::Kind(Text::from_str(alloc, "class")?));
-    assert_eq!(rt; line(alloc, what)?.as_str(), "F26 m.pp:7 ClassVirtual Class");
-    Ok(())
-}
-
-#[test]
-fn line_of_a_cycle(rt: HostRuntime) -> Result<(), Fail> {
-    let alloc = rt.alloc();
-    let mut references = Refs::new(alloc);
-    references.push(reference(alloc, "file", "/a")?)?;
-    references.push(reference(alloc, "notify", "f")?)?;
-    let text = line(alloc, What::Cycle(references))?;
-    assert_eq!(rt; text.as_str(), "F18 m.pp:7 Cycle File[/a] -> Notify[f] -> File[/a]");
-    let what = What::SameNamevar {
-        later: reference(alloc, "user", "b")?,
-        earlier: reference(alloc, "user", "a")?,
-    };
-    assert_eq!(rt; line(alloc, what)?.as_str(), "F30 m.pp:7 SameNamevar User[b] User[a]");
+    says(&rt, failed(alloc, "a\nb\n"), "F25 m.pp:7 Failed a b ")?;
+    says(&rt, failed(alloc, ""), "F25 m.pp:7 Failed")?;
+    says(
+        &rt,
+        default_set(alloc),
+        "F15 m.pp:7 AlreadySet Web::Vhost mode",
+    )?;
+    says(&rt, class_virtual(alloc), "F26 m.pp:7 ClassVirtual Class")?;
+    says(
+        &rt,
+        same_namevar(alloc),
+        "F30 m.pp:7 SameNamevar User[b] User[a]",
+    )?;
+    says(
+        &rt,
+        cycle(alloc),
+        "F18 m.pp:7 Cycle File[/a] -> Notify[f] -> File[/a]",
+    )?;
     Ok(())
 }
 
 // The form of a value, as a text.
 fn form_text(alloc: Global, value: Value) -> Result<Text, Memory> {
-    let form = crate::value_forms::value_form(alloc, &value)?;
+    let form = value_form(alloc, &value)?;
     Ok(Text::new(form.to_string(alloc)?))
 }
 
-fn hash(alloc: Global, first: &str, second: &str) -> Result<Value, Memory> {
+fn hash(alloc: Global, first: &str, second: &str) -> Result<Text, Memory> {
     let mut pairs = Pairs::new(alloc);
-    pairs.put(Value::Text(Text::from_str(alloc, first)?), Value::Int(1))?;
-    pairs.put(Value::Text(Text::from_str(alloc, second)?), Value::Int(-2))?;
-    Ok(Value::Hash(pairs))
+    pairs.put(Value::Text(text(alloc, first)?), Value::Int(1))?;
+    pairs.put(Value::Text(text(alloc, second)?), Value::Int(-2))?;
+    form_text(alloc, Value::Hash(pairs))
+}
+
+fn list(alloc: Global) -> Result<Text, Memory> {
+    let mut items = Values::new(alloc);
+    items.push(Value::Undef)?;
+    items.push(Value::Flag(true))?;
+    form_text(alloc, Value::List(items))
 }
 
 #[test]
 fn forms_of_values(rt: HostRuntime) -> Result<(), Fail> {
     let alloc = rt.alloc();
-    for (first, second, want) in [
-        ("a", "b", "{\"a\":1,\"b\":-2}"),
-        ("b", "a", "{\"__ptype\":\"Hash\",\"__pvalue\":[\"b\",1,\"a\",-2]}"),
-        ("a", "__p", "{\"__ptype\":\"Hash\",\"__pvalue\":[\"a\",1,\"__p\",-2]}"),
-    ] {
-        let text = form_text(alloc, hash(alloc, first, second)?)?;
-        assert_eq!(rt; text.as_str(), want);
-    }
-    let mut items = Values::new(alloc);
-    items.push(Value::Undef)?;
-    items.push(Value::Flag(true))?;
-    let text = form_text(alloc, Value::List(items))?;
-    assert_eq!(rt; text.as_str(), "[null,true]");
-    let text = form_text(alloc, Value::Ref(reference(alloc, "web::vhost", "A")?))?;
-    assert_eq!(rt; text.as_str(), "{\"__ptype\":\"Ref\",\"kind\":\"web::vhost\",\"title\":\"A\"}");
+    says(&rt, hash(alloc, "a", "b"), "{\"a\":1,\"b\":-2}")?;
+    says(
+        &rt,
+        hash(alloc, "b", "a"),
+        "{\"__ptype\":\"Hash\",\"__pvalue\":[\"b\",1,\"a\",-2]}",
+    )?;
+    says(
+        &rt,
+        hash(alloc, "a", "__p"),
+        "{\"__ptype\":\"Hash\",\"__pvalue\":[\"a\",1,\"__p\",-2]}",
+    )?;
+    says(&rt, list(alloc), "[null,true]")?;
+    let reference = reference(alloc, "web::vhost", "A")?;
+    says(
+        &rt,
+        form_text(alloc, Value::Ref(reference)),
+        "{\"__ptype\":\"Ref\",\"kind\":\"web::vhost\",\"title\":\"A\"}",
+    )?;
     Ok(())
 }

@@ -4,3 +4,4 @@ pub mod AttributeMembers
 pub mod Declared
 pub mod Forms
 pub mod FormLemmas
+mod Examples

@@ -2,6 +2,7 @@ ghost use Rattle.std.specs.Prelude.{◌≡◌, ◌≤◌, IfOk, IsTrue, length};
 ghost use Rattle.compile_core.specs.CatalogText.{catalog_text, has_forms};
 ghost use Rattle.compile_core.specs.FaultText.{fault_text};
 ghost use Rattle.site_program.specs.Answer.{IsAnswer, IsAnswerToText};
+ghost use Rattle.site_program.specs.Endings.{manifest_limit};
 ghost use Rattle.site_program.specs.World.{line};
 
 use compile_core::catalog_texts::catalog_text;
@@ -26,7 +27,7 @@ pub enum Answer {
 
 /// The answer for a node under a manifest of these bytes.
 pub fn answer_to(alloc: Global, node: &str, input: Bytes) -> Result<Answer, Memory>
-    requires { length input ≤ 4194304 }
+    requires { length input ≤ manifest_limit }
     ensures { IfOk result (λ answer. IsAnswer answer node.now input) }
 {
     match String::from_utf8(input.into_vec()) {
@@ -36,7 +37,7 @@ pub fn answer_to(alloc: Global, node: &str, input: Bytes) -> Result<Answer, Memo
 }
 
 fn answer_to_text(alloc: Global, node: &str, manifest: Text) -> Result<Answer, Memory>
-    requires { length manifest ≤ 4194304 }
+    requires { length manifest ≤ manifest_limit }
     ensures { IfOk result (λ answer. IsAnswerToText answer node.now manifest) }
 {
     let node = Text::from_str(alloc, node)?;

@@ -1,10 +1,10 @@
-ghost use Rattle.std.specs.Prelude.{◌≡◌, ◌↔◌, ◌⊎◌, ◌≤◌, ◌<◌, ◌≢◌, List, ℕ, length, Some};
+ghost use Rattle.std.specs.Prelude.{◌≡◌, ◌↔◌, ◌⊎◌, ◌≤◌, List, ℕ, length, Some};
 ghost use Rattle.site_program.specs.Words.{asked_of, texts_of, manifest};
 ghost use Rattle.site_io.specs.Stream.{Rose};
 ghost use Rattle.site_program.specs.World.{world, Says};
 ghost use Rattle.site_program.specs.Status.{IsStatus};
 ghost use Rattle.site_program.specs.Work.{Works, Delivers, GivesUp};
-ghost use Rattle.site_program.specs.Endings.{Ends, IsComplaint, IsSettled};
+ghost use Rattle.site_program.specs.Endings.{manifest_limit, Ends, IsComplaint, IsSettled};
 
 use crate::answer::{Answer, answer_to};
 use crate::ending::Ending;
@@ -122,7 +122,7 @@ fn work<K: Sink, E: Sink>(
     out: &mut K,
     err: &mut E,
 ) -> Ending
-    requires { length input ≤ 4194304 }
+    requires { length input ≤ manifest_limit }
     ensures { Works result node.now input (K.stream out.old) (K.stream out.new) (E.stream err.old) (E.stream err.new) }
 {
     match answer_to(alloc, node, input) {

@@ -1,0 +1,6 @@
+pub mod Distinct
+mod Examples
+pub mod Inner
+pub mod Letters
+pub mod Lists
+pub mod SameLists

@@ -1,0 +1,171 @@
+ghost use Rattle.std.specs.Prelude.{◌≡◌, ◌<◌, [], ◌∷◌, ◌++◌, ◌↔◌, length, is_ok, if◌then◌else◌, IsTrue, IfSome, Some, option_map, vec_len};
+ghost use Rattle.pp_values.specs.Keys.{is_key, are_distinct, value_at, with_pair, without_key};
+ghost use Rattle.pp_values.specs.Places.{place_of, with_value, value_of_place, without_place};
+ghost use Rattle.pp_values.specs.Views.{view, pair_views};
+
+use crate::keys::same_key;
+use crate::memory::Memory;
+use crate::value::Value;
+use std::alloc::Global;
+use std::marker::Model;
+use std::mem;
+
+/// The pairs of a hash, in order. Each key is an integer or a text, and no two are the same.
+///
+/// A contract sees what each key and value says.
+#[cycle(value)]
+#[derive(Drop)]
+pub struct Pairs {
+    items: Vec<(Value, Value)>,
+}
+
+impl Model for Pairs {
+    ghost use Rattle.std.specs.Prelude.{List};
+    ghost use Rattle.pp_values.specs.Datum.{Pair};
+    ghost use Rattle.pp_values.specs.Codes.{coded_pairs};
+    ghost use Rattle.pp_values.specs.Sizes.{pairs_size};
+
+    ghost Value = { List Pair };
+
+    ghost coded = { coded_pairs };
+
+    ghost use Rattle.std.specs.Prelude.{IsTrue};
+    ghost use Rattle.pp_values.specs.Keys.{are_distinct};
+    ghost use Rattle.pp_values.specs.Views.{pair_views};
+
+    ghost view = { λ l. pair_views l.items.items };
+
+    ghost invariant = { λ l. IsTrue (are_distinct (pair_views l.items.items)) };
+
+    ghost size = { pairs_size };
+
+    ghost use Rattle.pp_values.specs.Falls.{pairs_fall};
+
+    ghost size_decreases = { λ l h. pairs_fall l.items.items };
+}
+
+impl Pairs {
+    pub fn new(alloc: Global) -> Pairs
+        ensures { result ≡ [] }
+    {
+        Pairs {
+            items: Vec::new(alloc),
+        }
+    }
+
+    pub fn from_vec(items: Vec<(Value, Value)>) -> Pairs
+        requires { IsTrue (are_distinct (pair_views items.items)) }
+        ensures { result ≡ pair_views items.items }
+    {
+        Pairs { items }
+    }
+
+    pub fn into_vec(self) -> Vec<(Value, Value)>
+        ensures pairs { pair_views result.items ≡ self }
+        ensures distinct { IsTrue (are_distinct self) }
+    {
+        self.items
+    }
+
+    pub fn len(&self) -> usize
+        ensures { result ≡ length self.now }
+    {
+        self.items.len()
+    }
+
+    pub fn is_empty(&self) -> bool
+        ensures { IsTrue result ↔ (self.now ≡ []) }
+    {
+        self.items.is_empty()
+    }
+
+    pub fn as_slice(&self) -> &[(Value, Value)]
+        ensures pairs { pair_views result.now ≡ self.now }
+        ensures distinct { IsTrue (are_distinct self.now) }
+    {
+        self.items.as_slice()
+    }
+
+    /// The value of a key. A value that is no key has none.
+    pub fn get(&self, key: &Value) -> Option<&Value>
+        ensures { option_map (λ v. view v.now) result ≡ value_at (view key.now) self.now }
+    {
+        value_at(&self.items, key)
+    }
+
+    /// Sets the value of a key: in the key's place where it has one, and else at the end.
+    /// Where there is no memory, the hash stays as it was.
+    pub fn put(&mut self, key: Value, value: Value) -> Result<(), Memory>
+        requires { IsTrue (is_key (view key)) }
+        ensures { self.new ≡ (if is_ok result then with_pair (view key) (view value) self.old else self.old) }
+    {
+        match place_of(&self.items, &key) {
+            Some(place) => {
+                drop(key);
+                replace_value(&mut self.items, place, value);
+                Ok(())
+            }
+            None => {
+                self.items.push((key, value))?;
+                Ok(())
+            }
+        }
+    }
+
+    /// Takes a key and its value out, and gives the value. The other pairs keep their order.
+    pub fn remove(&mut self, key: &Value) -> Option<Value>
+        ensures value { option_map view result ≡ value_at (view key.now) self.old }
+        ensures rest { self.new ≡ without_key (view key.now) self.old }
+    {
+        match place_of(&self.items, key) {
+            Some(place) => Some(remove_pair(&mut self.items, place)),
+            None => None,
+        }
+    }
+}
+
+fn value_at<'a>(items: &'a [(Value, Value)], key: &Value) -> Option<&'a Value>
+    ensures { option_map (λ v. view v.now) result ≡ value_at (view key.now) (pair_views items.now) }
+{
+    for (other, value) in items {
+        if same_key(key, other) {
+            return Some(value);
+        }
+    }
+    None
+}
+
+fn place_of(items: &[(Value, Value)], key: &Value) -> Option<usize>
+    ensures place { result ≡ place_of (view key.now) (pair_views items.now) }
+    ensures within { IfSome result (λ n. n < length items.now) }
+{
+    for (i, (other, _)) in items.iter().enumerate() {
+        if same_key(key, other) {
+            return Some(i);
+        }
+    }
+    None
+}
+
+fn replace_value(items: &mut Vec<(Value, Value)>, place: usize, value: Value)
+    requires { place < vec_len items.old }
+    ensures { pair_views items.new.items ≡ with_value (view value) place (pair_views items.old.items) }
+{
+    drop(mem::replace(&mut items[place].1, value));
+}
+
+fn remove_pair(items: &mut Vec<(Value, Value)>, place: usize) -> Value
+    requires { place < vec_len items.old }
+    ensures value { Some (view result) ≡ value_of_place place (pair_views items.old.items) }
+    ensures rest { pair_views items.new.items ≡ without_place place (pair_views items.old.items) }
+{
+    value_of(items.remove(place))
+}
+
+fn value_of(pair: (Value, Value)) -> Value
+    ensures { result ≡ pair.1 }
+{
+    let (key, value) = pair;
+    drop(key);
+    value
+}

@@ -1,0 +1,265 @@
+ghost use Rattle.std.specs.Prelude.{IfOk, IsTrue};
+ghost use Rattle.pp_values.specs.Keys.{is_key};
+ghost use Rattle.pp_values.specs.Views.{view};
+
+use crate::bounds::{Bound, Bounds};
+use crate::copying::{copy, copy_pairs, copy_values};
+use crate::equality::equal;
+use crate::fact_pairs::FactPairs;
+use crate::fault::{Fault, Subject, What};
+use crate::interpolating::text_of;
+use crate::memory::Memory;
+use crate::ordering::order;
+use crate::pairs::Pairs;
+use crate::place::Place;
+use crate::places::Places;
+use crate::printing::{kind_text, reference_text};
+use crate::ptype::{EntryType, MemberType, PType, TypeBox};
+use crate::reference::Reference;
+use crate::refs::Refs;
+use crate::text::Text;
+use crate::text_pairs::TextPairs;
+use crate::texts::Texts;
+use crate::type_copying::{copy_type, copy_types};
+use crate::types::Types;
+use crate::value::Value;
+use crate::values::Values;
+use std::alloc::Global;
+use std::cmp::Ordering;
+use std::test::Fail;
+
+fn text(alloc: Global, text: &str) -> Result<Value, Memory>
+    ensures { IfOk result (λ v. IsTrue (is_key (view v))) }
+{
+    Ok(Value::Text(Text::from_str(alloc, text)?))
+}
+
+fn reference(alloc: Global, kind: &str, title: &str) -> Result<Reference, Memory> {
+    let kind = Text::from_str(alloc, kind)?;
+    let title = Text::from_str(alloc, title)?;
+    Ok(Reference { kind, title })
+}
+
+fn place(alloc: Global) -> Result<Place, Memory> {
+    Ok(Place {
+        file: Text::from_str(alloc, "site.pp")?,
+        line: 3,
+    })
+}
+
+/// The list of 1 and a text.
+fn list(alloc: Global, second: &str) -> Result<Values, Memory> {
+    let mut items = Values::new(alloc);
+    items.push(Value::Int(1))?;
+    items.push(text(alloc, second)?)?;
+    Ok(items)
+}
+
+/// The hash of two keys, with the values 1 and `x`.
+fn hash(alloc: Global, first: &str, second: &str) -> Result<Pairs, Memory> {
+    let mut pairs = Pairs::new(alloc);
+    pairs.put(text(alloc, first)?, Value::Int(1))?;
+    pairs.put(text(alloc, second)?, text(alloc, "x")?)?;
+    Ok(pairs)
+}
+
+fn member(alloc: Global, of: PType, count: Bounds) -> Result<MemberType, Memory> {
+    Ok(MemberType {
+        of: TypeBox::new(alloc, of)?,
+        count,
+    })
+}
+
+/// `Hash[String, Any, 1, default]`.
+fn hash_type(alloc: Global) -> Result<PType, Memory> {
+    let key = TypeBox::new(alloc, PType::String(Bounds::Omitted))?;
+    let value = member(
+        alloc,
+        PType::Any,
+        Bounds::Both(Bound::Number(1), Bound::Default),
+    )?;
+    Ok(PType::Hash(Some(EntryType {
+        key,
+        value: Some(value),
+    })))
+}
+
+/// `Variant[Undef, Web::Vhost['a']]`.
+fn variant_type(alloc: Global) -> Result<Types, Memory> {
+    let mut types = Types::new(alloc);
+    types.push(PType::Undef)?;
+    types.push(PType::Resource {
+        kind: Text::from_str(alloc, "web::vhost")?,
+        title: Some(Text::from_str(alloc, "a")?),
+    })?;
+    Ok(types)
+}
+
+fn enum_type(alloc: Global) -> Result<PType, Memory> {
+    let mut texts = Texts::new(alloc);
+    texts.push(Text::from_str(alloc, "it's")?)?;
+    Ok(PType::Enum(texts))
+}
+
+/// The values of the tables below.
+fn sample(alloc: Global, number: usize) -> Result<Value, Memory> {
+    match number {
+        0 => Ok(Value::Undef),
+        1 => Ok(Value::Flag(false)),
+        2 => Ok(Value::Int(-7)),
+        3 => text(alloc, "ab"),
+        4 => text(alloc, "AB"),
+        5 => Ok(Value::List(list(alloc, "a")?)),
+        6 => Ok(Value::List(list(alloc, "A")?)),
+        7 => Ok(Value::Hash(hash(alloc, "a", "b")?)),
+        8 => Ok(Value::Hash(hash(alloc, "a", "B")?)),
+        9 => Ok(Value::Ref(reference(alloc, "web::vhost", "it's")?)),
+        10 => Ok(Value::Kind(PType::Integer(Bounds::Least(Bound::Number(1))))),
+        11 => Ok(Value::Kind(PType::Integer(Bounds::Both(Bound::Number(1), Bound::Default)))),
+        12 => Ok(Value::Kind(hash_type(alloc)?)),
+        13 => Ok(Value::Kind(PType::Variant(variant_type(alloc)?))),
+        14 => Ok(Value::Kind(enum_type(alloc)?)),
+        15 => Ok(Value::Kind(PType::Array(Some(member(alloc, PType::Data, Bounds::Omitted)?)))),
+        16 => text(alloc, "ac"),
+        _ => Ok(Value::Default),
+    }
+}
+
+const TEXTS: [(usize, &str); 16] = [
+    (0, ""),
+    (1, "false"),
+    (2, "-7"),
+    (3, "ab"),
+    (5, "[1, a]"),
+    (7, "{a => 1, b => x}"),
+    (9, "Web::Vhost['it\\'s']"),
+    (10, "Integer[1]"),
+    (11, "Integer[1, default]"),
+    (12, "Hash[String, Any, 1, default]"),
+    (13, "Variant[Undef, Web::Vhost['a']]"),
+    (14, "Enum['it\\'s']"),
+    (15, "Array[Data]"),
+    (16, "ac"),
+    (17, "default"),
+    (6, "[1, A]"),
+];
+
+#[test]
+fn prints_values(rt: HostRuntime) -> Result<(), Fail> {
+    for (number, wanted) in TEXTS {
+        let value = sample(rt.alloc(), number)?;
+        let printed = text_of(rt.alloc(), &value)?;
+        assert_eq!(rt; printed.as_str(), wanted);
+    }
+    Ok(())
+}
+
+#[test]
+fn copies_values(rt: HostRuntime) -> Result<(), Fail> {
+    for (number, wanted) in TEXTS {
+        let value = sample(rt.alloc(), number)?;
+        let copied = copy(rt.alloc(), &value)?;
+        assert!(rt; equal(&value, &copied));
+        assert_eq!(rt; text_of(rt.alloc(), &copied)?.as_str(), wanted);
+    }
+    assert!(rt; matches!(copy(rt.alloc(), &Value::Int(5))?, Value::Int(5)));
+    Ok(())
+}
+
+#[test]
+fn compares_values(rt: HostRuntime) -> Result<(), Fail> {
+    let table = [
+        (0, 0, true, None),
+        (0, 1, false, None),
+        (2, 2, true, Some(Ordering::Equal)),
+        (3, 4, true, Some(Ordering::Equal)),
+        (4, 16, false, Some(Ordering::Less)),
+        (16, 4, false, Some(Ordering::Greater)),
+        (5, 6, true, None),
+        (7, 7, true, None),
+        (7, 8, false, None),
+        (9, 9, true, None),
+        (10, 10, true, None),
+        (10, 11, false, None),
+        (12, 12, true, None),
+        (13, 14, false, None),
+        (17, 17, true, None),
+    ];
+    for (first, second, are_equal, ordering) in table {
+        let a = sample(rt.alloc(), first)?;
+        let b = sample(rt.alloc(), second)?;
+        assert_eq!(rt; equal(&a, &b), are_equal, "{first} and {second}");
+        assert_eq!(rt; order(&a, &b), ordering, "{first} and {second}");
+    }
+    Ok(())
+}
+
+#[test]
+fn edits_hashes(rt: HostRuntime) -> Result<(), Fail> {
+    let mut pairs = hash(rt.alloc(), "a", "b")?;
+    pairs.put(text(rt.alloc(), "a")?, Value::Default)?;
+    assert_eq!(rt; pairs.len(), 2);
+    let key = text(rt.alloc(), "a")?;
+    assert!(rt; matches!(pairs.get(&key), Some(Value::Default)));
+    assert!(rt; pairs.remove(&key).is_some());
+    assert!(rt; pairs.get(&key).is_none());
+    assert_eq!(rt; copy_pairs(rt.alloc(), &pairs)?.len(), 1);
+    Ok(())
+}
+
+#[test]
+fn copies_lists_and_types(rt: HostRuntime) -> Result<(), Fail> {
+    let items = list(rt.alloc(), "a")?;
+    assert_eq!(rt; copy_values(rt.alloc(), &items)?.len(), 2);
+    let types = variant_type(rt.alloc())?;
+    assert_eq!(rt; copy_types(rt.alloc(), &types)?.len(), 2);
+    assert!(rt; matches!(copy_type(rt.alloc(), &PType::Any)?, PType::Any));
+    Ok(())
+}
+
+#[test]
+fn copies_names_and_places(rt: HostRuntime) -> Result<(), Fail> {
+    let mut refs = Refs::new(rt.alloc());
+    refs.push(reference(rt.alloc(), "file", "/a")?.copy(rt.alloc())?)?;
+    assert!(rt; refs.copy(rt.alloc())? == refs);
+    let mut places = Places::new(rt.alloc());
+    places.push(place(rt.alloc())?.copy(rt.alloc())?)?;
+    assert_eq!(rt; places.copy(rt.alloc())?.len(), 1);
+    Ok(())
+}
+
+#[test]
+fn copies_pairs_of_texts_and_facts(rt: HostRuntime) -> Result<(), Fail> {
+    let mut files = TextPairs::new(rt.alloc());
+    files.push(
+        Text::from_str(rt.alloc(), "site.pp")?,
+        Text::from_str(rt.alloc(), "")?.copy(rt.alloc())?,
+    )?;
+    assert_eq!(rt; files.copy(rt.alloc())?.len(), 1);
+    let mut nodes = FactPairs::new(rt.alloc());
+    nodes.push(Text::from_str(rt.alloc(), "n0")?, Value::Undef)?;
+    assert_eq!(rt; nodes.copy(rt.alloc())?.len(), 1);
+    Ok(())
+}
+
+#[test]
+fn prints_names(rt: HostRuntime) -> Result<(), Fail> {
+    let named = reference(rt.alloc(), "web::vhost", "it's")?;
+    assert_eq!(rt;
+        reference_text(rt.alloc(), &named)?.as_str(),
+        "Web::Vhost[it's]"
+    );
+    assert_eq!(rt; kind_text(rt.alloc(), &named.kind)?.as_str(), "Web::Vhost");
+    Ok(())
+}
+
+#[test]
+fn copies_faults(rt: HostRuntime) -> Result<(), Fail> {
+    let fault = Fault {
+        at: place(rt.alloc())?,
+        what: What::ClassVirtual(Subject::Kind(Text::from_str(rt.alloc(), "class")?)),
+    };
+    let copied = fault.copy(rt.alloc())?;
+    assert!(rt; copied == fault);
+    Ok(())
+}

@@ -1,0 +1,76 @@
+ghost use Rattle.std.specs.Prelude.{◌≡◌, [], ◌∷◌, ◌++◌, ◌↔◌, length, is_ok, if◌then◌else◌, IsTrue};
+ghost use Rattle.pp_values.specs.PTypes.{sort, sorts};
+
+use crate::memory::Memory;
+use crate::ptype::PType;
+use std::alloc::Global;
+use std::marker::Model;
+
+/// A list of data types. A contract sees what each of them says.
+#[cycle(ptype)]
+#[derive(Drop)]
+pub struct Types {
+    items: Vec<PType>,
+}
+
+impl Model for Types {
+    ghost use Rattle.std.specs.Prelude.{List};
+    ghost use Rattle.pp_values.specs.Sort.{Sort, sorts_size};
+    ghost use Rattle.pp_values.specs.SortCodes.{coded_sorts};
+
+    ghost Value = { List Sort };
+
+    ghost coded = { coded_sorts };
+
+    ghost use Rattle.pp_values.specs.PTypes.{sorts};
+
+    ghost view = { λ l. sorts l.items.items };
+
+    ghost size = { sorts_size };
+
+    ghost use Rattle.pp_values.specs.SortFalls.{types_fall};
+
+    ghost size_decreases = { λ l h. types_fall l.items.items };
+}
+
+impl Types {
+    pub fn new(alloc: Global) -> Types
+        ensures { result ≡ [] }
+    {
+        Types {
+            items: Vec::new(alloc),
+        }
+    }
+
+    pub fn from_vec(items: Vec<PType>) -> Types
+        ensures { result ≡ sorts items.items }
+    {
+        Types { items }
+    }
+
+    pub fn len(&self) -> usize
+        ensures { result ≡ length self.now }
+    {
+        self.items.len()
+    }
+
+    pub fn is_empty(&self) -> bool
+        ensures { IsTrue result ↔ (self.now ≡ []) }
+    {
+        self.items.is_empty()
+    }
+
+    pub fn as_slice(&self) -> &[PType]
+        ensures { sorts result.now ≡ self.now }
+    {
+        self.items.as_slice()
+    }
+
+    /// Appends a type. Where there is no memory, the list stays as it was.
+    pub fn push(&mut self, item: PType) -> Result<(), Memory>
+        ensures { self.new ≡ (if is_ok result then self.old ++ sort item ∷ [] else self.old) }
+    {
+        self.items.push(item)?;
+        Ok(())
+    }
+}

@@ -1,0 +1,23 @@
+use crate::pairs::Pairs;
+use crate::ptype::PType;
+use crate::reference::Reference;
+use crate::text::Text;
+use crate::values::Values;
+
+/// A value of the language.
+#[cycle(value)]
+#[derive(Drop)]
+pub enum Value {
+    Undef,
+    Flag(bool),
+    Int(i64),
+    Text(Text),
+    List(Values),
+    Hash(Pairs),
+    /// A reference to a resource, such as `File['/tmp']`.
+    Ref(Reference),
+    /// A data type as a value.
+    Kind(PType),
+    /// The literal `default`.
+    Default,
+}

@@ -1,0 +1,89 @@
+ghost use Rattle.std.specs.Prelude.{◌≡◌, [], ◌∷◌, ◌++◌, ◌↔◌, length, is_ok, if◌then◌else◌, IsTrue, option_map, slice_get};
+ghost use Rattle.pp_values.specs.Views.{view, views};
+
+use crate::memory::Memory;
+use crate::value::Value;
+use std::alloc::Global;
+use std::marker::Model;
+
+/// A list of values. A contract sees what each of them says.
+#[cycle(value)]
+#[derive(Drop)]
+pub struct Values {
+    items: Vec<Value>,
+}
+
+impl Model for Values {
+    ghost use Rattle.std.specs.Prelude.{List};
+    ghost use Rattle.pp_values.specs.Datum.{Datum};
+    ghost use Rattle.pp_values.specs.Codes.{coded_data};
+    ghost use Rattle.pp_values.specs.Sizes.{data_size};
+
+    ghost Value = { List Datum };
+
+    ghost coded = { coded_data };
+
+    ghost use Rattle.pp_values.specs.Views.{views};
+
+    ghost view = { λ l. views l.items.items };
+
+    ghost size = { data_size };
+
+    ghost use Rattle.pp_values.specs.Falls.{values_fall};
+
+    ghost size_decreases = { λ l h. values_fall l.items.items };
+}
+
+impl Values {
+    pub fn new(alloc: Global) -> Values
+        ensures { result ≡ [] }
+    {
+        Values {
+            items: Vec::new(alloc),
+        }
+    }
+
+    pub fn from_vec(items: Vec<Value>) -> Values
+        ensures { result ≡ views items.items }
+    {
+        Values { items }
+    }
+
+    pub fn into_vec(self) -> Vec<Value>
+        ensures { views result.items ≡ self }
+    {
+        self.items
+    }
+
+    pub fn len(&self) -> usize
+        ensures { result ≡ length self.now }
+    {
+        self.items.len()
+    }
+
+    pub fn is_empty(&self) -> bool
+        ensures { IsTrue result ↔ (self.now ≡ []) }
+    {
+        self.items.is_empty()
+    }
+
+    pub fn as_slice(&self) -> &[Value]
+        ensures { views result.now ≡ self.now }
+    {
+        self.items.as_slice()
+    }
+
+    pub fn get(&self, index: usize) -> Option<&Value>
+        ensures { option_map (λ v. view v.now) result ≡ slice_get self.now index }
+    {
+        self.items.get(index)
+    }
+
+    /// Appends a value. Where there is no memory, the list stays as it was.
+    pub fn push(&mut self, item: Value) -> Result<(), Memory>
+        ensures { self.new ≡ (if is_ok result then self.old ++ view item ∷ [] else self.old) }
+    {
+        self.items.push(item)?;
+        Ok(())
+    }
+}

@@ -1,0 +1,43 @@
+-- Attributes put into an object one after another stand in it in their order, since their names rise.
+use Rattle.std.proofs.Common.{◌≡◌, ℕ, suc, ◌<◌, length, arith, Bool, true, false, ◌&&◌, List, [], ◌∷◌, ◌++◌, map, refl, ap, sym, subst, append-nil, ◌∙◌}
+use Rattle.std.proofs.lemmas.List.{map-append}
+use Rattle.std.specs.declared.cmp.Ordering.TheVariants.{Less, Equal, Greater}
+use Rattle.std.specs.Ordering.{is_lt, match_ordering}
+use Rattle.std.specs.Cmp.{second_so}
+use Rattle.serde_json.specs.Data.{Data, Members, no_members, member, put}
+use Rattle.res_core.specs.Rising.{text_cmp, is_rising}
+use Rattle.res_core.specs.declared.attribute.Attribute.{Attribute}
+use Rattle.res_core.specs.AttributeViews.{settings}
+use Rattle.res_core.specs.Settings.{Setting, setting_names}
+use Rattle.res_core.proofs.RisingLemmas.{above_first}
+use Rattle.compile_core.specs.ValueForm.{form}
+use Rattle.compile_core.specs.CatalogText.{attribute_members}
+
+abbrev pub put_all : List Setting → Members → Members
+put_all [] ms = ms
+put_all (s ∷ ss) ms = put_all ss (put s.0 (form s.1) ms)
+
+put_last : (done : List Setting) (s : Setting) (left : List Setting) → is_rising (setting_names (done ++ s ∷ left)) ≡ true → put s.0 (form s.1) (attribute_members done) ≡ attribute_members (done ++ s ∷ [])
+put_last [] s left h = refl
+put_last (e ∷ done) s left h =
+    rw (above_first e.0 s.0 (setting_names done) (setting_names left) (subst (λ ns. is_rising (e.0 ∷ ns) ≡ true) (map-append (λ (x : Setting). x.0) done (s ∷ left)) h))
+    (ap (member e.0 (form e.1)) (put_last done s left (second_so _ _ h)))
+
+append_one : (done : List Setting) (s : Setting) (left : List Setting) → done ++ (s ∷ left) ≡ (done ++ (s ∷ [])) ++ left
+append_one [] s left = refl
+append_one (e ∷ done) s left = ap (λ x. e ∷ x) (append_one done s left)
+
+put_all-rising : (left done : List Setting) → is_rising (setting_names (done ++ left)) ≡ true → put_all left (attribute_members done) ≡ attribute_members (done ++ left)
+put_all-rising [] done h = ap attribute_members (sym (append-nil done))
+put_all-rising (s ∷ left) done h =
+    ap (put_all left) (put_last done s left h)
+    ∙ put_all-rising left (done ++ s ∷ []) (subst (λ x. is_rising (setting_names x) ≡ true) (append_one done s left) h)
+    ∙ ap attribute_members (sym (append_one done s left))
+
+pub put_all-attributes : (ss : List Setting) → is_rising (setting_names ss) ≡ true → put_all ss no_members ≡ attribute_members ss
+put_all-attributes ss h = put_all-rising ss [] h
+
+-- at the end of the loop nothing is left to put
+pub put_all-end : (left : List Attribute) (ms all : Members) → length left < 1 → put_all (settings left) ms ≡ all → ms ≡ all
+put_all-end [] ms all few h = h
+put_all-end (a ∷ left) ms all few h = absurd (omega arith)

@@ -1,0 +1,5 @@
+pub mod LineLemmas
+pub mod Floats
+pub mod AttributeMembers
+pub mod Declared
+pub mod Forms

@@ -1,0 +1,11 @@
+use Rattle.std.proofs.Common.{◌≡◌, ◌++◌, map, length, IsTrue}
+use Rattle.std.specs.List.{list_all}
+use Rattle.serde_json.specs.View.{view as json_view}
+use Rattle.compile_core.specs.CatalogText.{index_data}
+use Rattle.compile_core.proofs.catalog_texts.index_values.Given as goal
+
+abbrev pub invariant-loop-left : goal.invariant-loop-left
+invariant-loop-left l = map json_view l.values.items ++ map index_data l.left ≡ map index_data l.indexes
+
+abbrev pub decreases-loop-left : goal.decreases-loop-left
+decreases-loop-left l = length l.left

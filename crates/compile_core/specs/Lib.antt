@@ -1,0 +1,4 @@
+pub mod FaultText
+pub mod ValueForm
+pub mod CatalogText
+pub mod Meaning

@@ -1,0 +1,5 @@
+pub mod Grammar
+pub mod Manifest
+pub mod Pieces
+pub mod Steps
+pub mod Tokens

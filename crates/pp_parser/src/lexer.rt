@@ -1,0 +1,285 @@
+//! Cuts a text into tokens.
+
+ghost use Rattle.std.specs.Prelude.{drop, ◌++◌, OnOk, ◌≡◌, ◌≢◌, ◌+◌, ◌-◌, ◌^◌, ◌<◌, ◌≤◌, length, slice_index, IfOk, IfSome, Some, true, false};
+ghost use Rattle.std.specs.Str.{bytes_eq};
+ghost use Rattle.pp_parser.specs.Pieces.{IsPiece, IsBetweenQuotes, QuotesFit};
+ghost use Rattle.pp_parser.specs.Tokens as spec;
+
+use crate::token::{Kind, Token};
+use std::alloc::{AllocError, Global};
+
+/// What stands at the front of a text, and its length in bytes: a token of that kind, or else white space or a comment.
+#[derive(Clone, Copy, Debug)]
+pub struct Piece {
+    pub kind: Option<Kind>,
+    pub len: usize,
+}
+
+impl Piece {
+    fn new(kind: Option<Kind>, len: usize) -> Piece
+        ensures { result ≡ spec.piece kind len }
+    {
+        Piece { kind, len }
+    }
+}
+
+fn byte(bytes: &[u8], at: usize) -> u8
+    ensures value { result ≡ slice_index bytes.now at }
+    ensures within { result ≢ 0 → at < length bytes.now }
+{
+    if at < bytes.len() { bytes[at] } else { 0 }
+}
+
+fn is_white(b: u8) -> bool
+    ensures { result ≡ spec.is_white b }
+{
+    b == b' ' || b == b'\t' || b == b'\r' || b == b'\n'
+}
+
+/// The place behind the line feed that ends the line.
+fn line_end(bytes: &[u8], from: usize) -> usize
+    requires { from ≤ length bytes.now }
+    ensures value { result ≡ spec.line_end from (drop from bytes.now) }
+    ensures within { (from ≤ result) × (result ≤ length bytes.now) }
+    ensures ends { result < length bytes.now → slice_index bytes.now (result - 1) < 128 }
+{
+    for at in from..bytes.len() {
+        if bytes[at] == b'\n' {
+            return at + 1;
+        }
+    }
+    bytes.len()
+}
+
+/// The place behind the `*/` that ends a comment.
+fn comment_end(bytes: &[u8], from: usize) -> Option<usize>
+    requires { from ≤ length bytes.now }
+    ensures value { result ≡ spec.comment_end from (drop from bytes.now) }
+    ensures within { IfSome result (λ end. (from < end) × (end ≤ length bytes.now) × (slice_index bytes.now (end - 1) < 128)) }
+{
+    for at in from..bytes.len() {
+        if bytes[at] == b'*' && byte(bytes, at + 1) == b'/' {
+            return Some(at + 2);
+        }
+    }
+    None
+}
+
+fn is_escape_at(bytes: &[u8], at: usize) -> bool
+    requires { at < length bytes.now }
+    ensures { result ≡ spec.is_escape (slice_index bytes.now at) (drop (at + 1) bytes.now) }
+{
+    let next = byte(bytes, at + 1);
+    bytes[at] == b'\\' && (next == b'\\' || next == b'\'')
+}
+
+/// The place behind the quote that closes a text.
+fn quoted_end(bytes: &[u8], from: usize) -> Option<usize>
+    requires { from ≤ length bytes.now }
+    ensures value { result ≡ spec.quoted_end false from (drop from bytes.now) }
+    ensures within { IfSome result (λ end. (from < end) × (end ≤ length bytes.now) × (slice_index bytes.now (end - 1) ≡ 39)) }
+{
+    let mut is_taken = false;
+    for at in from..bytes.len() {
+        if !is_taken && bytes[at] == b'\'' {
+            return Some(at + 1);
+        }
+        is_taken = !is_taken && is_escape_at(bytes, at);
+    }
+    None
+}
+
+fn begins_segment(b: u8) -> bool
+    ensures { result ≡ spec.begins_segment b }
+{
+    b.is_ascii_lowercase() || b == b'_'
+}
+
+fn is_segment(b: u8) -> bool
+    ensures { result ≡ spec.is_segment b }
+{
+    b.is_ascii_alphanumeric() || b == b'_'
+}
+
+fn continues_name(bytes: &[u8], at: usize) -> bool
+    requires { at < length bytes.now }
+    ensures { result ≡ spec.continues_name (slice_index bytes.now at) (drop (at + 1) bytes.now) }
+{
+    let next = byte(bytes, at + 1);
+    match bytes[at] {
+        b'-' => is_segment(next),
+        b':' => next == b':' && begins_segment(byte(bytes, at + 2)),
+        b => is_segment(b),
+    }
+}
+
+/// The place behind a name.
+fn name_end(bytes: &[u8]) -> usize
+    ensures value { result ≡ spec.name_end false 0 bytes.now }
+    ensures within { result ≤ length bytes.now }
+{
+    let mut is_second = false;
+    for at in 0..bytes.len() {
+        if !is_second && !continues_name(bytes, at) {
+            return at;
+        }
+        is_second = !is_second && bytes[at] == b':';
+    }
+    bytes.len()
+}
+
+fn other(bytes: &[u8]) -> Piece
+    requires { 0 < length bytes.now }
+    ensures value { result ≡ spec.other bytes.now }
+    ensures piece { IsPiece bytes.now result }
+    ensures quotes { QuotesFit bytes.now result }
+{
+    Piece::new(Some(Kind::Other), bytes.len())
+}
+
+#[tactic(auto, unfolding(crate::specs::Tokens::comment))]
+fn comment(bytes: &[u8]) -> Piece
+    requires { 2 ≤ length bytes.now }
+    ensures value { result ≡ spec.comment bytes.now }
+    ensures piece { IsPiece bytes.now result }
+    ensures quotes { QuotesFit bytes.now result }
+{
+    match comment_end(bytes, 2) {
+        None => Piece::new(Some(Kind::UnclosedComment), bytes.len()),
+        Some(end) => Piece::new(None, end),
+    }
+}
+
+#[tactic(auto, unfolding(crate::specs::Tokens::quoted))]
+fn quoted(bytes: &[u8]) -> Piece
+    requires within { 0 < length bytes.now }
+    requires opening { slice_index bytes.now 0 ≡ 39 }
+    ensures value { result ≡ spec.quoted bytes.now }
+    ensures piece { IsPiece bytes.now result }
+    ensures quotes { QuotesFit bytes.now result }
+{
+    match quoted_end(bytes, 1) {
+        None => Piece::new(Some(Kind::UnclosedQuoted), bytes.len()),
+        Some(end) => Piece::new(Some(Kind::Quoted), end),
+    }
+}
+
+#[tactic(auto, unfolding(crate::specs::Tokens::name))]
+fn name(bytes: &[u8]) -> Piece
+    requires { 0 < length bytes.now }
+    ensures value { result ≡ spec.name bytes.now }
+    ensures piece { IsPiece bytes.now result }
+    ensures quotes { QuotesFit bytes.now result }
+{
+    let len = name_end(bytes);
+    match &bytes[..len] {
+        b"notify" => Piece::new(Some(Kind::Notify), len),
+        b"message" => Piece::new(Some(Kind::Message), len),
+        _ => other(bytes),
+    }
+}
+
+fn begins_path(bytes: &[u8]) -> bool
+    ensures { result ≡ spec.begins_path bytes.now }
+{
+    let third = byte(bytes, 2);
+    byte(bytes, 0) == b':' && byte(bytes, 1) == b':' && (third.is_ascii_alphabetic() || third == b'_')
+}
+
+#[tactic(auto, unfolding(crate::specs::Tokens::mark))]
+fn mark(bytes: &[u8]) -> Piece
+    requires { 0 < length bytes.now }
+    ensures value { result ≡ spec.mark bytes.now }
+    ensures piece { IsPiece bytes.now result }
+    ensures quotes { QuotesFit bytes.now result }
+{
+    match bytes[0] {
+        b'{' => Piece::new(Some(Kind::OpenBrace), 1),
+        b'}' => Piece::new(Some(Kind::CloseBrace), 1),
+        b',' => Piece::new(Some(Kind::Comma), 1),
+        b'=' if byte(bytes, 1) == b'>' => Piece::new(Some(Kind::Arrow), 2),
+        b':' if !begins_path(bytes) => Piece::new(Some(Kind::Colon), 1),
+        _ => other(bytes),
+    }
+}
+
+/// What stands at the front of a text that is not empty.
+#[tactic(auto, unfolding(crate::specs::Tokens::front))]
+fn front(bytes: &[u8]) -> Piece
+    requires { 0 < length bytes.now }
+    ensures value { result ≡ spec.front bytes.now }
+    ensures piece { IsPiece bytes.now result }
+    ensures quotes { QuotesFit bytes.now result }
+{
+    match bytes[0] {
+        b if is_white(b) => Piece::new(None, 1),
+        b'#' => Piece::new(None, line_end(bytes, 1)),
+        b'/' if byte(bytes, 1) == b'*' => comment(bytes),
+        b'\'' => quoted(bytes),
+        b if begins_segment(b) => name(bytes),
+        _ => mark(bytes),
+    }
+}
+
+/// The line behind a text that begins on this line.
+fn line_at(mut line: u32, bytes: &[u8]) -> u32
+    requires { line + length bytes.now < 2 ^ 32 }
+    ensures value { result ≡ spec.line_at line bytes.now }
+    ensures within { result ≤ line + length bytes.now }
+{
+    for b in bytes {
+        if *b == b'\n' {
+            line += 1;
+        }
+    }
+    line
+}
+
+/// What a token says, from its spelling.
+fn said(kind: Kind, spelling: &str) -> &str
+    requires { kind ≡ Kind.Quoted → IsBetweenQuotes spelling.now (length spelling.now) }
+    ensures { result.now ≡ spec.said kind spelling.entry.now }
+{
+    let bytes = spelling.as_bytes();
+    match kind {
+        Kind::Quoted => &spelling[1..bytes.len() - 1],
+        _ => spelling,
+    }
+}
+
+fn emit<'a>(found: &mut Vec<Token<'a>>, kind: Option<Kind>, spelling: &'a str, line: u32) -> Result<(), AllocError>
+    requires { kind ≡ Some Kind.Quoted → IsBetweenQuotes spelling.now (length spelling.now) }
+    ensures { OnOk result (found.new.items ≡ found.old.items ++ spec.emitted line kind spelling.now) }
+{
+    if let Some(kind) = kind {
+        let text = said(kind, spelling);
+        found.push(Token { kind, text, line })?;
+    }
+    Ok(())
+}
+
+/// The tokens of a text.
+pub fn lex(alloc: Global, text: &str) -> Result<Vec<Token<'_>>, AllocError>
+    requires { length text.now + 1 < 2 ^ 32 }
+    ensures { IfOk result (λ v. v.items ≡ spec.tokens text.now) }
+{
+    let mut found = Vec::new(alloc);
+    let mut rest = text;
+    let mut line = 1;
+    while !rest.is_empty() {
+        let piece = front(rest.as_bytes());
+        let (spelling, after) = rest.split_at(piece.len);
+        emit(&mut found, piece.kind, spelling, line)?;
+        line = line_at(line, spelling.as_bytes());
+        rest = after;
+    }
+    Ok(found)
+}
+
+/// The line of the end of the file.
+pub fn end_line(text: &str) -> u32
+    requires { length text.now + 1 < 2 ^ 32 }
+    ensures { result ≡ spec.end_line text.now }
+{
+    line_at(1, text.as_bytes())
+}

@@ -1,0 +1,4 @@
+pub mod RisingLemmas
+pub mod SegmentLemmas
+pub mod NameLemmas
+mod Examples

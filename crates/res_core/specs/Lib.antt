@@ -1,0 +1,5 @@
+pub mod Rising
+pub mod TagNames
+pub mod Settings
+pub mod AttributeViews
+pub mod ResourceCodes

@@ -1,0 +1,77 @@
+ghost use Rattle.std.specs.Prelude.{◌≡◌, [], ◌↔◌, length, IsTrue};
+ghost use Rattle.res_core.specs.Rising.{is_rising};
+ghost use Rattle.res_core.specs.Settings.{setting_names};
+ghost use Rattle.res_core.specs.AttributeViews.{settings};
+
+use crate::attribute::Attribute;
+use std::alloc::Global;
+use std::marker::Model;
+
+/// The attributes of a resource, whose names rise in byte order. No name stands twice.
+///
+/// A contract sees each name with what its value says.
+#[derive(Drop)]
+pub struct Attributes {
+    items: Vec<Attribute>,
+}
+
+impl Model for Attributes {
+    ghost use Rattle.std.specs.Prelude.{List};
+    ghost use Rattle.res_core.specs.Settings.{Setting, coded_settings};
+
+    ghost Value = { List Setting };
+
+    ghost coded = { coded_settings };
+
+    ghost use Rattle.std.specs.Prelude.{IsTrue};
+    ghost use Rattle.res_core.specs.Rising.{is_rising};
+    ghost use Rattle.res_core.specs.Settings.{setting_names};
+    ghost use Rattle.res_core.specs.AttributeViews.{settings};
+
+    ghost view = { λ a. settings a.items.items };
+
+    ghost invariant = { λ a. IsTrue (is_rising (setting_names (settings a.items.items))) };
+}
+
+impl Attributes {
+    pub fn new(alloc: Global) -> Attributes
+        ensures { result ≡ [] }
+    {
+        Attributes {
+            items: Vec::new(alloc),
+        }
+    }
+
+    pub fn from_vec(items: Vec<Attribute>) -> Attributes
+        requires { IsTrue (is_rising (setting_names (settings items.items))) }
+        ensures { result ≡ settings items.items }
+    {
+        Attributes { items }
+    }
+
+    pub fn into_vec(self) -> Vec<Attribute>
+        ensures attributes { settings result.items ≡ self }
+        ensures rising { IsTrue (is_rising (setting_names self)) }
+    {
+        self.items
+    }
+
+    pub fn len(&self) -> usize
+        ensures { result ≡ length self.now }
+    {
+        self.items.len()
+    }
+
+    pub fn is_empty(&self) -> bool
+        ensures { IsTrue result ↔ (self.now ≡ []) }
+    {
+        self.items.is_empty()
+    }
+
+    pub fn as_slice(&self) -> &[Attribute]
+        ensures attributes { settings result.now ≡ self.now }
+        ensures rising { IsTrue (is_rising (setting_names self.now)) }
+    {
+        self.items.as_slice()
+    }
+}

@@ -1,0 +1,18 @@
+//! Resources, their tags and the catalogs that hold them.
+#![tactic(auto)]
+
+pub mod attribute;
+pub mod attributes;
+pub mod catalog;
+pub mod edge;
+pub mod edges;
+pub mod held;
+pub mod held_list;
+pub mod indexes;
+pub mod log_line;
+pub mod log_lines;
+pub mod resource;
+pub mod tagging;
+pub mod tags;
+#[cfg(test)]
+mod tests;

@@ -1,3 +1,4 @@
 mod RowLemmas
 pub mod MapLemmas
 mod QueryLemmas
+mod Examples

@@ -1,9 +1,8 @@
 -- What the definitions give on worked examples.
-use Rattle.std.proofs.Common.{◌≡◌, ℕ, Bool, true, false, Option, None, Some, List, [], ◌∷◌, map, refl, ap, ◌∙◌, codes}
-use Rattle.std.specs.FinMap.{entries, from_sorted, entries-from_sorted}
+use Rattle.std.proofs.Common.{◌≡◌, ℕ, true, false, None, Some, List, [], ◌∷◌, refl, ap, codes}
+use Rattle.std.specs.FinMap.{from_sorted, entries-from_sorted}
 use Rattle.res_core.specs.Rising.{text_cmp}
 use Rattle.res_core.specs.declared.exported.Exported.{Exported}
-use Rattle.res_core.specs.declared.export_set.ExportSet.{ExportSet}
 use Rattle.export_store.specs.declared.export_place.ExportPlace.{ExportPlace}
 use Rattle.export_store.specs.Sets.{Sets}
 use Rattle.export_store.specs.Rows.{Entry}

@@ -1,0 +1,5 @@
+pub mod SetLemmas
+mod MapLemmas
+mod RowLemmas
+mod QueryLemmas
+mod Examples

@@ -1,0 +1,12 @@
+//! What the nodes of a site export, as versions that share their sets.
+#![tactic(auto)]
+
+pub mod export_place;
+pub mod export_places;
+pub mod laws;
+mod queries;
+mod row;
+mod rows;
+#[cfg(test)]
+mod tests;
+pub mod version;

@@ -1,0 +1,6 @@
+pub mod Shapes
+pub mod Sets
+pub mod Legal
+pub mod Counting
+pub mod Keeping
+pub mod Steps

@@ -8,11 +8,11 @@ use Rattle.std.proofs.lemmas.List.Sums.{sum_by-append}
 use Rattle.site_core.specs.Events.{Event, opens, publishes, deactivates, is_by, calls_of}
 use Rattle.site_core.specs.Counts.{count_in, SameCounts, AreCountsOf}
 
-module _ {S : Type 0} where
-  one_more : (b : Bool) (n : ℕ) → n + (cond b 1 0 + 0) ≡ cond b (n + 1) n
-  one_more true n = omega arith
-  one_more false n = omega arith
+one_more : (b : Bool) (n : ℕ) → n + (0 + cond b 1 0) ≡ cond b (n + 1) n
+one_more true n = omega arith
+one_more false n = omega arith
 
+module _ {S : Type 0} where
   calls_of-push : (author : ℕ) (h : List (Event S)) (e : Event S) → calls_of author (h ++ e ∷ []) ≡ cond (is_by author e) (calls_of author h + 1) (calls_of author h)
   calls_of-push author h e = sum_by-append (λ x. cond (is_by author x) 1 0) h (e ∷ []) ∙ one_more (is_by author e) (calls_of author h)
 

@@ -30,3 +30,12 @@ module _ {S C F : Type 0} (meaning : Meaning S C F) where
         version_is = next_is ∙ sym (sets_at-push core.history e);
         site_is = site_at-push core.history e later ∙ kept.site_is
       }
+
+  -- the same, where what is known speaks of the value as it was seen before
+  pub kept_append : (inside seen : Core S) → inside ≡ seen → (version next : Sets) (site : S) (e : Event S) → IsKept meaning inside version site →
+      MayFollow meaning seen.history e → is_opening e ≡ false → length seen.history < seen.limit →
+      next ≡ sets_after (sets_at seen.history (length seen.history)) e → IsKept meaning (with_event inside e) next site
+  kept_append inside seen same version next site e kept =
+      let P : Core S → Type 0 = λ core. MayFollow meaning core.history e → is_opening e ≡ false → length core.history < core.limit →
+          next ≡ sets_after (sets_at core.history (length core.history)) e → IsKept meaning (with_event inside e) next site in
+      subst P same (kept_push inside version next site e kept)

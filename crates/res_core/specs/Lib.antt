@@ -3,3 +3,7 @@ pub mod TagNames
 pub mod Settings
 pub mod AttributeViews
 pub mod ResourceCodes
+pub mod ExportedCodes
+pub mod ExportSetCodes
+pub mod Asked
+pub mod RequestViews

@@ -1,0 +1,3 @@
+mod RowLemmas
+pub mod MapLemmas
+mod QueryLemmas

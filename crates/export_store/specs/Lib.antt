@@ -1,0 +1,4 @@
+pub mod Sets
+pub mod ExportQueries
+pub mod Rows
+pub mod Laws

@@ -1,0 +1,10 @@
+use crate::resource::Resource;
+use pp_values::place::Place;
+
+/// A resource that a node exports.
+#[derive(Drop)]
+pub struct Exported {
+    /// Where the exporting node's manifest declares it.
+    pub node_place: Place,
+    pub item: Resource,
+}

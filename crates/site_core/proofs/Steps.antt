@@ -15,7 +15,7 @@ use Rattle.site_core.specs.Events.{Event, opens, is_opening}
 use Rattle.site_core.specs.Sets.{sets_after}
 use Rattle.site_core.specs.Legal.{meaning_at, MayFollow, Legal}
 use Rattle.site_core.specs.Core.{MOST_ENTRIES, Core, IsSound, IsKept}
-use Rattle.site_core.specs.Steps.{Step, snap, done, drop_call, deactivate, State, exports_of, opened_state, with_entry, with_flight, without_flight, publication, deactivation, after_done, after_step, after_steps, IsSoundState, RunsAreSound}
+use Rattle.site_core.specs.Steps.{Step, snap, done, drop_call, deactivate, State, made_set, opened_state, with_entry, with_flight, without_flight, publication, deactivation, after_done, after_step, after_steps, IsSoundState, RunsAreSound}
 use Rattle.site_core.proofs.Keeping.{kept_push}
 
 -- what makes a result of options be there
@@ -31,11 +31,11 @@ map_some : {X Y : Type 0} (f : X → Y) (o : Option X) (y : Y) → option_map f 
 map_some f None y is = cc
 map_some f (Some x) y is = (x, refl, cc)
 
-exports_are : {C F : Type 0} (meant : Result (C × ExportSet) F) (set : ExportSet) → exports_of meant ≡ Some set → HasExports meant set
+exports_are : {C F : Type 0} (meant : Result (C × ExportSet) F) (set : ExportSet) → made_set meant ≡ Some set → HasExports meant set
 exports_are (Ok made) set is = cc
 exports_are (Err fault) set is = cc
 
-exports_are_at : {C F : Type 0} (o : Option (Result (C × ExportSet) F)) (set : ExportSet) → option_and_then exports_of o ≡ Some set → IsSomeAnd o (λ meant. HasExports meant set)
+exports_are_at : {C F : Type 0} (o : Option (Result (C × ExportSet) F)) (set : ExportSet) → option_and_then made_set o ≡ Some set → IsSomeAnd o (λ meant. HasExports meant set)
 exports_are_at None set is = cc
 exports_are_at (Some meant) set is = exports_are meant set is
 
@@ -75,7 +75,7 @@ module _ {S C F : Type 0} (meaning : Meaning S C F) (limit : ℕ) where
   done_sound : (s t : State S) (flight author : ℕ) (node : List ℕ) (facts : Datum) (k : ℕ) → IsSoundState meaning limit s → length s.history < limit →
       slice_get s.flights flight ≡ Some k → after_done meaning limit s flight author node facts k ≡ Some t → IsSoundState meaning limit t
   done_sound s t flight author node facts k sound room at is =
-      let found = map_some _ (option_and_then exports_of (meaning_at meaning s.history k node facts)) t is in
+      let found = map_some _ (option_and_then made_set (meaning_at meaning s.history k node facts)) t is in
       let within : Within (length s.history) k =
           subst (Within (length s.history)) (get_or_from_slice_get s.flights flight k 0 at)
             (All-get_or (Within (length s.history)) s.flights flight 0 (slice_get_within s.flights flight k at) sound.flights) in

@@ -26,9 +26,9 @@ pub record State (S : Type 0) : Type 0 where
   pub flights : List ℕ
 
 -- the exports, where what is meant is no fault
-abbrev pub exports_of : {C F : Type 0} → Result (C × ExportSet) F → Option ExportSet
-exports_of (Ok made) = Some made.1
-exports_of (Err fault) = None
+abbrev pub made_set : {C F : Type 0} → Result (C × ExportSet) F → Option ExportSet
+made_set (Ok made) = Some made.1
+made_set (Err fault) = None
 
 module _ {S : Type 0} where
   -- just opened, with no call in flight
@@ -58,7 +58,7 @@ module _ {S C F : Type 0} (meaning : Meaning S C F) (limit : ℕ) where
   abbrev pub after_done : State S → ℕ → ℕ → List ℕ → Datum → ℕ → Option (State S)
   after_done s flight author node facts k =
       option_map (λ set. without_flight (with_entry s (publication s author node facts k set)) flight)
-      (option_and_then exports_of (meaning_at meaning s.history k node facts))
+      (option_and_then made_set (meaning_at meaning s.history k node facts))
 
   -- the state after a step, or nothing where the step can't be taken
   abbrev pub after_step : State S → Step → Option (State S)

@@ -1,7 +1,7 @@
 use crate::language::Language;
 
 /// What a request is answered, over catalogs `C` and faults `F`.
-#[derive(Debug, Drop)]
+#[derive(Debug, Drop, PartialEq)]
 pub enum Answer<C, F> {
     /// The catalog, made from the first `k` entries; the node's exports are entry `entry`.
     Served { entry: u32, k: u32, catalog: C },

@@ -1,3 +1,5 @@
+pub mod SetLemmas
+mod MapLemmas
 mod RowLemmas
-pub mod MapLemmas
 mod QueryLemmas
+mod Examples

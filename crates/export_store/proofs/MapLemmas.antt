@@ -1,11 +1,9 @@
 -- The calls of a version are those of its map.
-use Rattle.std.proofs.Common.{◌≡◌, ℕ, Bool, true, false, not, T, IsTrue, cond, Option, None, Some, List, [], length, refl, sym, ap, subst, ◌∙◌}
-use Rattle.std.specs.declared.cmp.Ordering.{Ordering}
-use Rattle.std.specs.declared.cmp.Ordering.TheVariants.{Equal}
-use Rattle.std.specs.Ordering.{nat_cmp, is_eq, eq_by_cmp}
+use Rattle.std.proofs.Common.{◌≡◌, ℕ, Bool, true, false, not, T, IsTrue, cond, Option, None, List, [], length, refl, sym, ap, subst, ◌∙◌}
+use Rattle.std.specs.Ordering.{is_eq, eq_by_cmp}
 use Rattle.std.specs.Cmp.{alike_right, eq_by_cmp_equiv}
-use Rattle.std.specs.Cmp.Lexicographic.{slice_cmp, nat_list_cmp_total}
-use Rattle.std.specs.FinMap.{FinMap, entries, empty, get, insert, remove, find, put, is_sorted, from_sorted, entries-from_sorted, get-from_sorted, entries-insert, get-remove, same_entries_map, same_map, len-entries, empty_of_len, slice_cmp-IsAntisymmetric, nat_cmp-IsAntisymmetric}
+use Rattle.std.specs.Cmp.Lexicographic.{nat_list_cmp_total}
+use Rattle.std.specs.FinMap.{entries, empty, insert, remove, find, put, is_sorted, from_sorted, entries-from_sorted, get-from_sorted, entries-insert, get-remove, same_entries_map, same_map, len-entries, empty_of_len, slice_cmp-IsAntisymmetric, nat_cmp-IsAntisymmetric}
 use Rattle.std.specs.FinMap.Entries.{is_sorted-put, is_sorted-where_key, find-where_key}
 use Rattle.res_core.specs.Rising.{text_cmp}
 use Rattle.res_core.specs.declared.export_set.ExportSet.{ExportSet}

@@ -1,7 +1,7 @@
-ghost use Rattle.std.specs.Prelude.{◌≡◌, [], ◌∷◌, ◌++◌, ◌↔◌, length, take, is_ok, if◌then◌else◌, IfOk, IsTrue, option_copied, slice_get, vec_len};
+ghost use Rattle.std.specs.Prelude.{◌≡◌, [], ◌∷◌, ◌++◌, ◌↔◌, length, is_ok, if◌then◌else◌, IsTrue, option_copied, slice_get};
 
-use pp_values::memory::Memory;
 use crate::export_place::ExportPlace;
+use pp_values::memory::Memory;
 use std::alloc::Global;
 use std::marker::Model;
 

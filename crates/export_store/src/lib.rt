@@ -7,4 +7,6 @@ pub mod laws;
 mod queries;
 mod row;
 mod rows;
+#[cfg(test)]
+mod tests;
 pub mod version;

@@ -15,7 +15,13 @@ use std::alloc::Global;
 use std::sync::Arc;
 
 /// Where the resources of this kind and tag stand in the rows of the other nodes.
-pub fn find_places(alloc: Global, rows: &[Arc<Row>], kind: &Text, tag: Option<&Text>, but_node: &Text) -> Result<Vec<ExportPlace>, Memory>
+pub fn find_places(
+    alloc: Global,
+    rows: &[Arc<Row>],
+    kind: &Text,
+    tag: Option<&Text>,
+    but_node: &Text,
+) -> Result<Vec<ExportPlace>, Memory>
     ensures { IfOk result (λ v. v.items ≡ found_in kind.now (option_copied tag.entry) but_node.now (entries_of rows.now)) }
 {
     let mut places = Vec::new(alloc);
@@ -29,7 +35,13 @@ pub fn find_places(alloc: Global, rows: &[Arc<Row>], kind: &Text, tag: Option<&T
 }
 
 /// Appends where the node's resources of this kind and tag stand.
-fn push_places(alloc: Global, places: &mut Vec<ExportPlace>, row: &Row, kind: &Text, tag: Option<&Text>) -> Result<(), Memory>
+fn push_places(
+    alloc: Global,
+    places: &mut Vec<ExportPlace>,
+    row: &Row,
+    kind: &Text,
+    tag: Option<&Text>,
+) -> Result<(), Memory>
     ensures { OnOk result (places.new.items ≡ places.old.items ++ found_in_set kind.now (option_copied tag.entry) row.now.node 0 (arc_value row.now.set).items) }
 {
     let items = row.set.items.as_slice();

@@ -1,9 +1,7 @@
 //! Rows by the node's name, in byte order. Rows are shared, so to copy them is to copy pointers.
-ghost use Rattle.std.specs.Prelude.{◌≡◌, ◌+◌, ◌≤◌, length, not, IfOk, IsTrue, option_copied};
+ghost use Rattle.std.specs.Prelude.{◌≡◌, ◌≤◌, length, IfOk, IsTrue, option_copied};
 ghost use Rattle.std.specs.Arc.{arc_value};
-ghost use Rattle.std.specs.Ordering.{eq_by_cmp};
 ghost use Rattle.std.specs.FinMap.{find, put, is_sorted};
-ghost use Rattle.std.specs.FinMap.Entries.{where_key};
 ghost use Rattle.res_core.specs.Rising.{text_cmp};
 ghost use Rattle.export_store.specs.Rows.{entries_of, others, count_below};
 

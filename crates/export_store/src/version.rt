@@ -86,7 +86,13 @@ impl Version {
 
     /// Where the exported resources of this kind stand: by the node's name in byte order, then by the place in its set.
     /// With a tag those that have it, ASCII letters folded. Those of `but_node` are left out.
-    pub fn exported(&self, alloc: Global, kind: &Text, tag: Option<&Text>, but_node: &Text) -> Result<ExportPlaces, Memory>
+    pub fn exported(
+        &self,
+        alloc: Global,
+        kind: &Text,
+        tag: Option<&Text>,
+        but_node: &Text,
+    ) -> Result<ExportPlaces, Memory>
         ensures { IfOk result (λ p. p ≡ found kind.now (option_copied tag.entry) but_node.now self.now) }
     {
         let places = find_places(alloc, &self.rows, kind, tag, but_node)?;

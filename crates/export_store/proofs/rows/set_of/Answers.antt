@@ -1,4 +1,4 @@
-use Rattle.std.proofs.Common.{IsTrue, Some, ◌++◌, ◌∷◌, T, subst, sym, ap, ◌∙◌}
+use Rattle.std.proofs.Common.{Some, T, subst, sym, ap, ◌∙◌}
 use Rattle.std.specs.Arc.{arc_value}
 use Rattle.std.specs.FinMap.{find, is_sorted}
 use Rattle.res_core.specs.Rising.{text_cmp}

@@ -4,3 +4,4 @@ pub mod Legal
 pub mod Counting
 pub mod Keeping
 pub mod Steps
+pub mod Meant

@@ -115,10 +115,7 @@ impl<L: Language> CoreState<L> {
                 author = author; call = calls_of author self.old.history; node = node; facts = view facts; k = snapshot.k; set = set }))) }
         ensures err { OnErr result (self.new ≡ self.old) }
     {
-        let number = self.len();
-        if number >= self.limit {
-            return Err(DoneStop::Full(number));
-        }
+        let number = self.next_number()?;
         let set = Arc::new(alloc, set)?;
         let version = self.version.with(alloc, &node, set.clone()?)?;
         let call = self.counts.count(author);
@@ -135,10 +132,7 @@ impl<L: Language> CoreState<L> {
             (self.new ≡ with_event self.old (deactivates (record { author = author; call = calls_of author self.old.history; node = node }))) }
         ensures err { OnErr result (self.new ≡ self.old) }
     {
-        let number = self.len();
-        if number >= self.limit {
-            return Err(DoneStop::Full(number));
-        }
+        let number = self.next_number()?;
         let version = self.version.without(alloc, &node)?;
         let call = self.counts.count(author);
         self.add(author, Entry::Deactivate { author, call, node }, version)?;
@@ -150,6 +144,17 @@ impl<L: Language> CoreState<L> {
         ensures { self.new ≡ self.old }
     {
         drop(snapshot);
+    }
+
+    /// The number of the next entry.
+    fn next_number(&self) -> Result<u32, DoneStop>
+        ensures { Stops self.now result }
+    {
+        let number = self.len();
+        if number >= self.limit {
+            return Err(DoneStop::Full(number));
+        }
+        Ok(number)
     }
 
     /// The history of all that happened.

@@ -5,3 +5,4 @@ pub mod Counting
 pub mod Keeping
 pub mod Steps
 pub mod Meant
+pub mod Growing

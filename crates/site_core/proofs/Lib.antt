@@ -1,0 +1,8 @@
+pub mod Shapes
+pub mod Sets
+pub mod Legal
+pub mod Counting
+pub mod Keeping
+pub mod Steps
+pub mod Meant
+pub mod Growing

@@ -1,0 +1,92 @@
+-- What a history tells: its entries, with what each value in them says.
+use Rattle.std.specs.Prelude.{◌≡◌, ◌⊎◌, ℕ, Bool, true, false, ◌==◌, ◌&&◌, List, [], ◌∷◌, refl}
+use Rattle.std.proofs.Common.{inl, inr}
+use Rattle.std.specs.List.{list_all, count_by}
+use Rattle.std.specs.Coded.{Coded, code_by, coded×, coded⊎, coded_list, coded_ℕ}
+use Rattle.pp_values.specs.Datum.{Datum}
+use Rattle.pp_values.specs.Codes.{coded_text, coded_datum}
+use Rattle.res_core.specs.declared.export_set.ExportSet.{ExportSet}
+use Rattle.res_core.specs.ExportSetCodes.{coded_export_set}
+use Rattle.site_core.specs.Facts.{are_facts}
+
+-- a node's exports take the place of those that it had; `call` numbers the author's entries from 0,
+-- and the set was made from the first `k` entries
+pub record Publication : Type 0 where
+  pub author : ℕ
+  pub call : ℕ
+  pub node : List ℕ
+  pub facts : Datum
+  pub k : ℕ
+  pub set : ExportSet
+
+-- a node exports nothing any more
+pub record Deactivation : Type 0 where
+  pub author : ℕ
+  pub call : ℕ
+  pub node : List ℕ
+
+pub data Event (S : Type 0) : Type 0 where
+  opens : S → Event S
+  publishes : Publication → Event S
+  deactivates : Deactivation → Event S
+
+module _ {S : Type 0} where
+  abbrev pub is_opening : Event S → Bool
+  is_opening (opens site) = true
+  is_opening (publishes p) = false
+  is_opening (deactivates d) = false
+
+  -- may stand behind other entries: it opens no site, and has facts where it has any
+  abbrev pub is_later : Event S → Bool
+  is_later (opens site) = false
+  is_later (publishes p) = are_facts p.facts
+  is_later (deactivates d) = true
+
+  -- the first one opens a site, and no other one does
+  abbrev pub are_entries : List (Event S) → Bool
+  are_entries [] = false
+  are_entries (e ∷ es) = is_opening e && list_all is_later es
+
+  abbrev pub is_by : ℕ → Event S → Bool
+  is_by author (opens site) = false
+  is_by author (publishes p) = p.author == author
+  is_by author (deactivates d) = d.author == author
+
+  -- how many of the entries are of this author
+  abbrev pub calls_of : ℕ → List (Event S) → ℕ
+  calls_of author h = count_by (is_by author) h
+
+-- the codes by which a proof tells entries apart
+abbrev pub coded_publication : Coded Publication
+coded_publication =
+    code_by ((ℕ × ℕ) × ((List ℕ × Datum) × (ℕ × ExportSet)))
+    (coded× (coded× coded_ℕ coded_ℕ) (coded× (coded× coded_text coded_datum) (coded× coded_ℕ coded_export_set)))
+    (λ p. ((p.author, p.call), ((p.node, p.facts), (p.k, p.set))))
+    (λ q. record { author = q.0.0; call = q.0.1; node = q.1.0.0; facts = q.1.0.1; k = q.1.1.0; set = q.1.1.1 }) (λ _. refl)
+
+abbrev pub coded_deactivation : Coded Deactivation
+coded_deactivation =
+    code_by ((ℕ × ℕ) × List ℕ) (coded× (coded× coded_ℕ coded_ℕ) coded_text) (λ d. ((d.author, d.call), d.node))
+    (λ q. record { author = q.0.0; call = q.0.1; node = q.1 }) (λ _. refl)
+
+module _ {S : Type 0} where
+  abbrev pub cases : Event S → S ⊎ (Publication ⊎ Deactivation)
+  cases (opens site) = inl site
+  cases (publishes p) = inr (inl p)
+  cases (deactivates d) = inr (inr d)
+
+  abbrev pub event : S ⊎ (Publication ⊎ Deactivation) → Event S
+  event (inl site) = opens site
+  event (inr (inl p)) = publishes p
+  event (inr (inr d)) = deactivates d
+
+  pub event-cases : (e : Event S) → event (cases e) ≡ e
+  event-cases (opens site) = refl
+  event-cases (publishes p) = refl
+  event-cases (deactivates d) = refl
+
+  abbrev pub coded_event : Coded S → Coded (Event S)
+  coded_event site = code_by (S ⊎ (Publication ⊎ Deactivation)) (coded⊎ site (coded⊎ coded_publication coded_deactivation)) cases event event-cases
+
+  abbrev pub coded_events : Coded S → Coded (List (Event S))
+  coded_events site = coded_list (coded_event site)

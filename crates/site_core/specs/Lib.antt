@@ -1,0 +1,11 @@
+pub mod Facts
+pub mod Meaning
+pub mod Events
+pub mod EntryViews
+pub mod Sets
+pub mod Legal
+pub mod Core
+pub mod Answers
+pub mod Snapshots
+pub mod Counts
+pub mod Steps

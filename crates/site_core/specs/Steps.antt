@@ -1,0 +1,86 @@
+-- What may happen to a core, and what it comes to.
+use Rattle.std.specs.Prelude.{◌≡◌, ℕ, ◌≤◌, nat_lt, if◌then◌else◌, List, [], ◌∷◌, ◌++◌, length, remove, slice_get, Option, None, Some, Result, Ok, Err, option_map, option_and_then}
+use Rattle.std.specs.List.{All}
+use Rattle.std.specs.FinMap as fin
+use Rattle.pp_values.specs.Datum.{Datum}
+use Rattle.res_core.specs.declared.export_set.ExportSet.{ExportSet}
+use Rattle.export_store.specs.Sets.{Sets}
+use Rattle.site_core.specs.Meaning.{Meaning}
+use Rattle.site_core.specs.Events.{Event, opens, publishes, deactivates, calls_of}
+use Rattle.site_core.specs.Sets.{sets_after}
+use Rattle.site_core.specs.Legal.{meaning_at}
+use Rattle.site_core.specs.Core.{MOST_ENTRIES, IsKept}
+
+-- A compile begins (`snap`) and ends: it publishes (`done`), or its call is dropped. The calls in flight are numbered from 0.
+pub data Step : Type 0 where
+  snap : Step
+  done : (flight author : ℕ) (node : List ℕ) (facts : Datum) → Step
+  drop_call : (flight : ℕ) → Step
+  deactivate : (author : ℕ) (node : List ℕ) → Step
+
+-- a history, the version and the site that are kept beside it, and of each call in flight the number of entries that it began with
+pub record State (S : Type 0) : Type 0 where
+  pub history : List (Event S)
+  pub version : Sets
+  pub site : S
+  pub flights : List ℕ
+
+-- the exports, where what is meant is no fault
+abbrev pub made_set : {C F : Type 0} → Result (C × ExportSet) F → Option ExportSet
+made_set (Ok made) = Some made.1
+made_set (Err fault) = None
+
+module _ {S : Type 0} where
+  -- just opened, with no call in flight
+  abbrev pub opened_state : S → State S
+  opened_state site = record { history = opens site ∷ []; version = fin.empty; site = site; flights = [] }
+
+  -- one more entry, after which the version is kept up
+  abbrev pub with_entry : State S → Event S → State S
+  with_entry s e = record s { history = s.history ++ e ∷ []; version = sets_after s.version e }
+
+  -- one more call in flight, which begins with the entries so far
+  abbrev pub with_flight : State S → State S
+  with_flight s = record s { flights = s.flights ++ length s.history ∷ [] }
+
+  abbrev pub without_flight : State S → ℕ → State S
+  without_flight s flight = record s { flights = remove s.flights flight }
+
+  abbrev pub publication : State S → ℕ → List ℕ → Datum → ℕ → ExportSet → Event S
+  publication s author node facts k set =
+      publishes (record { author = author; call = calls_of author s.history; node = node; facts = facts; k = k; set = set })
+
+  abbrev pub deactivation : State S → ℕ → List ℕ → Event S
+  deactivation s author node = deactivates (record { author = author; call = calls_of author s.history; node = node })
+
+module _ {S C F : Type 0} (meaning : Meaning S C F) (limit : ℕ) where
+  -- the call with that k publishes, where its meaning at k is no fault
+  abbrev pub after_done : State S → ℕ → ℕ → List ℕ → Datum → ℕ → Option (State S)
+  after_done s flight author node facts k =
+      option_map (λ set. without_flight (with_entry s (publication s author node facts k set)) flight)
+      (option_and_then made_set (meaning_at meaning s.history k node facts))
+
+  -- the state after a step, or nothing where the step can't be taken
+  abbrev pub after_step : State S → Step → Option (State S)
+  after_step s snap = Some (with_flight s)
+  after_step s (done flight author node facts) =
+      if nat_lt (length s.history) limit then option_and_then (after_done s flight author node facts) (slice_get s.flights flight) else None
+  after_step s (drop_call flight) = if nat_lt flight (length s.flights) then Some (without_flight s flight) else None
+  after_step s (deactivate author node) = if nat_lt (length s.history) limit then Some (with_entry s (deactivation s author node)) else None
+
+  -- the state after all steps in turn
+  abbrev pub after_steps : State S → List Step → Option (State S)
+  after_steps s [] = Some s
+  after_steps s (step ∷ steps) = option_and_then (λ t. after_steps t steps) (after_step s step)
+
+  -- the history is legal and within its limit, the version and the site are those after all entries,
+  -- and each call in flight began with entries of the history
+  pub record IsSoundState (s : State S) : Type 0 where
+    pub kept : IsKept meaning (record { history = s.history; limit = limit }) s.version s.site
+    pub flights : All (λ k. (1 ≤ k) × (k ≤ length s.history)) s.flights
+
+-- whatever the steps from the opening on
+abbrev pub RunsAreSound : {S C F : Type 0} → Meaning S C F → Type 0
+RunsAreSound {S} meaning =
+    (limit : ℕ) (site : S) (steps : List Step) (s : State S) → 1 ≤ limit → limit ≤ MOST_ENTRIES →
+    after_steps meaning limit (opened_state site) steps ≡ Some s → IsSoundState meaning limit s

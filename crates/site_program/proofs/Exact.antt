@@ -9,7 +9,7 @@ use Rattle.site_program.specs.Words.{Asked, manifest, usage, bad_word, asked_of}
 use Rattle.site_program.specs.World.{World}
 use Rattle.site_program.proofs.Told.{read_is_left, left_is_longer, status-text, status-no_text, status-long}
 
--- where the words ask for nothing the status is 10
+-- where the words are faulty the status is 10
 pub status_for-complaint : (asked : Asked) (input : List ℕ) → IsComplaint asked → status_for asked input ≡ 10
 status_for-complaint (manifest node) input h = absurd h
 status_for-complaint usage input h = refl

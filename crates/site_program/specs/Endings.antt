@@ -16,7 +16,7 @@ use Rattle.site_program.specs.World.{World, line}
 abbrev pub manifest_limit : ℕ
 manifest_limit = 4194304
 
--- what the error stream gets where the words ask for nothing
+-- what the error stream gets where the words are faulty
 abbrev pub complaint : Asked → List ℕ
 complaint (manifest node) = []
 complaint usage = line (codes "usage: manifest NODE")
@@ -64,7 +64,7 @@ Ends e.Memory words before after =
     HasWorked e.Memory words before after ⊎ HasStopped (codes "memory") HasReadSome words before after
 
 -- The status of a command on this input, where nothing fails and memory is had: 0 where its meaning is a
--- catalog, 1 where it is a fault, 11 where the input is too long or no text, and 10 where the words ask for nothing.
+-- catalog, 1 where it is a fault, 11 where the input is too long or no text, and 10 where the words are faulty.
 abbrev pub meaning_status : Result Catalog Fault → ℕ
 meaning_status (Ok catalog) = 0
 meaning_status (Err fault) = 1

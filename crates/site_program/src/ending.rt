@@ -10,7 +10,7 @@ pub enum Ending {
     /// The work was refused, and the error stream says why.
     Refused,
 
-    /// The words ask for nothing.
+    /// The words are faulty.
     BadWords,
 
     /// The input is not what the command reads.

@@ -22,10 +22,10 @@ const MANIFEST_LIMIT: usize = 4_194_304;
 /// |-|-|-|
 /// | 0 | the catalog was written | none |
 /// | 1 | the manifest has no catalog | its fault |
-/// | 10 | the words ask for nothing | `usage: manifest NODE` or `bad word WORD` |
+/// | 10 | the words are faulty | `usage: manifest NODE` or `bad word WORD` |
 /// | 11 | the input is longer than 4 MiB, or no text in UTF-8 | `B3 manifests/site.pp`, `B2 manifests/site.pp` |
 /// | 12 | the input could not be read | `read fault` |
-/// | 13 | the output, or the fault's line, could not be written | none |
+/// | 13 | the output, or the line of a fault, could not be written | none, or a front of the fault's line |
 /// | 16 | want of memory | `memory` |
 ///
 /// The first that is met decides, in the order: words (10), input (12, 11), work, output (0, 1 or 13).

@@ -11,11 +11,7 @@ use Rattle.res_core.specs.AttributeViews.{settings}
 use Rattle.res_core.specs.Settings.{Setting, setting_names}
 use Rattle.res_core.proofs.RisingLemmas.{above_first}
 use Rattle.compile_core.specs.ValueForm.{form}
-use Rattle.compile_core.specs.CatalogText.{attribute_members}
-
-abbrev pub put_all : List Setting → Members → Members
-put_all [] ms = ms
-put_all (s ∷ ss) ms = put_all ss (put s.0 (form s.1) ms)
+use Rattle.compile_core.specs.CatalogText.{attribute_members, put_all}
 
 put_last : (done : List Setting) (s : Setting) (left : List Setting) → is_rising (setting_names (done ++ s ∷ left)) ≡ true → put s.0 (form s.1) (attribute_members done) ≡ attribute_members (done ++ s ∷ [])
 put_last [] s left h = refl

@@ -10,7 +10,7 @@ use Rattle.res_core.specs.Settings.{Setting}
 use Rattle.res_core.specs.declared.held.Held.{Held}
 use Rattle.res_core.specs.declared.edge.Edge.{Edge}
 use Rattle.res_core.specs.declared.catalog.Catalog.{Catalog}
-use Rattle.compile_core.specs.ValueForm.{form, list_form, pair_forms, member_forms, is_plain, long_form}
+use Rattle.compile_core.specs.ValueForm.{form, list_form, pair_forms, member_forms, is_plain, reference_form, long_form}
 use Rattle.compile_core.specs.CatalogText.{index_data, attribute_members, held_object, held_data, edge_data, catalog_object, catalog_data}
 
 either : (a b : Bool) → a ≡ false → b ≡ false → (a || b) ≡ false
@@ -20,9 +20,14 @@ integer_no_float : (z : ℤ) → has_float (number (of_integer z)) ≡ false
 integer_no_float (pos n) = refl
 integer_no_float (negsuc n) = refl
 
-hash_no_float : (plain : Bool) (es : Entries) → members_have_float (member_forms es) ≡ false → items_have_float (pair_forms es) ≡ false → has_float (if plain then object (member_forms es) else long_form (pair_forms es)) ≡ false
+hash_no_float : (plain : Bool) (es : Entries) → members_have_float (member_forms es) ≡ false → items_have_float (pair_forms es) ≡ false → has_float (if plain then object (member_forms es) else long_form (array (pair_forms es))) ≡ false
+unfolding long_form
 hash_no_float true es short long = short
 hash_no_float false es short long = either _ _ long refl
+
+reference_no_float : (kind title : List ℕ) → has_float (reference_form kind title) ≡ false
+unfolding reference_form
+reference_no_float kind title = refl
 
 mutual
   pub form_no_float : (x : Datum) → has_float (form x) ≡ false
@@ -32,7 +37,7 @@ mutual
   form_no_float (d.text t) = refl
   form_no_float (d.list ds) = list_no_float ds
   form_no_float (d.hash es) = hash_no_float (is_plain es) es (members_no_float es) (pairs_no_float es)
-  form_no_float (d.reference r) = refl
+  form_no_float (d.reference r) = reference_no_float r.kind r.title
   form_no_float (d.kind s) = refl
   form_no_float d.default = refl
 

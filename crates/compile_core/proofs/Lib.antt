@@ -3,3 +3,5 @@ pub mod Floats
 pub mod AttributeMembers
 pub mod Declared
 pub mod Forms
+pub mod FormLemmas
+mod Examples

@@ -1,7 +1,7 @@
 -- The text of a catalog: compact JSON, with the members of each object in byte order.
 use Rattle.std.specs.Prelude.{ℕ, Bool, List, [], ◌∷◌, map, codes}
 use Rattle.std.specs.List.{list_all}
-use Rattle.serde_json.specs.Data.{Data, boolean, number, unsigned, string, array, object, no_items, item, Members, no_members, member}
+use Rattle.serde_json.specs.Data.{Data, boolean, number, unsigned, string, array, object, no_items, item, Members, no_members, member, put}
 use Rattle.serde_json.specs.View.{items_of}
 use Rattle.serde_json.specs.Written.{compact_text}
 use Rattle.pp_values.specs.Words.{kind_text}
@@ -23,10 +23,15 @@ attribute_members (s ∷ ss) = member s.0 (form s.1) (attribute_members ss)
 unfoldable pub held_object : Data → Data → Data → List ℕ → List ℕ → Data
 held_object attributes inside tags title kind =
     object (member (codes "attrs") attributes
-      (member (codes "in") inside
-        (member (codes "tags") tags
-          (member (codes "title") (string title)
-            (member (codes "type") (string kind) no_members)))))
+    (member (codes "in") inside
+    (member (codes "tags") tags
+    (member (codes "title") (string title)
+    (member (codes "type") (string kind) no_members)))))
+
+-- the attributes put into an object's members one after another
+abbrev pub put_all : List Setting → Members → Members
+put_all [] ms = ms
+put_all (s ∷ ss) ms = put_all ss (put s.0 (form s.1) ms)
 
 unfoldable pub held_data : Held → Data
 held_data h =
@@ -40,9 +45,9 @@ edge_data e = array (item (index_data e.from) (item (index_data e.to) (item (boo
 unfoldable pub catalog_object : Data → List ℕ → Data → Data
 catalog_object edges node resources =
     object (member (codes "catalog") (index_data 1)
-      (member (codes "edges") edges
-        (member (codes "node") (string node)
-          (member (codes "resources") resources no_members))))
+    (member (codes "edges") edges
+    (member (codes "node") (string node)
+    (member (codes "resources") resources no_members))))
 
 unfoldable pub catalog_data : Catalog → Data
 catalog_data c = catalog_object (array (items_of (map edge_data c.edges))) c.node (array (items_of (map held_data c.resources)))

@@ -48,7 +48,7 @@ main_tags = tags (codes "class") (codes "main") [] []
 unfoldable pub main_class : Held
 main_class = record {
   item = record { kind = codes "class"; title = codes "main"; attributes = []; tags = main_tags };
-  inside = []
+  inside = [];
 }
 
 abbrev pub message_settings : Option (List ℕ) → List Setting
@@ -58,7 +58,7 @@ message_settings (Some message) = (codes "message", text message) ∷ []
 unfoldable pub notify_resource : Notify → Held
 notify_resource n = record {
   item = record { kind = codes "notify"; title = n.title; attributes = message_settings n.message; tags = tags (codes "notify") n.title [] main_tags };
-  inside = 0 ∷ []
+  inside = 0 ∷ [];
 }
 
 unfoldable pub catalog_of : List ℕ → List Notify → Catalog

@@ -4,8 +4,9 @@ use Rattle.std.specs.List.{starts_with}
 use Rattle.serde_json.specs.Data.{Data, null, boolean, number, string, array, object, Items, no_items, item, Members, no_members, member}
 use Rattle.serde_json.specs.Find.{of_integer}
 use Rattle.pp_values.specs.Datum as d
-use Rattle.pp_values.specs.Datum.{Datum, Entries, no_entries, entry}
+use Rattle.pp_values.specs.Datum.{Datum, Pair, Entries, no_entries, entry}
 use Rattle.res_core.specs.Rising.{precedes}
+use Rattle.res_core.specs.Settings.{Setting}
 
 -- the text is a key of a short form: it does not begin with `__p`
 abbrev pub is_plain_name : List ℕ → Bool
@@ -23,13 +24,13 @@ is_plain (entry (d.text t) v es) = is_plain_name t && (precedes t (first_key es)
 is_plain (entry k v es) = false
 
 -- a reference: its kind in lower case, its title as it is
-abbrev pub reference_form : List ℕ → List ℕ → Data
+unfoldable pub reference_form : List ℕ → List ℕ → Data
 reference_form kind title =
     object (member (codes "__ptype") (string (codes "Ref")) (member (codes "kind") (string kind) (member (codes "title") (string title) no_members)))
 
 -- a hash whose keys are no names in order: its keys and values in turn
-abbrev pub long_form : Items → Data
-long_form items = object (member (codes "__ptype") (string (codes "Hash")) (member (codes "__pvalue") (array items) no_members))
+unfoldable pub long_form : Data → Data
+long_form items = object (member (codes "__ptype") (string (codes "Hash")) (member (codes "__pvalue") items no_members))
 
 -- A data type and the literal `default` have no form (`has_form`); `null` stands in its place here.
 abbrev mutual
@@ -39,7 +40,7 @@ abbrev mutual
   form (d.int z) = number (of_integer z)
   form (d.text t) = string t
   form (d.list ds) = array (list_form ds)
-  form (d.hash es) = if is_plain es then object (member_forms es) else long_form (pair_forms es)
+  form (d.hash es) = if is_plain es then object (member_forms es) else long_form (array (pair_forms es))
   form (d.reference r) = reference_form r.kind r.title
   form (d.kind s) = null
   form d.default = null
@@ -76,3 +77,14 @@ abbrev mutual
   pub entries_have_form : Entries → Bool
   entries_have_form no_entries = true
   entries_have_form (entry k v es) = has_form k && (has_form v && entries_have_form es)
+
+-- each key's form and its value's, in turn
+abbrev pub pair_data : List Pair → List Data
+pair_data [] = []
+pair_data (p ∷ ps) = form p.0 ∷ form p.1 ∷ pair_data ps
+
+-- the pairs up to the first key that is no text, as settings
+abbrev pub plain_settings : Entries → List Setting
+plain_settings no_entries = []
+plain_settings (entry (d.text t) v es) = (t, v) ∷ plain_settings es
+plain_settings (entry k v es) = []

@@ -44,7 +44,12 @@ fn catalog_value(alloc: Global, catalog: &Catalog) -> Result<Json, Memory>
 }
 
 #[tactic(auto, unfolding(crate::specs::CatalogText::catalog_object))]
-fn catalog_object(alloc: Global, edges: Json, node: &str, resources: Json) -> Result<Json, AllocError>
+fn catalog_object(
+    alloc: Global,
+    edges: Json,
+    node: &str,
+    resources: Json,
+) -> Result<Json, AllocError>
     ensures { IfOk result (λ j. json_view j ≡ object_of_catalog (json_view edges) node.now (json_view resources)) }
 {
     json!(in alloc; {"catalog": 1u32, "edges": edges, "node": node, "resources": resources})

@@ -151,8 +151,8 @@ fn write_details(out: &mut String, what: &What) -> Result<(), Memory>
         | What::BadData(text)
         | What::BadInterpolation(text)
         | What::Failed(text) => write_text(out, text),
-        What::MissingParameter { reference, name }
-        | What::UnknownParameter { reference, name } => write_parameter(out, reference, name),
+        What::MissingParameter { reference, name } | What::UnknownParameter { reference, name } =>
+            write_parameter(out, reference, name),
         What::NoOverrideTarget(reference) | What::NoRelationTarget(reference) => {
             write_reference(out, reference)
         }

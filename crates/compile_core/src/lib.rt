@@ -4,4 +4,6 @@
 pub mod catalog_texts;
 pub mod compiling;
 pub mod fault_texts;
+#[cfg(test)]
+mod tests;
 pub mod value_forms;

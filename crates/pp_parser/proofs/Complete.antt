@@ -1,12 +1,11 @@
 -- What is in the grammar is read.
-use Rattle.std.proofs.Common.{◌≡◌, ℕ, ◌+◌, ◌<◌, ◌≤◌, Bool, true, false, not, ◌&&◌, ◌==◌, List, [], ◌∷◌, ◌++◌, length, Option, Some, None, Result, Ok, Err, refl, sym, ap, ◌∙◌, subst, append_assoc, append-nil, length-append, arith, rules}
-use Rattle.pp_parser.specs.declared.token.Kind.{Kind}
+use Rattle.std.proofs.Common.{◌≡◌, ℕ, ◌<◌, true, not, ◌==◌, List, [], ◌∷◌, ◌++◌, length, Option, Ok, refl, sym, ap, ◌∙◌, append_assoc, append-nil, length-append, arith}
 use Rattle.pp_parser.specs.declared.token.Kind.TheVariants as kinds
 use Rattle.pp_parser.specs.declared.tree.Notify.{Notify}
 use Rattle.pp_parser.specs.Grammar.{value, notify_of, IsMessage, IsNotify, Reads}
 use Rattle.pp_parser.specs.Grammar as grammar
 use Rattle.pp_parser.specs.Manifest.{statements_from, between}
-use Rattle.pp_parser.specs.Steps.{and_then, pure, ◌>>=◌, spot, text_spot, sees, rest, eat, expect, text, title, message, notify}
+use Rattle.pp_parser.specs.Steps.{sees, rest, eat, expect, text, title, message, notify}
 use Rattle.pp_parser.specs.Tokens.{Lexeme, same_kind, unescaped}
 use Rattle.pp_parser.proofs.Turns.{statement_more}
 
@@ -21,7 +20,6 @@ not_empty [] full = absurd (full (unfold unescaped in refl))
 not_empty (b ∷ z) full = grind arith
 
 module _ (path : List ℕ) where
-
   notify_is : (front left : List Lexeme) (n : Notify) → IsNotify path front n → notify path (front ++ left) ≡ Ok (n, left)
   unfolding notify expect title sees rest same_kind
   notify_is front left n (grammar.notify name brace head colon close attribute m nk bk hk full ck said ek) =

@@ -1,5 +1,5 @@
 -- Where F1 stands.
-use Rattle.std.proofs.Common.{◌≡◌, ◌⊎◌, inl, inr, ⊎_elim, ℕ, zero, suc, ◌+◌, ◌<◌, ◌≤◌, Bool, true, false, List, [], ◌∷◌, ◌++◌, length, Option, Some, None, Result, Ok, Err, refl, sym, ap, ◌∙◌, subst, append_assoc, append-nil, length-append, arith, rules}
+use Rattle.std.proofs.Common.{◌≡◌, ◌⊎◌, inl, inr, ⊎_elim, ℕ, zero, suc, ◌≤◌, List, [], ◌∷◌, ◌++◌, length, Option, Some, None, Result, Ok, Err, refl, sym, ap, ◌∙◌, subst, append_assoc, append-nil, arith}
 use Rattle.pp_parser.specs.declared.refusal.Spot.{Spot}
 use Rattle.pp_parser.specs.declared.refusal.Spot.TheVariants as spots
 use Rattle.pp_parser.specs.declared.token.Kind.{Kind}
@@ -9,7 +9,7 @@ use Rattle.pp_parser.specs.Grammar.{notify_of, IsNotify, Reads, GoesOn, GoesOnWi
 use Rattle.pp_parser.specs.Grammar as grammar
 use Rattle.pp_parser.specs.Manifest.{Position, finish, between, named, opened, titled, parted, asked, pointed, valued, ended, Move, to, closes, advance, step, refused, statements_from, line_of}
 use Rattle.pp_parser.specs.Steps.{Outcome, spot_of, text_spot_of, notify}
-use Rattle.pp_parser.specs.Tokens.{Lexeme, same_kind, end_line}
+use Rattle.pp_parser.specs.Tokens.{Lexeme, same_kind}
 use Rattle.pp_parser.proofs.Reading.{begins, followed}
 use Rattle.pp_parser.proofs.Sound.{notify_ok, notify_shorter}
 use Rattle.pp_parser.proofs.Complete.{statements_read}
@@ -19,7 +19,6 @@ followed_ok (Ok p) f y h = (p, refl, h)
 followed_ok (Err e) f y h = absurd (cc)
 
 module _ (path : List ℕ) where
-
   -- what was read is in the grammar, for at most n tokens
   in_grammar : (n : ℕ) (ts : List Lexeme) (found ns : List Notify) → length ts ≤ n → statements_from path ts found between ≡ Ok ns → (ms : List Notify) × Reads path ts ms × (ns ≡ found ++ ms)
   unfolding statements_from
@@ -131,7 +130,6 @@ module _ (path : List ℕ) where
   finish_end _ found spot is = cc
 
   module _ (end : ℕ) (spot : Spot) where
-
     -- F1 of the tokens from a place on
     abbrev Faults : List Lexeme → List Lexeme → Type 0
     Faults front ts = FaultsAt path end front ts (line_of end spot)
@@ -195,10 +193,10 @@ module _ (path : List ℕ) where
     unfolding statements_from Leads
     faults_from [] front found p leads is =
         placed front [] spots.End (finish_end p found spot is) (grammar.at_end front (λ ns reads.
-            let read = statements_read path front ns [] reads in
-            let refuses = ap (λ us. statements_from path us [] between) (sym (append-nil front)) ∙ leads [] ∙ is in
-            let both = sym refuses ∙ read in
-            cc))
+        let read = statements_read path front ns [] reads in
+        let refuses = ap (λ us. statements_from path us [] between) (sym (append-nil front)) ∙ leads [] ∙ is in
+        let both = sym refuses ∙ read in
+        cc))
     faults_from (t ∷ ts) front found p leads is = by_move (step path p t) t ts front found p (λ front found p leads is. faults_from ts front found p leads is) leads refl is
 
     pub faults : (ts : List Lexeme) → statements_from path ts [] between ≡ Err spot → FaultsAt path end [] ts (line_of end spot)

@@ -1,6 +1,9 @@
 pub mod Complete
+mod Examples
 pub mod Faults
+pub mod FileLaws
 pub mod LexLemmas
+pub mod Lines
 pub mod Parts
 pub mod QuotedLemmas
 pub mod Reading

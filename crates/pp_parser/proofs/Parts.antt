@@ -16,7 +16,6 @@ abbrev pub from_arrow : Parser (Option (List ℕ))
 from_arrow = expect kinds.Arrow >>= (λ _. from_text)
 
 module _ (path : List ℕ) where
-
   abbrev pub from_close : Lexeme → Option (List ℕ) → Parser Notify
   from_close x m = expect kinds.CloseBrace >>= (λ _. pure (notify_of path x m))
 

@@ -1,14 +1,14 @@
 -- The reader of a whole file goes on as the steps of one statement do.
-use Rattle.std.proofs.Common.{◌≡◌, ℕ, ◌+◌, ◌<◌, ◌≤◌, Bool, true, false, not, ◌&&◌, ◌==◌, cond, List, [], ◌∷◌, ◌++◌, length, Option, Some, None, Result, Ok, Err, refl, sym, ap, ◌∙◌, arith}
+use Rattle.std.proofs.Common.{◌≡◌, ℕ, Bool, true, false, not, ◌&&◌, ◌==◌, cond, List, [], ◌∷◌, ◌++◌, length, Option, Some, None, Result, Ok, Err, refl, sym, ◌∙◌}
 use Rattle.pp_parser.specs.declared.refusal.Spot.{Spot}
 use Rattle.pp_parser.specs.declared.refusal.Spot.TheVariants as spots
 use Rattle.pp_parser.specs.declared.token.Kind.{Kind}
 use Rattle.pp_parser.specs.declared.token.Kind.TheVariants as kinds
 use Rattle.pp_parser.specs.declared.tree.Notify.{Notify}
 use Rattle.pp_parser.specs.Grammar.{value, notify_of}
-use Rattle.pp_parser.specs.Manifest.{finish, Position, between, named, opened, titled, parted, asked, pointed, valued, ended, Move, to, closes, advance, step, refused, statements_from}
+use Rattle.pp_parser.specs.Manifest.{finish, Position, between, named, opened, titled, parted, asked, pointed, valued, ended, to, closes, advance, step, refused, statements_from}
 use Rattle.pp_parser.proofs.Parts.{from_comma, from_text, from_arrow, from_close, from_message, from_colon, from_title, from_brace}
-use Rattle.pp_parser.specs.Steps.{Outcome, Parser, and_then, pure, ◌>>=◌, spot_of, spot, text_spot, sees, rest, eat, expect, text, title, message, notify}
+use Rattle.pp_parser.specs.Steps.{Outcome, Parser, and_then, pure, spot_of, spot, text_spot, sees, rest, eat, expect, text, title, message, notify}
 use Rattle.pp_parser.specs.Tokens.{Lexeme, same_kind}
 
 -- the outcome of the steps, and then of what reads on from there
@@ -22,7 +22,6 @@ followed-and_then (Ok p) f g = refl
 followed-and_then (Err e) f g = refl
 
 module _ (path : List ℕ) (found : List Notify) where
-
   abbrev read : Position → List Lexeme → Result (List Notify) Spot
   read position ts = statements_from path ts found position
 
@@ -53,7 +52,7 @@ module _ (path : List ℕ) (found : List Notify) where
   may_eat p q k n steps refuses ends (t ∷ ts) =
       (λ i. advance (statements_from path ts) found (steps t i) (refuses t i))
       ∙ elim (same_kind t.kind k) as (λ b. advance (statements_from path ts) found (cond b (Some (to q)) (cond (same_kind t.kind kinds.CloseBrace) (Some (closes n)) None)) (spot_of t.kind t.line) ≡ followed (cond b (Ok (true, ts)) (Ok (false, t ∷ ts))) (λ is us. cond is (read q us) (followed (expect kinds.CloseBrace us) (λ _ vs. behind n vs)))) [
-        true ↦ refl
+        | true ↦ refl
         | false ↦ elim (same_kind t.kind kinds.CloseBrace) as (λ b. advance (statements_from path ts) found (cond b (Some (closes n)) None) (spot_of t.kind t.line) ≡ followed (cond b (Ok (tt, ts)) (Err (spot_of t.kind t.line))) (λ _ vs. behind n vs)) [ true ↦ refl | false ↦ refl ]
       ]
 

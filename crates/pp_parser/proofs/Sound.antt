@@ -1,5 +1,5 @@
 -- What the steps read is in the grammar.
-use Rattle.std.proofs.Common.{◌≡◌, ◌≢◌, ◌⊎◌, inl, inr, ℕ, ◌<◌, Bool, true, false, not, ◌&&◌, ◌==◌, cond, List, [], ◌∷◌, ◌++◌, length, Option, Some, None, Result, Ok, Err, refl, sym, ap, ◌∙◌, subst, append_assoc, length-append, arith, rules}
+use Rattle.std.proofs.Common.{◌≡◌, ◌≢◌, ℕ, ◌<◌, Bool, true, false, not, ◌&&◌, ◌==◌, cond, List, [], ◌∷◌, ◌++◌, length, Option, Some, None, Result, Ok, Err, refl, sym, ap, ◌∙◌, subst, append_assoc, length-append, arith, rules}
 use denote.Enum.Bare.{same_true}
 use Rattle.pp_parser.specs.contracts.token.Kind.{the_type}
 use Rattle.pp_parser.specs.declared.refusal.Spot.{Spot}
@@ -9,7 +9,7 @@ use Rattle.pp_parser.specs.declared.tree.Notify.{Notify}
 use Rattle.pp_parser.specs.Grammar.{value, notify_of, IsMessage, IsNotify}
 use Rattle.pp_parser.specs.Grammar as grammar
 use Rattle.pp_parser.proofs.Parts.{from_comma, from_text, from_arrow, from_close, from_message, from_colon, from_title, from_brace}
-use Rattle.pp_parser.specs.Steps.{Outcome, Parser, and_then, pure, ◌>>=◌, spot, text_spot, sees, rest, eat, expect, text, title, message, notify}
+use Rattle.pp_parser.specs.Steps.{Outcome, Parser, and_then, pure, spot, sees, rest, eat, expect, text, title, message, notify}
 use Rattle.pp_parser.specs.Tokens.{Lexeme, same_kind, unescaped, unescaped_from, is_escape}
 
 pub kind_is : (a k : Kind) → same_kind a k ≡ true → a ≡ k
@@ -133,7 +133,6 @@ message_ok ts m left h =
     message_by found.0.0 ts found.0.1 left m (eat_ok kinds.Message ts found.0.0 found.0.1 found.1) found.2
 
 module _ (path : List ℕ) where
-
   abbrev statement_of : Notify × List Lexeme → Notify
   statement_of p = p.0
 
@@ -158,8 +157,7 @@ module _ (path : List ℕ) where
       let is_close = expect_ok kinds.CloseBrace said.0.1 close.0.0 close.0.1 close.1 in
       let same = same_ok (notify_of path headed.0.0 said.0.0, close.0.1) (n, left) close.2 in
       let front = is_name.0 ∷ is_brace.0 ∷ headed.0.0 ∷ is_colon.0 ∷ (is_message.0 ++ is_close.0 ∷ []) in
-      let rest = is_message.2 ∙ ap (λ vs. is_message.0 ++ vs) (is_close.1 ∙ ap (λ vs. is_close.0 ∷ vs) (ap behind_of same)) ∙ sym (append_assoc is_message.0 (is_close.0 ∷ []) left) in
-      (
+      let rest = is_message.2 ∙ ap (λ vs. is_message.0 ++ vs) (is_close.1 ∙ ap (λ vs. is_close.0 ∷ vs) (ap behind_of same)) ∙ sym (append_assoc is_message.0 (is_close.0 ∷ []) left) in (
         front,
         subst (IsNotify path front) (ap statement_of same) (grammar.notify is_name.0 is_brace.0 headed.0.0 is_colon.0 is_close.0 is_message.0 said.0.0 is_name.2 is_brace.2 is_title.1 is_title.2 is_colon.2 is_message.1 is_close.2),
         is_name.1 ∙ ap (λ vs. is_name.0 ∷ vs) (is_brace.1 ∙ ap (λ vs. is_brace.0 ∷ vs) (is_title.0 ∙ ap (λ vs. headed.0.0 ∷ vs) (is_colon.1 ∙ ap (λ vs. is_colon.0 ∷ vs) rest))),

@@ -1,14 +1,13 @@
 -- The turns of the loop that reads statements.
-use Rattle.std.proofs.Common.{◌≡◌, ℕ, ◌<◌, List, [], ◌∷◌, ◌++◌, length, Ok, Err, refl, sym, ap, ◌∙◌, arith}
+use Rattle.std.proofs.Common.{◌≡◌, ℕ, ◌<◌, List, [], ◌∷◌, ◌++◌, length, Ok, Err, refl, sym, ◌∙◌, arith}
 use Rattle.pp_parser.specs.declared.refusal.Spot.{Spot}
 use Rattle.pp_parser.specs.declared.tree.Notify.{Notify}
 use Rattle.pp_parser.specs.Manifest.{statements_from, between}
 use Rattle.pp_parser.specs.Steps.{notify}
 use Rattle.pp_parser.specs.Tokens.{Lexeme}
-use Rattle.pp_parser.proofs.Reading.{begins, followed}
+use Rattle.pp_parser.proofs.Reading.{begins}
 
 module _ (path : List ℕ) where
-
   -- a statement more
   pub statement_more : (ts : List Lexeme) (found : List Notify) (n : Notify) (left : List Lexeme) → 0 < length ts → notify path ts ≡ Ok (n, left) → statements_from path left (found ++ n ∷ []) between ≡ statements_from path ts found between
   statement_more [] found n left some is = absurd (omega arith)

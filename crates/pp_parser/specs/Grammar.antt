@@ -5,7 +5,6 @@
 --
 -- A TEXT is in single quotes, and a TITLE is a TEXT that is not empty. Nothing here says how a text is read.
 use Rattle.std.specs.Prelude.{◌≡◌, ◌≢◌, ℕ, List, [], ◌∷◌, ◌++◌, Option, Some, None}
-use Rattle.pp_values.specs.declared.place.Place.{Place}
 use Rattle.pp_parser.specs.declared.token.Kind.TheVariants as kinds
 use Rattle.pp_parser.specs.declared.tree.Notify.{Notify}
 use Rattle.pp_parser.specs.Tokens.{Lexeme, unescaped}
@@ -21,7 +20,6 @@ pub data IsMessage : List Lexeme → Option (List ℕ) → Type 0 where
   with_comma : (message arrow text comma : Lexeme) → message.kind ≡ kinds.Message → arrow.kind ≡ kinds.Arrow → text.kind ≡ kinds.Quoted → comma.kind ≡ kinds.Comma → IsMessage (message ∷ arrow ∷ text ∷ comma ∷ []) (Some (value text))
 
 module _ (path : List ℕ) where
-
   -- a statement is placed at its title
   abbrev pub notify_of : Lexeme → Option (List ℕ) → Notify
   notify_of title message = record { title = value title; message = message; at = record { file = path; line = title.line } }

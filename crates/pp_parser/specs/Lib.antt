@@ -1,4 +1,5 @@
 pub mod Grammar
+pub mod Laws
 pub mod Manifest
 pub mod Pieces
 pub mod Steps

@@ -54,7 +54,6 @@ advance go found (Some (closes n)) spot = go (found ++ n ∷ []) between
 advance go found None spot = Err spot
 
 module _ (path : List ℕ) where
-
   unfoldable pub step : Position → Lexeme → Option Move
   step between t = if same_kind t.kind kinds.Notify then Some (to named) else None
   step named t = if same_kind t.kind kinds.OpenBrace then Some (to opened) else None

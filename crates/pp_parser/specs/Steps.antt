@@ -86,7 +86,7 @@ message = do
     t ← text
     comma ← eat kinds.Comma
     pure (Some (value t))
-  ) else pure None
+    ) else pure None
 
 unfoldable pub notify : List ℕ → Parser Notify
 notify path = do

@@ -55,7 +55,8 @@ fn line_end(bytes: &[u8], from: usize) -> usize
 fn comment_end(bytes: &[u8], from: usize) -> Option<usize>
     requires { from ≤ length bytes.now }
     ensures value { result ≡ spec.comment_end from (drop from bytes.now) }
-    ensures within { IfSome result (λ end. (from < end) × (end ≤ length bytes.now) × (slice_index bytes.now (end - 1) < 128)) }
+    ensures within { IfSome result (λ end. (from < end) × (end ≤ length bytes.now)) }
+    ensures ends { IfSome result (λ end. slice_index bytes.now (end - 1) < 128) }
 {
     for at in from..bytes.len() {
         if bytes[at] == b'*' && byte(bytes, at + 1) == b'/' {
@@ -77,7 +78,8 @@ fn is_escape_at(bytes: &[u8], at: usize) -> bool
 fn quoted_end(bytes: &[u8], from: usize) -> Option<usize>
     requires { from ≤ length bytes.now }
     ensures value { result ≡ spec.quoted_end false from (drop from bytes.now) }
-    ensures within { IfSome result (λ end. (from < end) × (end ≤ length bytes.now) × (slice_index bytes.now (end - 1) ≡ 39)) }
+    ensures within { IfSome result (λ end. (from < end) × (end ≤ length bytes.now)) }
+    ensures ends { IfSome result (λ end. slice_index bytes.now (end - 1) ≡ 39) }
 {
     let mut is_taken = false;
     for at in from..bytes.len() {
@@ -183,7 +185,9 @@ fn begins_path(bytes: &[u8]) -> bool
     ensures { result ≡ spec.begins_path bytes.now }
 {
     let third = byte(bytes, 2);
-    byte(bytes, 0) == b':' && byte(bytes, 1) == b':' && (third.is_ascii_alphabetic() || third == b'_')
+    byte(bytes, 0) == b':'
+        && byte(bytes, 1) == b':'
+        && (third.is_ascii_alphabetic() || third == b'_')
 }
 
 #[tactic(auto, unfolding(crate::specs::Tokens::mark))]
@@ -247,7 +251,12 @@ fn said(kind: Kind, spelling: &str) -> &str
     }
 }
 
-fn emit<'a>(found: &mut Vec<Token<'a>>, kind: Option<Kind>, spelling: &'a str, line: u32) -> Result<(), AllocError>
+fn emit<'a>(
+    found: &mut Vec<Token<'a>>,
+    kind: Option<Kind>,
+    spelling: &'a str,
+    line: u32,
+) -> Result<(), AllocError>
     requires { kind ≡ Some Kind.Quoted → IsBetweenQuotes spelling.now (length spelling.now) }
     ensures { OnOk result (found.new.items ≡ found.old.items ++ spec.emitted line kind spelling.now) }
 {

@@ -1,6 +1,7 @@
 //! The grammar of a manifest.
 
-ghost use Rattle.std.specs.Prelude.{◌≡◌, ◌+◌, ◌<◌, ◌^◌, length, OnOk};
+ghost use Rattle.std.specs.Prelude.{◌≡◌, ◌+◌, ◌<◌, ◌^◌, length, IfOk, IfErr, OnOk};
+ghost use Rattle.pp_parser.specs.Laws.{IsTree, IsSyntaxStop};
 ghost use Rattle.pp_parser.specs.Manifest as spec;
 ghost use Rattle.pp_parser.specs.Steps as steps;
 ghost use Rattle.pp_parser.specs.Tokens.{end_line};
@@ -73,11 +74,16 @@ fn statements(alloc: Global, file: &Text, text: &str) -> Result<Statements, Refu
 ///
 /// The grammar is `{ "notify" "{" TITLE ":" [ "message" "=>" TEXT [","] ] "}" }`, where a TEXT is in single quotes and a
 /// TITLE is a TEXT that is not empty.
-#[tactic(auto, unfolding(crate::specs::Manifest::file_of))]
+#[tactic(auto, using(crate::proofs::FileLaws::is_tree, crate::proofs::FileLaws::is_syntax_fault), unfolding(crate::specs::Manifest::file_of))]
 pub fn parse(alloc: Global, file: &Text, text: &Text) -> Result<File, Stop>
     // Places count lines in 32 bits.
     requires { length text.now + 1 < 2 ^ 32 }
-    ensures { spec.Parses (spec.file_of file.now text.now) result }
+    // Exactly what the text means, unless memory ran out.
+    ensures answer { spec.Parses (spec.file_of file.now text.now) result }
+    // A tree is one of the grammar, for the tokens of the text.
+    ensures tree { IfOk result (IsTree file.now text.now) }
+    // A fault is F1, at the first token with which no text of the grammar goes on or at the end of the file.
+    ensures fault { IfErr result (IsSyntaxStop file.now text.now) }
 {
     let text = text.as_str();
     match statements(alloc, file, text) {

@@ -55,11 +55,11 @@ fn list(alloc: Global, second: &str) -> Result<Values, Memory> {
     Ok(items)
 }
 
-/// The hash of two keys, with the values 1 and `x`.
+/// The hash of two keys, with the values 1 and `true`.
 fn hash(alloc: Global, first: &str, second: &str) -> Result<Pairs, Memory> {
     let mut pairs = Pairs::new(alloc);
     pairs.put(text(alloc, first)?, Value::Int(1))?;
-    pairs.put(text(alloc, second)?, text(alloc, "x")?)?;
+    pairs.put(text(alloc, second)?, Value::Flag(true))?;
     Ok(pairs)
 }
 
@@ -131,7 +131,7 @@ const TEXTS: [(usize, &str); 16] = [
     (2, "-7"),
     (3, "ab"),
     (5, "[1, a]"),
-    (7, "{a => 1, b => x}"),
+    (7, "{a => 1, b => true}"),
     (9, "Web::Vhost['it\\'s']"),
     (10, "Integer[1]"),
     (11, "Integer[1, default]"),
@@ -144,26 +144,75 @@ const TEXTS: [(usize, &str); 16] = [
     (6, "[1, A]"),
 ];
 
+fn prints_as(alloc: Global, number: usize, wanted: &str) -> Result<bool, Memory> {
+    let value = sample(alloc, number)?;
+    let printed = text_of(alloc, &value);
+    drop(value);
+    Ok(printed?.is(wanted))
+}
+
 #[test]
 fn prints_values(rt: HostRuntime) -> Result<(), Fail> {
     for (number, wanted) in TEXTS {
-        let value = sample(rt.alloc(), number)?;
-        let printed = text_of(rt.alloc(), &value)?;
-        assert_eq!(rt; printed.as_str(), wanted);
+        assert!(rt; prints_as(rt.alloc(), number, wanted)?, "{wanted}");
     }
     Ok(())
+}
+
+/// The copy of a value.
+fn copied(alloc: Global, number: usize) -> Result<Value, Memory> {
+    let value = sample(alloc, number)?;
+    let copied = copy(alloc, &value);
+    drop(value);
+    copied
+}
+
+fn copies_as(alloc: Global, number: usize, wanted: &str) -> Result<bool, Memory> {
+    let value = copied(alloc, number)?;
+    let printed = text_of(alloc, &value);
+    drop(value);
+    Ok(printed?.is(wanted))
 }
 
 #[test]
 fn copies_values(rt: HostRuntime) -> Result<(), Fail> {
     for (number, wanted) in TEXTS {
-        let value = sample(rt.alloc(), number)?;
-        let copied = copy(rt.alloc(), &value)?;
-        assert!(rt; equal(&value, &copied));
-        assert_eq!(rt; text_of(rt.alloc(), &copied)?.as_str(), wanted);
+        assert!(rt; copies_as(rt.alloc(), number, wanted)?, "{wanted}");
     }
-    assert!(rt; matches!(copy(rt.alloc(), &Value::Int(5))?, Value::Int(5)));
     Ok(())
+}
+
+fn is_five(value: &Value) -> bool {
+    matches!(value, Value::Int(5))
+}
+
+#[test]
+fn copies_five(rt: HostRuntime) -> Result<(), Fail> {
+    let value = copy(rt.alloc(), &Value::Int(5))?;
+    let five = is_five(&value);
+    drop(value);
+    assert!(rt; five);
+    Ok(())
+}
+
+/// Whether two samples are equal, and their order.
+fn compared(
+    alloc: Global,
+    first: usize,
+    second: usize,
+) -> Result<(bool, Option<Ordering>), Memory> {
+    let a = sample(alloc, first)?;
+    let b = match sample(alloc, second) {
+        Ok(b) => b,
+        Err(refused) => {
+            drop(a);
+            return Err(refused);
+        }
+    };
+    let answer = (equal(&a, &b), order(&a, &b));
+    drop(a);
+    drop(b);
+    Ok(answer)
 }
 
 #[test]
@@ -186,34 +235,70 @@ fn compares_values(rt: HostRuntime) -> Result<(), Fail> {
         (17, 17, true, None),
     ];
     for (first, second, are_equal, ordering) in table {
-        let a = sample(rt.alloc(), first)?;
-        let b = sample(rt.alloc(), second)?;
-        assert_eq!(rt; equal(&a, &b), are_equal, "{first} and {second}");
-        assert_eq!(rt; order(&a, &b), ordering, "{first} and {second}");
+        let wanted = (are_equal, ordering);
+        assert_eq!(rt;
+            compared(rt.alloc(), first, second)?,
+            wanted,
+            "{first} and {second}"
+        );
     }
     Ok(())
 }
 
+/// Whether the value of a key is an integer, if it has one.
+fn has_integer(alloc: Global, pairs: &Pairs, key: &str) -> Result<Option<bool>, Memory> {
+    let key = text(alloc, key)?;
+    let answer = pairs.get(&key).map(|value| matches!(value, Value::Int(_)));
+    drop(key);
+    Ok(answer)
+}
+
+fn removes(alloc: Global, pairs: &mut Pairs, key: &str) -> Result<bool, Memory> {
+    let key = text(alloc, key)?;
+    let removed = pairs.remove(&key);
+    drop(key);
+    let answer = removed.is_some();
+    drop(removed);
+    Ok(answer)
+}
+
 #[test]
-fn edits_hashes(rt: HostRuntime) -> Result<(), Fail> {
+fn sets_values_of_keys(rt: HostRuntime) -> Result<(), Fail> {
     let mut pairs = hash(rt.alloc(), "a", "b")?;
     pairs.put(text(rt.alloc(), "a")?, Value::Default)?;
     assert_eq!(rt; pairs.len(), 2);
-    let key = text(rt.alloc(), "a")?;
-    assert!(rt; matches!(pairs.get(&key), Some(Value::Default)));
-    assert!(rt; pairs.remove(&key).is_some());
-    assert!(rt; pairs.get(&key).is_none());
-    assert_eq!(rt; copy_pairs(rt.alloc(), &pairs)?.len(), 1);
+    assert_eq!(rt; has_integer(rt.alloc(), &pairs, "a")?, Some(false));
     Ok(())
 }
 
 #[test]
-fn copies_lists_and_types(rt: HostRuntime) -> Result<(), Fail> {
-    let items = list(rt.alloc(), "a")?;
-    assert_eq!(rt; copy_values(rt.alloc(), &items)?.len(), 2);
+fn removes_keys(rt: HostRuntime) -> Result<(), Fail> {
+    let mut pairs = hash(rt.alloc(), "a", "b")?;
+    assert!(rt; removes(rt.alloc(), &mut pairs, "a")?);
+    assert_eq!(rt; has_integer(rt.alloc(), &pairs, "a")?, None);
+    assert_eq!(rt; copy_pairs(rt.alloc(), &pairs)?.len(), 1);
+    Ok(())
+}
+
+fn copies_any(alloc: Global) -> Result<bool, Memory> {
+    let copied = copy_type(alloc, &PType::Any)?;
+    let is_any = matches!(&copied, PType::Any);
+    drop(copied);
+    Ok(is_any)
+}
+
+#[test]
+fn copies_types(rt: HostRuntime) -> Result<(), Fail> {
+    assert!(rt; copies_any(rt.alloc())?);
     let types = variant_type(rt.alloc())?;
     assert_eq!(rt; copy_types(rt.alloc(), &types)?.len(), 2);
-    assert!(rt; matches!(copy_type(rt.alloc(), &PType::Any)?, PType::Any));
+    Ok(())
+}
+
+#[test]
+fn copies_lists(rt: HostRuntime) -> Result<(), Fail> {
+    let items = list(rt.alloc(), "a")?;
+    assert_eq!(rt; copy_values(rt.alloc(), &items)?.len(), 2);
     Ok(())
 }
 
@@ -229,13 +314,18 @@ fn copies_names_and_places(rt: HostRuntime) -> Result<(), Fail> {
 }
 
 #[test]
-fn copies_pairs_of_texts_and_facts(rt: HostRuntime) -> Result<(), Fail> {
+fn copies_pairs_of_texts(rt: HostRuntime) -> Result<(), Fail> {
     let mut files = TextPairs::new(rt.alloc());
     files.push(
         Text::from_str(rt.alloc(), "site.pp")?,
-        Text::from_str(rt.alloc(), "")?.copy(rt.alloc())?,
+        Text::from_str(rt.alloc(), "")?,
     )?;
     assert_eq!(rt; files.copy(rt.alloc())?.len(), 1);
+    Ok(())
+}
+
+#[test]
+fn copies_pairs_of_facts(rt: HostRuntime) -> Result<(), Fail> {
     let mut nodes = FactPairs::new(rt.alloc());
     nodes.push(Text::from_str(rt.alloc(), "n0")?, Value::Undef)?;
     assert_eq!(rt; nodes.copy(rt.alloc())?.len(), 1);
@@ -253,13 +343,31 @@ fn prints_names(rt: HostRuntime) -> Result<(), Fail> {
     Ok(())
 }
 
+fn fault(alloc: Global) -> Result<Fault, Memory> {
+    let at = place(alloc)?;
+    let class = Text::from_str(alloc, "class")?;
+    Ok(Fault {
+        at,
+        what: What::ClassVirtual(Subject::Kind(class)),
+    })
+}
+
+fn copies_fault(alloc: Global) -> Result<bool, Memory> {
+    let fault = fault(alloc)?;
+    let answer = match fault.copy(alloc) {
+        Ok(copied) => {
+            let same = copied == fault;
+            drop(copied);
+            Ok(same)
+        }
+        Err(refused) => Err(refused),
+    };
+    drop(fault);
+    answer
+}
+
 #[test]
 fn copies_faults(rt: HostRuntime) -> Result<(), Fail> {
-    let fault = Fault {
-        at: place(rt.alloc())?,
-        what: What::ClassVirtual(Subject::Kind(Text::from_str(rt.alloc(), "class")?)),
-    };
-    let copied = fault.copy(rt.alloc())?;
-    assert!(rt; copied == fault);
+    assert!(rt; copies_fault(rt.alloc())?);
     Ok(())
 }

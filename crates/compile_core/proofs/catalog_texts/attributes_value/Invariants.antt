@@ -2,8 +2,7 @@ use Rattle.std.proofs.Common.{◌≡◌, length, IsTrue}
 use Rattle.serde_json.specs.View.{members_view}
 use Rattle.serde_json.specs.Data.{no_members}
 use Rattle.res_core.specs.AttributeViews.{settings}
-use Rattle.compile_core.specs.CatalogText.{attributes_have_form}
-use Rattle.compile_core.proofs.AttributeMembers.{put_all}
+use Rattle.compile_core.specs.CatalogText.{attributes_have_form, put_all}
 use Rattle.compile_core.proofs.catalog_texts.attributes_value.Given as goal
 
 abbrev pub invariant-loop-left : goal.invariant-loop-left

@@ -23,10 +23,10 @@ loop-notify-preserved c =
     ∙ sym (c.loop-notify.invariant.places c.as_str.result.now) ∙ ap place_behind (sym c.in_default.ensures.value) in
     record {
       places = λ q.
-        places_more c.args.statements.now c.loop-notify.notify-index c.notify-item.result _ c.as_str-in-loop-notify.result.now q _ _ c.loop-notify-test.true c.notify-item.is new refl c.as_str-in-loop-notify.ensures.text
-        (hash_map_updates_str c.as_str-in-loop-notify.result.now c.loop-notify.places c.insert.new.self _ c.in_ok-insert.ensures.updates q)
-        (c.loop-notify.invariant.places q);
-      declared = declared_more c.args.statements.now c.loop-notify.notify-index c.notify-item.result _ c.loop-notify-test.true c.notify-item.is new c.loop-notify.invariant.declared
+          places_more c.args.statements.now c.loop-notify.notify-index c.notify-item.result _ c.as_str-in-loop-notify.result.now q _ _ c.loop-notify-test.true c.notify-item.is new refl c.as_str-in-loop-notify.ensures.text
+          (hash_map_updates_str c.as_str-in-loop-notify.result.now c.loop-notify.places c.insert.new.self _ c.in_ok-insert.ensures.updates q)
+          (c.loop-notify.invariant.places q);
+      declared = declared_more c.args.statements.now c.loop-notify.notify-index c.notify-item.result _ c.loop-notify-test.true c.notify-item.is new c.loop-notify.invariant.declared;
     }
 
 pub returns : goal.returns

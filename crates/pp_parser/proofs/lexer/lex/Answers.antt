@@ -1,4 +1,4 @@
-use Rattle.std.proofs.Common.{arith, rules, sym, refl, ◌∙◌, ◌<◌, ap, length}
+use Rattle.std.proofs.Common.{arith, rules, ◌∙◌, ◌<◌, ap, length}
 use Rattle.std.proofs.lemmas.Grind.{common_steps}
 use Rattle.std.proofs.lemmas.Str.{IsUtf8-drop}
 use Rattle.pp_parser.specs.Tokens.{tokens, front}

@@ -1,4 +1,4 @@
-use Rattle.std.proofs.Common.{◌≡◌, arith, sym, ◌∙◌, rules}
+use Rattle.std.proofs.Common.{arith, sym, ◌∙◌, rules}
 use Rattle.std.proofs.lemmas.Grind.{common_steps}
 use Rattle.pp_parser.proofs.LexLemmas.{quoted_goes}
 use Rattle.pp_parser.proofs.lexer.quoted_end.Goals as goal

@@ -1,0 +1,6 @@
+mod Examples
+mod Exact
+mod Readable
+mod Saying
+mod Told
+mod Worked

@@ -1,0 +1,3 @@
+# Refused: a title may stand once in a catalog.
+notify { 'a': }
+notify { 'a': }

@@ -1,0 +1,4 @@
+# The smallest manifest that says something.
+notify { 'hello':
+  message => 'Hello from Yaldziet',
+}

@@ -1,5 +1,5 @@
 -- For callers: a snapshot goes on showing the first entries of its history when the history grows.
-use Rattle.std.proofs.Common.{◌≡◌, ℕ, ◌+◌, ◌≤◌, List, [], ◌∷◌, ◌++◌, length, sym, ◌∙◌, subst, arith}
+use Rattle.std.proofs.Common.{◌≡◌, ◌≤◌, [], ◌∷◌, length, sym, ◌∙◌, subst, arith}
 use Rattle.std.proofs.lemmas.List.{length-append}
 use Rattle.site_core.specs.Events.{Event}
 use Rattle.site_core.specs.Snapshots.{Of, SnapshotsStay}
@@ -14,7 +14,7 @@ module _ {S : Type 0} where
         some = of.some;
         within = rw (length-append h more) (let within : s.k ≤ length h = of.within in omega arith);
         version_is = of.version_is ∙ sym (sets_at-append h more s.k of.within);
-        site_is = site_at-append h more s.k of.within ∙ of.site_is
+        site_is = site_at-append h more s.k of.within ∙ of.site_is;
       }
 
   -- as `done` and `deactivate` say it of a core

@@ -1,13 +1,12 @@
 -- What is kept stays right when one more entry comes.
-use Rattle.std.proofs.Common.{◌≡◌, ℕ, ◌+◌, ◌<◌, ◌≤◌, List, [], ◌∷◌, ◌++◌, length, Some, refl, sym, ◌∙◌, ap, subst, arith}
-use Rattle.std.specs.Prelude.{IsTrue}
+use Rattle.std.proofs.Common.{◌≡◌, ◌<◌, [], ◌∷◌, length, sym, ◌∙◌, subst, arith}
 use Rattle.std.proofs.lemmas.List.{length-append}
 use Rattle.export_store.specs.Sets.{Sets}
 use Rattle.site_core.specs.Meaning.{Meaning}
 use Rattle.site_core.specs.Events.{Event, is_opening}
 use Rattle.std.proofs.Common.{false}
-use Rattle.site_core.specs.Sets.{sets_at, sets_after, site_at}
-use Rattle.site_core.specs.Legal.{Legal, MayFollow}
+use Rattle.site_core.specs.Sets.{sets_at, sets_after}
+use Rattle.site_core.specs.Legal.{MayFollow}
 use Rattle.site_core.specs.Core.{Core, with_event, IsSound, IsKept}
 use Rattle.site_core.proofs.Sets.{sets_at-push, site_at-push}
 use Rattle.site_core.proofs.Legal.{Legal-push}
@@ -18,7 +17,7 @@ module _ {S C F : Type 0} (meaning : Meaning S C F) where
       record {
         legal = Legal-push meaning core.history e sound.legal follows;
         within = rw (length-append core.history (e ∷ [])) (omega arith);
-        bounded = sound.bounded
+        bounded = sound.bounded;
       }
 
   pub kept_push : (core : Core S) (version next : Sets) (site : S) (e : Event S) → IsKept meaning core version site → MayFollow meaning core.history e →
@@ -28,7 +27,7 @@ module _ {S C F : Type 0} (meaning : Meaning S C F) where
       record {
         sound = sound_push core e kept.sound follows room;
         version_is = next_is ∙ sym (sets_at-push core.history e);
-        site_is = site_at-push core.history e later ∙ kept.site_is
+        site_is = site_at-push core.history e later ∙ kept.site_is;
       }
 
   -- the same, where what is known speaks of the value as it was seen before
@@ -37,5 +36,5 @@ module _ {S C F : Type 0} (meaning : Meaning S C F) where
       next ≡ sets_after (sets_at seen.history (length seen.history)) e → IsKept meaning (with_event inside e) next site
   kept_append inside seen same version next site e kept =
       let P : Core S → Type 0 = λ core. MayFollow meaning core.history e → is_opening e ≡ false → length core.history < core.limit →
-          next ≡ sets_after (sets_at core.history (length core.history)) e → IsKept meaning (with_event inside e) next site in
+      next ≡ sets_after (sets_at core.history (length core.history)) e → IsKept meaning (with_event inside e) next site in
       subst P same (kept_push inside version next site e kept)

@@ -1,14 +1,14 @@
 -- A legal history with one more entry, and its prefixes.
-use Rattle.std.proofs.Common.{◌≡◌, ℕ, ◌≤◌, ◌+◌, ◌-◌, zero, suc, List, [], ◌∷◌, ◌++◌, length, take, Option, Some, refl, sym, ◌∙◌, ap, subst, arith}
-use Rattle.std.specs.Prelude.{IsSomeAnd, Result}
+use Rattle.std.proofs.Common.{◌≡◌, ℕ, zero, suc, List, [], ◌∷◌, ◌++◌, take, Some, sym, subst, arith}
+use Rattle.std.specs.Prelude.{IsSomeAnd}
 use Rattle.std.proofs.Common.{append_assoc, append-nil}
 use Rattle.pp_values.specs.Datum.{Datum}
 use Rattle.res_core.specs.declared.export_set.ExportSet.{ExportSet}
 use Rattle.export_store.specs.Sets.{Sets}
 use Rattle.site_core.specs.Meaning.{Meaning, HasExports}
-use Rattle.site_core.specs.Events.{Publication, Event, opens, publishes, deactivates, calls_of}
+use Rattle.site_core.specs.Events.{Event, opens, publishes, deactivates}
 use Rattle.site_core.specs.Sets.{sets_at, site_at}
-use Rattle.site_core.specs.Legal.{meaning_at, MayPublish, MayFollow, EachFollows, Legal, PrefixesAreLegal}
+use Rattle.site_core.specs.Legal.{meaning_at, MayFollow, EachFollows, Legal, PrefixesAreLegal}
 
 module _ {S C F : Type 0} (meaning : Meaning S C F) where
   EachFollows-push : (h es : List (Event S)) (e : Event S) → EachFollows meaning h es → MayFollow meaning (h ++ es) e → EachFollows meaning h (es ++ e ∷ [])

@@ -6,3 +6,4 @@ pub mod Keeping
 pub mod Steps
 pub mod Meant
 pub mod Growing
+mod Examples

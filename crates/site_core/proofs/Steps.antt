@@ -1,21 +1,19 @@
 -- Every run keeps a core sound.
-use Rattle.std.proofs.Common.{◌≡◌, ℕ, ◌+◌, ◌<◌, ◌≤◌, zero, suc, Bool, true, false, List, [], ◌∷◌, ◌++◌, length, take, drop, Option, None, Some, Result, Ok, Err, refl, sym, ◌∙◌, ap, subst, arith}
-use Rattle.std.specs.Prelude.{IsTrue, IsSomeAnd, if◌then◌else◌, nat_lt, slice_get, remove, option_map, option_and_then}
+use Rattle.std.proofs.Common.{◌≡◌, ℕ, ◌<◌, ◌≤◌, suc, Bool, true, false, List, [], ◌∷◌, ◌++◌, length, take, drop, Option, None, Some, Result, Ok, Err, refl, ap, subst, arith}
+use Rattle.std.specs.Prelude.{IsSomeAnd, if◌then◌else◌, nat_lt, slice_get, remove, option_map, option_and_then}
 use Rattle.std.specs.List.{All}
-use Rattle.std.specs.FinMap as fin
 use Rattle.std.proofs.lemmas.Bool.{ltb-true}
 use Rattle.std.proofs.lemmas.List.{length-append}
 use Rattle.std.proofs.lemmas.List.Elements.{All-nil, All-append, All-push, All-take, All-drop, All-weaker, All-get_or}
 use Rattle.std.proofs.lemmas.Option.{slice_get_within, get_or_from_slice_get}
 use Rattle.pp_values.specs.Datum.{Datum}
 use Rattle.res_core.specs.declared.export_set.ExportSet.{ExportSet}
-use Rattle.export_store.specs.Sets.{Sets}
 use Rattle.site_core.specs.Meaning.{Meaning, HasExports}
-use Rattle.site_core.specs.Events.{Event, opens, is_opening}
+use Rattle.site_core.specs.Events.{Event, is_opening, publication, deactivation}
 use Rattle.site_core.specs.Sets.{sets_after}
 use Rattle.site_core.specs.Legal.{meaning_at, MayFollow, Legal}
-use Rattle.site_core.specs.Core.{MOST_ENTRIES, Core, IsSound, IsKept}
-use Rattle.site_core.specs.Steps.{Step, snap, done, drop_call, deactivate, State, made_set, opened_state, with_entry, with_flight, without_flight, publication, deactivation, after_done, after_step, after_steps, IsSoundState, RunsAreSound}
+use Rattle.site_core.specs.Core.{MOST_ENTRIES, Core, IsSound}
+use Rattle.site_core.specs.Steps.{Step, snap, done, drop_call, deactivate, State, made_set, opened_state, with_entry, with_flight, without_flight, after_done, after_step, after_steps, IsSoundState, RunsAreSound}
 use Rattle.site_core.proofs.Keeping.{kept_push}
 
 -- what makes a result of options be there
@@ -56,7 +54,7 @@ module _ {S C F : Type 0} (meaning : Meaning S C F) (limit : ℕ) where
       record {
         kept = kept_push meaning (record { history = s.history; limit = limit }) s.version (sets_after s.version e) s.site e sound.kept follows later room
             (ap (λ v. sets_after v e) sound.kept.version_is);
-        flights = longer s.history e s.flights sound.flights
+        flights = longer s.history e s.flights sound.flights;
       }
 
   without_sound : (s : State S) (flight : ℕ) → IsSoundState meaning limit s → IsSoundState meaning limit (without_flight s flight)
@@ -69,7 +67,7 @@ module _ {S C F : Type 0} (meaning : Meaning S C F) (limit : ℕ) where
   flight_sound s sound =
       record {
         kept = sound.kept;
-        flights = All-push (Within (length s.history)) s.flights (length s.history) sound.flights (legal_length _ sound.kept.sound, omega arith)
+        flights = All-push (Within (length s.history)) s.flights (length s.history) sound.flights (legal_length _ sound.kept.sound, omega arith);
       }
 
   done_sound : (s t : State S) (flight author : ℕ) (node : List ℕ) (facts : Datum) (k : ℕ) → IsSoundState meaning limit s → length s.history < limit →
@@ -77,12 +75,12 @@ module _ {S C F : Type 0} (meaning : Meaning S C F) (limit : ℕ) where
   done_sound s t flight author node facts k sound room at is =
       let found = map_some _ (option_and_then made_set (meaning_at meaning s.history k node facts)) t is in
       let within : Within (length s.history) k =
-          subst (Within (length s.history)) (get_or_from_slice_get s.flights flight k 0 at)
-            (All-get_or (Within (length s.history)) s.flights flight 0 (slice_get_within s.flights flight k at) sound.flights) in
+      subst (Within (length s.history)) (get_or_from_slice_get s.flights flight k 0 at)
+      (All-get_or (Within (length s.history)) s.flights flight 0 (slice_get_within s.flights flight k at) sound.flights) in
       subst (IsSoundState meaning limit) found.2
-        (without_sound (with_entry s (publication s author node facts k found.0)) flight
-          (entry_sound s (publication s author node facts k found.0) sound
-            (record { numbered = refl; some = within.0; earlier = within.1; exported = exports_are_at _ found.0 found.1 }) refl room))
+      (without_sound (with_entry s (publication s.history author node facts k found.0)) flight
+      (entry_sound s (publication s.history author node facts k found.0) sound
+      (record { numbered = refl; some = within.0; earlier = within.1; exported = exports_are_at _ found.0 found.1 }) refl room))
 
   step_sound : (s t : State S) (step : Step) → IsSoundState meaning limit s → after_step meaning limit s step ≡ Some t → IsSoundState meaning limit t
   step_sound s t snap sound is = let e : with_flight s ≡ t = cc in subst (IsSoundState meaning limit) e (flight_sound s sound)
@@ -95,9 +93,9 @@ module _ {S C F : Type 0} (meaning : Meaning S C F) (limit : ℕ) where
       let e : without_flight s flight ≡ t = cc in
       subst (IsSoundState meaning limit) e (without_sound s flight sound)
   step_sound s t (deactivate author node) sound is =
-      let room = when_some (nat_lt (length s.history) limit) (Some (with_entry s (deactivation s author node))) t is in
-      let e : with_entry s (deactivation s author node) ≡ t = cc in
-      subst (IsSoundState meaning limit) e (entry_sound s (deactivation s author node) sound refl refl (ltb-true (length s.history) limit room.0))
+      let room = when_some (nat_lt (length s.history) limit) (Some (with_entry s (deactivation s.history author node))) t is in
+      let e : with_entry s (deactivation s.history author node) ≡ t = cc in
+      subst (IsSoundState meaning limit) e (entry_sound s (deactivation s.history author node) sound refl refl (ltb-true (length s.history) limit room.0))
 
   steps_sound : (steps : List Step) (s t : State S) → IsSoundState meaning limit s → after_steps meaning limit s steps ≡ Some t → IsSoundState meaning limit t
   steps_sound [] s t sound is = let e : s ≡ t = cc in subst (IsSoundState meaning limit) e sound
@@ -109,7 +107,7 @@ module _ {S C F : Type 0} (meaning : Meaning S C F) (limit : ℕ) where
   opened_sound site some most =
       record {
         kept = record { sound = record { legal = tt; within = some; bounded = most }; version_is = refl; site_is = refl };
-        flights = All-nil (Within 1)
+        flights = All-nil (Within 1);
       }
 
 pub runs : {S C F : Type 0} (meaning : Meaning S C F) → RunsAreSound meaning

@@ -56,6 +56,14 @@ module _ {S : Type 0} where
   abbrev pub calls_of : ℕ → List (Event S) → ℕ
   calls_of author h = count_by (is_by author) h
 
+  -- the author's next entry behind the entries h
+  abbrev pub publication : List (Event S) → ℕ → List ℕ → Datum → ℕ → ExportSet → Event S
+  publication h author node facts k set =
+      publishes (record { author = author; call = calls_of author h; node = node; facts = facts; k = k; set = set })
+
+  abbrev pub deactivation : List (Event S) → ℕ → List ℕ → Event S
+  deactivation h author node = deactivates (record { author = author; call = calls_of author h; node = node })
+
 -- the codes by which a proof tells entries apart
 abbrev pub coded_publication : Coded Publication
 coded_publication =

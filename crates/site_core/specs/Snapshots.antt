@@ -1,5 +1,5 @@
 -- What a snapshot shows of a history.
-use Rattle.std.specs.Prelude.{◌≡◌, ℕ, ◌≤◌, List, ◌++◌, length, Some}
+use Rattle.std.specs.Prelude.{◌≡◌, ◌≤◌, List, ◌++◌, length, Some}
 use Rattle.std.specs.Arc.{arc_value}
 use Rattle.site_core.specs.Events.{Event}
 use Rattle.site_core.specs.Sets.{sets_at, site_at}

@@ -6,7 +6,7 @@ use Rattle.pp_values.specs.Datum.{Datum}
 use Rattle.res_core.specs.declared.export_set.ExportSet.{ExportSet}
 use Rattle.export_store.specs.Sets.{Sets}
 use Rattle.site_core.specs.Meaning.{Meaning}
-use Rattle.site_core.specs.Events.{Event, opens, publishes, deactivates, calls_of}
+use Rattle.site_core.specs.Events.{Event, opens, publication, deactivation}
 use Rattle.site_core.specs.Sets.{sets_after}
 use Rattle.site_core.specs.Legal.{meaning_at}
 use Rattle.site_core.specs.Core.{MOST_ENTRIES, IsKept}
@@ -46,18 +46,11 @@ module _ {S : Type 0} where
   abbrev pub without_flight : State S → ℕ → State S
   without_flight s flight = record s { flights = remove s.flights flight }
 
-  abbrev pub publication : State S → ℕ → List ℕ → Datum → ℕ → ExportSet → Event S
-  publication s author node facts k set =
-      publishes (record { author = author; call = calls_of author s.history; node = node; facts = facts; k = k; set = set })
-
-  abbrev pub deactivation : State S → ℕ → List ℕ → Event S
-  deactivation s author node = deactivates (record { author = author; call = calls_of author s.history; node = node })
-
 module _ {S C F : Type 0} (meaning : Meaning S C F) (limit : ℕ) where
   -- the call with that k publishes, where its meaning at k is no fault
   abbrev pub after_done : State S → ℕ → ℕ → List ℕ → Datum → ℕ → Option (State S)
   after_done s flight author node facts k =
-      option_map (λ set. without_flight (with_entry s (publication s author node facts k set)) flight)
+      option_map (λ set. without_flight (with_entry s (publication s.history author node facts k set)) flight)
       (option_and_then made_set (meaning_at meaning s.history k node facts))
 
   -- the state after a step, or nothing where the step can't be taken
@@ -66,7 +59,7 @@ module _ {S C F : Type 0} (meaning : Meaning S C F) (limit : ℕ) where
   after_step s (done flight author node facts) =
       if nat_lt (length s.history) limit then option_and_then (after_done s flight author node facts) (slice_get s.flights flight) else None
   after_step s (drop_call flight) = if nat_lt flight (length s.flights) then Some (without_flight s flight) else None
-  after_step s (deactivate author node) = if nat_lt (length s.history) limit then Some (with_entry s (deactivation s author node)) else None
+  after_step s (deactivate author node) = if nat_lt (length s.history) limit then Some (with_entry s (deactivation s.history author node)) else None
 
   -- the state after all steps in turn
   abbrev pub after_steps : State S → List Step → Option (State S)

@@ -42,8 +42,7 @@ impl Counts {
     pub fn raise(&mut self, author: u32)
         requires room { IsSome (get nat_cmp self.old.by_author author) }
         requires fits { count_in self.old.by_author author + 1 < 2 ^ 32 }
-        ensures {
-            (other : ℕ) →
+        ensures { (other : ℕ) →
             count_in self.new.by_author other
             ≡ (if author == other then count_in self.old.by_author other + 1 else count_in self.old.by_author other) }
     {

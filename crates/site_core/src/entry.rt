@@ -7,7 +7,9 @@ use std::sync::Arc;
 #[derive(Drop)]
 pub enum Entry<S> {
     /// The site was opened.
-    Open { site: Arc<S> },
+    Open {
+        site: Arc<S>,
+    },
     /// A node's exports took the place of those that it had.
     Publish {
         /// Who made the entry.

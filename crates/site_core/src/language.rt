@@ -19,7 +19,9 @@ use std::alloc::Global;
 /// lists of such members, and such hashes.
 pub trait Language {
     type Site: Drop;
+
     type Catalog: Drop;
+
     type Fault: Drop;
 
     ghost use Rattle.std.specs.Prelude.{ℕ, List, Option};
@@ -33,7 +35,9 @@ pub trait Language {
 
     // the texts of a site, a catalog and a fault, without a line feed at their end
     ghost site_form: { Self.Site → List ℕ };
+
     ghost catalog_form: { Self.Catalog → List ℕ };
+
     ghost fault_form: { Self.Fault → List ℕ };
 
     /// The catalog of a node with these facts, and what it exports.

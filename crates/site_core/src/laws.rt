@@ -10,23 +10,19 @@ use crate::language::Language;
 /// limit, the version and the site that are kept are those after all entries, and each call in flight began with entries of the history.
 pub fn runs_are_sound<L: Language>()
     ensures { RunsAreSound L.meaning }
-{
-}
+{}
 
 /// A prefix of a legal history is legal, unless it is empty.
 pub fn prefixes_are_legal<L: Language>()
     ensures { PrefixesAreLegal L.meaning }
-{
-}
+{}
 
 /// A snapshot goes on showing the first entries of its history when the history grows.
 pub fn snapshots_stay<L: Language>()
     ensures { SnapshotsStay L.Site }
-{
-}
+{}
 
 /// A node's set is that of its last publication, unless a deactivation came later.
 pub fn sets_are_the_latest<L: Language>()
     ensures { SetsAreTheLatest L.Site }
-{
-}
+{}

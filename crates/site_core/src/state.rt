@@ -3,7 +3,7 @@ ghost use Rattle.std.specs.Arc.{arc_value};
 ghost use Rattle.pp_values.specs.Views.{view};
 ghost use Rattle.site_core.specs.Facts.{are_facts};
 ghost use Rattle.site_core.specs.Meaning.{HasExports};
-ghost use Rattle.site_core.specs.Events.{publishes, deactivates, calls_of, is_by, is_later};
+ghost use Rattle.site_core.specs.Events.{is_by, is_later, publication, deactivation};
 ghost use Rattle.site_core.specs.EntryViews.{event_of};
 ghost use Rattle.site_core.specs.Sets.{sets_at, sets_after};
 ghost use Rattle.site_core.specs.Legal.{MayFollow};
@@ -109,27 +109,29 @@ impl<L: Language> CoreState<L> {
         requires of { Of snapshot self.old.history }
         requires meant { HasExports (L.meaning (arc_value snapshot.site) node (view facts) snapshot.version) set }
         ensures stop { Stops self.old result }
-        ensures ok {
-            OnOk result
-            (self.new ≡ with_event self.old (publishes (record {
-                author = author; call = calls_of author self.old.history; node = node; facts = view facts; k = snapshot.k; set = set }))) }
+        ensures ok { OnOk result (self.new ≡ with_event self.old (publication self.old.history author node (view facts) snapshot.k set)) }
         ensures err { OnErr result (self.new ≡ self.old) }
     {
         let number = self.next_number()?;
         let set = Arc::new(alloc, set)?;
         let version = self.version.with(alloc, &node, set.clone()?)?;
         let call = self.counts.count(author);
-        let k = snapshot.k;
-        self.add(author, Entry::Publish { author, call, node, facts, k, set }, version)?;
+        let entry = Entry::Publish {
+            author,
+            call,
+            node,
+            facts,
+            k: snapshot.k,
+            set,
+        };
+        self.add(author, entry, version)?;
         Ok(number)
     }
 
     /// A node exports nothing any more. The answer is the new entry's number, also for a node that exported nothing.
     pub fn deactivate(&mut self, alloc: Global, author: u32, node: Text) -> Result<u32, DoneStop>
         ensures stop { Stops self.old result }
-        ensures ok {
-            OnOk result
-            (self.new ≡ with_event self.old (deactivates (record { author = author; call = calls_of author self.old.history; node = node }))) }
+        ensures ok { OnOk result (self.new ≡ with_event self.old (deactivation self.old.history author node)) }
         ensures err { OnErr result (self.new ≡ self.old) }
     {
         let number = self.next_number()?;

@@ -10,5 +10,5 @@ done-requires g c =
       facts = rw c.new.ensures refl;
       of = c.requires;
       meant = subst (λ site. HasExports (g.L.Language.meaning site c.args.node (hash (entries_of c.new.result)) c.args.snapshot.version) c.in-Ok.set)
-          c.deref.ensures (has_exports _ c.in-Ok.catalog c.in-Ok.set c.in-Ok.ensures)
+          c.deref.ensures (has_exports _ c.in-Ok.catalog c.in-Ok.set c.in-Ok.ensures);
     }

@@ -1,7 +1,4 @@
-use Rattle.std.proofs.Common.{sym, ◌∙◌, subst}
-use Rattle.std.specs.Prelude.{IsTrue}
 use Rattle.std.proofs.lemmas.List.{map-append}
-use Rattle.site_core.specs.Events.{are_entries}
 use Rattle.site_core.specs.EntryViews.{event_of, events_of}
 use Rattle.site_core.proofs.Shapes.{are_entries-push}
 use Rattle.site_core.proofs.entries.Entries.push.Goals as goal

@@ -1,0 +1,9 @@
+pub mod Sums
+pub mod Fronts
+pub mod CallLemmas
+pub mod Tickets
+pub mod Keeps
+pub mod Merges
+pub mod Ends
+pub mod Placed
+mod Examples

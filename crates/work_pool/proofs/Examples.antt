@@ -1,0 +1,46 @@
+-- The definitions on small values.
+use Rattle.std.proofs.Common.{◌≡◌, ℕ, ◌+◌, List, [], ◌∷◌, Some, None, refl, arith}
+use Rattle.work_pool.specs.Counts.{Once}
+use Rattle.work_pool.specs.Seats.{ClaimsId, Claimant, first_seat, Draws, splitting, split_off, joining}
+
+module _ (claims : ClaimsId) where
+  first : Claimant
+  first = first_seat claims
+
+  second : Claimant
+  second = record (split_off first) { numbers = 1 ∷ []; known = 2 }
+
+  -- joined again a seat stands for all seats, and has the numbers of both
+  joins : (let both : Claimant = joining (splitting first) second in both.room + both.held ≡ 65536) × ((joining (splitting first) second).numbers ≡ 1 ∷ []) × ((joining (splitting first) second).known ≡ 2)
+  unfolding first second
+  joins = (refl, refl, refl)
+
+-- two numbers to be drawn
+abbrev two : ClaimsId → ClaimsId
+two claims = record claims { count = 2 }
+
+abbrev drawn : ClaimsId → List ℕ → ℕ → Claimant
+drawn claims numbers known = record (first_seat (two claims)) { numbers = numbers; known = known }
+
+-- number 0 comes first, and only with the seat's own list longer by it
+draws : (claims : ClaimsId) → Draws (Some 0) (drawn claims [] 0) (drawn claims (0 ∷ []) 1)
+draws claims = (omega arith, omega arith, (λ k d h. absurd (omega arith)), refl)
+
+-- a number comes once
+not_again : (claims : ClaimsId) → Draws (Some 0) (drawn claims (0 ∷ []) 1) (drawn claims (0 ∷ 0 ∷ []) 1) → ⊥
+not_again claims h = omega (arith, h.1)
+
+-- no number comes from past the end
+not_past : (claims : ClaimsId) → Draws (Some 2) (drawn claims (0 ∷ 1 ∷ []) 2) (drawn claims (0 ∷ 1 ∷ 2 ∷ []) 3) → ⊥
+not_past claims h = omega (arith, h.0)
+
+-- a draw that gives up while a number is left is refused
+not_yet : (claims : ClaimsId) → Draws None (drawn claims (0 ∷ []) 1) (drawn claims (0 ∷ []) 1) → ⊥
+not_yet claims h = omega (arith, h.0)
+
+-- a list with a number twice is refused, and an empty one is not
+twice : Once (3 ∷ 5 ∷ 3 ∷ []) → ⊥
+twice h = omega (arith, h 3)
+
+nothing : Once []
+nothing k = omega arith

@@ -1,0 +1,6 @@
+pub mod Counts
+pub mod Views
+pub mod Claimed
+pub mod Steps
+pub mod Seats
+pub mod Groups

@@ -1,0 +1,98 @@
+ghost use Rattle.std.specs.Prelude.{◌<◌, ◌≤◌, IfOk};
+ghost use Rattle.std.specs.List.{AllZip};
+
+use crate::groups::{grouped, put_together};
+use crate::jobs::{Job, WaitingJob};
+use std::alloc::{AllocError, Global};
+use std::sync::Wait;
+use std::thread;
+use std::thread::Threads;
+
+/// The most threads that a call starts.
+const THREADS: usize = 64;
+
+// As many as there are processors, where that can be told.
+fn processors<R: Threads>(rt: &R) -> usize
+    ensures { (0 < result) × (result ≤ 64) }
+{
+    match thread::available_parallelism(rt) {
+        Ok(count) => count.get().min(THREADS),
+        Err(_) => THREADS,
+    }
+}
+
+// Runs each job, one after another.
+fn run_in_turn<J: Job + Drop>(alloc: Global, jobs: Vec<J>) -> Result<Vec<J::Out>, AllocError>
+where
+    J::Out: Drop,
+    ensures { IfOk result (λ done. AllZip J.promise jobs.items done.items) }
+{
+    let mut done = Vec::with_capacity(alloc, jobs.len())?;
+    for job in jobs {
+        done.push(job.run())?;
+    }
+    Ok(done)
+}
+
+// Runs each job, one after another.
+fn run_waiting_in_turn<J: WaitingJob + Drop, R: Wait>(
+    rt: &R,
+    alloc: Global,
+    jobs: Vec<J>,
+) -> Result<Vec<J::Out>, AllocError>
+where
+    J::Out: Drop,
+    ensures { IfOk result (λ done. AllZip J.promise jobs.items done.items) }
+{
+    let mut done = Vec::with_capacity(alloc, jobs.len())?;
+    for job in jobs {
+        done.push(job.run(rt))?;
+    }
+    Ok(done)
+}
+
+/// Runs each job once, side by side where threads can be had, in at most as many as there are processors and
+/// at most 64, and gives the results in the jobs' order. Where memory is wanting some jobs may not have run.
+pub fn run_all<J: Job + Send + Drop, R: Threads + Sync>(
+    rt: &R,
+    alloc: Global,
+    jobs: Vec<J>,
+) -> Result<Vec<J::Out>, AllocError>
+where
+    J::Out: Send + Drop,
+    ensures { IfOk result (λ done. AllZip J.promise jobs.items done.items) }
+{
+    let count = processors(rt).min(jobs.len().max(1));
+    let groups = grouped(alloc, jobs, count)?;
+    let parts = thread::map_vec(
+        rt,
+        groups,
+        &|group: Vec<J>| -> Result<Vec<J::Out>, AllocError>
+            ensures { IfOk result (λ done. AllZip J.promise group.items done.items) }
+        { run_in_turn(alloc, group) },
+    )?;
+    put_together(alloc, parts)
+}
+
+/// Runs each job once, as `run_all` does, and the jobs may wait, for one another too: up to 64 jobs have a
+/// thread each, where threads can be had.
+pub fn run_waiting<J: WaitingJob + Send + Drop, R: Threads + Wait + Sync>(
+    rt: &R,
+    alloc: Global,
+    jobs: Vec<J>,
+) -> Result<Vec<J::Out>, AllocError>
+where
+    J::Out: Send + Drop,
+    ensures { IfOk result (λ done. AllZip J.promise jobs.items done.items) }
+{
+    let count = THREADS.min(jobs.len().max(1));
+    let groups = grouped(alloc, jobs, count)?;
+    let parts = thread::map_vec(
+        rt,
+        groups,
+        &|group: Vec<J>| -> Result<Vec<J::Out>, AllocError>
+            ensures { IfOk result (λ done. AllZip J.promise group.items done.items) }
+        { run_waiting_in_turn(rt, alloc, group) },
+    )?;
+    put_together(alloc, parts)
+}

@@ -1,89 +1,75 @@
--- Manifests, and what they mean; catalogs and faults, and their texts.
-use Rattle.std.proofs.Common.{◌≡◌, ℕ, List, [], ◌∷◌, ◌++◌, Option, Some, None, Result, Ok, Err, pos, negsuc, refl, codes}
-use Rattle.std.specs.Fmt.{digits}
-use Rattle.serde_json.specs.Written.{compact_text}
-use Rattle.serde_json.proofs.OnLiterals.{serde_json_on_literals}
-use Rattle.pp_values.specs.declared.fault.Fault.{Fault}
-use Rattle.pp_values.specs.declared.fault.What.{What}
-use Rattle.pp_values.specs.declared.fault.What.TheVariants.{Syntax, Failed, Cycle, AlreadySet}
-use Rattle.pp_values.specs.declared.fault.Subject.TheVariants as subject
+-- What the trees of manifests mean, on small values.
+use Rattle.std.proofs.Common.{◌≡◌, ℕ, true, false, Bool, List, [], ◌∷◌, Option, Some, None, Ok, Err, map, refl, codes}
 use Rattle.pp_values.specs.Datum as d
+use Rattle.pp_values.specs.declared.fault.What.TheVariants.{Duplicate, UnknownParameter}
 use Rattle.pp_parser.specs.declared.tree.Notify.{Notify}
-use Rattle.pp_parser.specs.Manifest.{step, statements_from, statements_of, file_of}
-use Rattle.pp_parser.specs.Tokens.{unescaped, comment, quoted, name, mark, front, same_kind, tokens}
+use Rattle.pp_parser.specs.declared.tree.Collector.{Collector}
+use Rattle.pp_parser.specs.declared.tree.Statement.TheVariants as statement
+use Rattle.res_core.specs.Settings.{Setting}
 use Rattle.res_core.specs.TagNames.{segments, is_word_byte, is_tag_byte}
-use Rattle.compile_core.specs.ValueForm.{form, reference_form, long_form}
-use Rattle.compile_core.specs.CatalogText.{held_object, held_data, edge_data, catalog_object, catalog_data, catalog_text}
-use Rattle.compile_core.specs.FaultText.{plain_line, fault_text}
-use Rattle.compile_core.specs.Meaning.{main_manifest, duplicate, declare, main_class, notify_resource, catalog_of, meaning}
+use Rattle.export_store.specs.ExportQueries.{Placed}
+use Rattle.compile_core.specs.Declarations.{local, imported, declare, in_turn, locals, collectors}
+use Rattle.compile_core.specs.Imports.{import_one}
+use Rattle.compile_core.specs.Finishing.{notify_resource, is_live, exported_of, listed}
+use Rattle.compile_core.specs.Meaning.{main_manifest}
 
-abbrev at_line : ℕ → List ℕ → Option (List ℕ) → Notify
-at_line line title message = record { title = title; message = message; at = record { file = main_manifest; line = line } }
+-- a resource of the main manifest, by its line
+abbrev at_line : ℕ → Bool → List ℕ → Option (List ℕ) → Notify
+at_line line exported title tag = record { exported = exported; title = title; message = None; tag = tag; at = record { file = main_manifest; line = line } }
 
-abbrev node : List ℕ
-node = codes "n1"
+abbrev asks : Option (List ℕ) → Collector
+asks tag = record { tag = tag; at = record { file = main_manifest; line = 9 } }
 
--- a manifest of one notify
-one : meaning node (codes "notify { 'hi': message => 'hello' }") ≡ Ok (catalog_of node (at_line 1 (codes "hi") (Some (codes "hello")) ∷ []))
-unfolding meaning declare file_of statements_of statements_from step tokens front comment quoted name mark unescaped same_kind
-one = refl
+-- a resource of another node's set
+abbrev export : List ℕ → ℕ → List ℕ → List Setting → Placed
+export node place title settings =
+    (record { node = node; place = place }, record { node_place = record { file = codes "other.pp"; line = 3 }; item = record { kind = codes "notify"; title = title; attributes = settings; tags = codes "web" ∷ [] } })
 
-one_text : catalog_text (catalog_of node (at_line 1 (codes "hi") (Some (codes "hello")) ∷ []))
-    ≡ codes "{\"catalog\":1,\"edges\":[],\"node\":\"n1\",\"resources\":[{\"attrs\":{},\"in\":[],\"tags\":[\"class\",\"main\"],\"title\":\"main\",\"type\":\"Class\"},{\"attrs\":{\"message\":\"hello\"},\"in\":[0],\"tags\":[\"class\",\"hi\",\"main\",\"notify\"],\"title\":\"hi\",\"type\":\"Notify\"}]}"
-unfolding catalog_of main_class notify_resource segments is_word_byte is_tag_byte held_object held_data edge_data catalog_object catalog_data digits serde_json_on_literals
-one_text = refl
+-- statements keep their order, and collectors come after them
+statements : (let ss = statement.Collector (asks None) ∷ statement.Notify (at_line 1 true (codes "x") None) ∷ [] in (locals ss ≡ local (at_line 1 true (codes "x") None) ∷ []) × (collectors ss ≡ asks None ∷ []))
+statements = (refl, refl)
 
--- the empty manifest
-none : meaning node [] ≡ Ok (catalog_of node [])
-unfolding meaning declare file_of statements_of statements_from tokens
-none = refl
-
-none_text : catalog_text (catalog_of node []) ≡ codes "{\"catalog\":1,\"edges\":[],\"node\":\"n1\",\"resources\":[{\"attrs\":{},\"in\":[],\"tags\":[\"class\",\"main\"],\"title\":\"main\",\"type\":\"Class\"}]}"
-unfolding catalog_of main_class segments is_word_byte is_tag_byte held_object held_data catalog_object catalog_data digits serde_json_on_literals
-none_text = refl
-
--- a title twice
-twice : meaning node (codes "notify { 'a': }" ++ 10 ∷ codes "notify { 'a': }") ≡ Err (duplicate (at_line 2 (codes "a") None) (record { file = main_manifest; line = 1 }))
-unfolding meaning declare file_of statements_of statements_from step tokens front comment quoted name mark unescaped same_kind
-twice = refl
-
-twice_text : fault_text (duplicate (at_line 2 (codes "a") None) (record { file = main_manifest; line = 1 })) ≡ codes "F14 manifests/site.pp:2 Duplicate Notify[a] manifests/site.pp:1"
-unfolding fault_text plain_line digits
-twice_text = refl
-
--- of several titles that stand twice, the first statement with an earlier title counts
-first_of_three : declare [] (at_line 1 (codes "a") None ∷ at_line 2 (codes "b") None ∷ at_line 3 (codes "b") None ∷ at_line 4 (codes "a") None ∷ [])
-    ≡ Err (duplicate (at_line 3 (codes "b") None) (record { file = main_manifest; line = 2 }))
-unfolding declare
+-- of several titles that stand twice, the first statement with an earlier title counts, exported or not
+first_of_three : in_turn declare [] (map local (at_line 1 false (codes "a") None ∷ at_line 2 true (codes "b") None ∷ at_line 3 false (codes "b") None ∷ at_line 4 false (codes "a") None ∷ []))
+    ≡ Err (record { at = record { file = main_manifest; line = 3 }; what = Duplicate (record { kind = codes "notify"; title = codes "b" }) (record { file = main_manifest; line = 2 }) })
+unfolding in_turn
 first_of_three = refl
 
--- titles are compared letter by letter, and `main` is no title of a notify
-titles : declare [] (at_line 1 (codes "a") None ∷ at_line 1 (codes "A") None ∷ at_line 1 (codes "main") None ∷ [])
-    ≡ Ok (at_line 1 (codes "a") None ∷ at_line 1 (codes "A") None ∷ at_line 1 (codes "main") None ∷ [])
-unfolding declare
+-- titles are compared byte by byte
+titles : in_turn declare [] (map local (at_line 1 false (codes "a") None ∷ at_line 1 false (codes "A") None ∷ []))
+    ≡ Ok (map local (at_line 1 false (codes "a") None ∷ at_line 1 false (codes "A") None ∷ []))
+unfolding in_turn
 titles = refl
 
-abbrev fault : What → Fault
-fault what = record { at = record { file = codes "m.pp"; line = 7 }; what = what }
+-- a resource that is found twice is imported once
+found_twice : in_turn import_one [] (export (codes "a") 0 (codes "x") [] ∷ export (codes "a") 1 (codes "y") [] ∷ export (codes "a") 0 (codes "x") [] ∷ [])
+    ≡ Ok (imported (export (codes "a") 0 (codes "x") []) ∷ imported (export (codes "a") 1 (codes "y") []) ∷ [])
+unfolding in_turn
+found_twice = refl
 
--- details that are none, or empty; a line feed within; a cycle
-lines : (fault_text (fault Syntax) ≡ codes "F1 m.pp:7 Syntax")
-    × (fault_text (fault (Failed [])) ≡ codes "F25 m.pp:7 Failed")
-    × (fault_text (fault (Failed (97 ∷ 10 ∷ 98 ∷ []))) ≡ codes "F25 m.pp:7 Failed a b")
-    × (fault_text (fault (AlreadySet (subject.Kind (codes "web::vhost")) (codes "ip"))) ≡ codes "F15 m.pp:7 AlreadySet Web::Vhost ip")
-    × (fault_text (fault (Cycle (record { kind = codes "notify"; title = codes "f" } ∷ record { kind = codes "file"; title = codes "/a" } ∷ []))) ≡ codes "F18 m.pp:7 Cycle Notify[f] -> File[/a] -> Notify[f]")
-unfolding fault_text plain_line digits
-lines = (refl, refl, refl, refl, refl)
+-- one of the same title from another node is a fault at its own place, with the place of the earlier one
+two_nodes : in_turn import_one (local (at_line 5 true (codes "x") None) ∷ []) (export (codes "a") 0 (codes "x") [] ∷ [])
+    ≡ Err (record { at = record { file = codes "other.pp"; line = 3 }; what = Duplicate (record { kind = codes "notify"; title = codes "x" }) (record { file = main_manifest; line = 5 }) })
+unfolding in_turn
+two_nodes = refl
 
-abbrev pairs : List ℕ → List ℕ → d.Datum
-pairs first second = d.hash (d.entry (d.text first) (d.int (pos 1)) (d.entry (d.text second) (d.int (negsuc 1)) d.no_entries))
+-- the attributes are tested before the title
+attribute_first : in_turn import_one (local (at_line 5 true (codes "x") None) ∷ []) (export (codes "a") 0 (codes "x") ((codes "message", d.text []) ∷ (codes "mode", d.undef) ∷ []) ∷ [])
+    ≡ Err (record { at = record { file = codes "other.pp"; line = 3 }; what = UnknownParameter (record { kind = codes "notify"; title = codes "x" }) (codes "mode") })
+unfolding in_turn
+attribute_first = refl
 
--- the forms of values
-forms : (compact_text (form (pairs (codes "a") (codes "b"))) ≡ codes "{\"a\":1,\"b\":-2}")
-    × (compact_text (form (pairs (codes "b") (codes "a"))) ≡ codes "{\"__ptype\":\"Hash\",\"__pvalue\":[\"b\",1,\"a\",-2]}")
-    × (compact_text (form (pairs (codes "a") (codes "a"))) ≡ codes "{\"__ptype\":\"Hash\",\"__pvalue\":[\"a\",1,\"a\",-2]}")
-    × (compact_text (form (pairs (codes "__p") (codes "a"))) ≡ codes "{\"__ptype\":\"Hash\",\"__pvalue\":[\"__p\",1,\"a\",-2]}")
-    × (compact_text (form (d.reference (record { kind = codes "file"; title = codes "/A" }))) ≡ codes "{\"__ptype\":\"Ref\",\"kind\":\"file\",\"title\":\"/A\"}")
-    × (compact_text (form (d.list (d.datum d.undef (d.datum (d.text []) d.no_data)))) ≡ codes "[null,\"\"]")
-unfolding reference_form long_form digits serde_json_on_literals
-forms = (refl, refl, refl, refl, refl, refl)
+-- an exported resource is live where a collector asks for one of its tags, or for none
+live : (is_live [] (local (at_line 1 true (codes "x") (Some (codes "Web")))) ≡ false)
+    × (is_live (asks (Some (codes "dns")) ∷ asks (Some (codes "WEB")) ∷ []) (local (at_line 1 true (codes "x") (Some (codes "Web")))) ≡ true)
+    × (is_live (asks (Some (codes "dns")) ∷ []) (local (at_line 1 true (codes "x") (Some (codes "Web")))) ≡ false)
+    × (is_live (asks None ∷ []) (local (at_line 1 true (codes "x") None)) ≡ true)
+    × (is_live [] (local (at_line 1 false (codes "x") None)) ≡ true)
+unfolding notify_resource segments is_word_byte is_tag_byte
+live = (refl, refl, refl, refl, refl)
+
+-- what is imported is in the catalog with its published tags, and not exported again
+imports : (exported_of (imported (export (codes "a") 0 (codes "x") []) ∷ []) ≡ [])
+    × (listed [] (imported (export (codes "a") 0 (codes "x") []) ∷ [])
+    ≡ record { item = record { kind = codes "notify"; title = codes "x"; attributes = []; tags = codes "web" ∷ [] }; inside = 0 ∷ [] } ∷ [])
+imports = (refl, refl)

@@ -1,7 +1,8 @@
-pub mod LineLemmas
-pub mod Floats
-pub mod AttributeMembers
-pub mod Declared
-pub mod Forms
-pub mod FormLemmas
 mod Examples
+pub mod ImportLaws
+pub mod Lists
+pub mod RoundLaws
+pub mod PlaceLemmas
+pub mod Statements
+pub mod TitleLemmas
+pub mod Turns

@@ -1,4 +1,9 @@
-pub mod FaultText
-pub mod ValueForm
-pub mod CatalogText
+pub mod Declarations
+pub mod DeclarationViews
+pub mod DeclaredCodes
+pub mod Finishing
+pub mod Imports
+pub mod Laws
 pub mod Meaning
+pub mod Places
+pub mod Titles

@@ -1,9 +1,12 @@
-//! What a manifest means: the catalog of a node, or the first fault; and the texts of both.
+//! What a manifest means: the catalog of a node and what it exports, or the first fault.
 #![tactic(auto)]
 
-pub mod catalog_texts;
 pub mod compiling;
-pub mod fault_texts;
+mod declaration;
+mod declarations;
+mod finishing;
+mod importing;
+pub mod language;
+pub mod laws;
 #[cfg(test)]
 mod tests;
-pub mod value_forms;

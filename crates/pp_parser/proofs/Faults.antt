@@ -4,14 +4,15 @@ use Rattle.pp_parser.specs.declared.refusal.Spot.{Spot}
 use Rattle.pp_parser.specs.declared.refusal.Spot.TheVariants as spots
 use Rattle.pp_parser.specs.declared.token.Kind.{Kind}
 use Rattle.pp_parser.specs.declared.token.Kind.TheVariants as kinds
-use Rattle.pp_parser.specs.declared.tree.Notify.{Notify}
-use Rattle.pp_parser.specs.Grammar.{notify_of, IsNotify, Reads, GoesOn, GoesOnWith, FaultsAt}
+use Rattle.pp_parser.specs.declared.tree.Statement.{Statement}
+use Rattle.pp_parser.specs.Grammar.{Reads, GoesOn, GoesOnWith, FaultsAt}
 use Rattle.pp_parser.specs.Grammar as grammar
-use Rattle.pp_parser.specs.Manifest.{Position, finish, between, named, opened, titled, parted, asked, pointed, valued, ended, Move, to, closes, advance, step, refused, statements_from, line_of}
-use Rattle.pp_parser.specs.Steps.{Outcome, spot_of, text_spot_of, notify}
+use Rattle.pp_parser.specs.Manifest.{Position, finish, between, exporting, named, opened, titled, parted, asked, pointed, valued, called, collecting, queried, compared, limited, Move, to, closes, advance, step, refused, statements_from, statement_from, line_of}
+use Rattle.pp_parser.specs.Steps.{Outcome, spot_of, text_spot_of}
 use Rattle.pp_parser.specs.Tokens.{Lexeme, same_kind}
-use Rattle.pp_parser.proofs.Reading.{begins, followed}
-use Rattle.pp_parser.proofs.Sound.{notify_ok, notify_shorter}
+use Rattle.pp_parser.proofs.Reading.{statement_steps}
+use Rattle.pp_parser.proofs.Sound.{statement_ok, statement_shorter}
+use Rattle.pp_parser.proofs.Turns.{begins, followed}
 use Rattle.pp_parser.proofs.Complete.{statements_read}
 
 followed_ok : {A B : Type 0} (o : Outcome A) (f : A → List Lexeme → Result B Spot) (y : B) → followed o f ≡ Ok y → (x : A × List Lexeme) × (o ≡ Ok x) × (f x.0 x.1 ≡ Ok y)
@@ -20,37 +21,38 @@ followed_ok (Err e) f y h = absurd (cc)
 
 module _ (path : List ℕ) where
   -- what was read is in the grammar, for at most n tokens
-  in_grammar : (n : ℕ) (ts : List Lexeme) (found ns : List Notify) → length ts ≤ n → statements_from path ts found between ≡ Ok ns → (ms : List Notify) × Reads path ts ms × (ns ≡ found ++ ms)
+  in_grammar : (n : ℕ) (ts : List Lexeme) (found all : List Statement) → length ts ≤ n → statements_from path ts found between ≡ Ok all → (others : List Statement) × Reads path ts others × (all ≡ found ++ others)
   unfolding statements_from
-  in_grammar n [] found ns small is = let same : found ≡ ns = cc in ([], grammar.nothing, sym same ∙ sym (append-nil found))
-  in_grammar zero (t ∷ ts) found ns small is = absurd (omega arith)
-  in_grammar (suc n) (t ∷ ts) found ns small is =
-      let first = followed_ok (notify path (t ∷ ts)) (λ m us. statements_from path us (found ++ m ∷ []) between) ns (sym (begins path found t ts) ∙ is) in
-      let front = notify_ok path (t ∷ ts) first.0.0 first.0.1 first.1 in
-      let shorter = notify_shorter path (t ∷ ts) first.0.0 first.0.1 first.1 in
-      let others = in_grammar n first.0.1 (found ++ first.0.0 ∷ []) ns (omega arith) first.2 in
-      (first.0.0 ∷ others.0, subst (λ (us : List Lexeme). Reads path us (first.0.0 ∷ others.0)) (sym front.2) (grammar.more front.0 first.0.1 first.0.0 others.0 front.1 others.1), others.2 ∙ append_assoc found (first.0.0 ∷ []) others.0)
+  in_grammar n [] found all small is = let same : found ≡ all = cc in ([], grammar.nothing, sym same ∙ sym (append-nil found))
+  in_grammar zero (t ∷ ts) found all small is = absurd (omega arith)
+  in_grammar (suc n) (t ∷ ts) found all small is =
+      let first = followed_ok (statement_from path (t ∷ ts) between) (λ s us. statements_from path us (found ++ s ∷ []) between) all (sym (begins path t ts found) ∙ is) in
+      let steps = sym (statement_steps path (t ∷ ts)) ∙ first.1 in
+      let stands = statement_ok path (t ∷ ts) first.0.0 first.0.1 steps in
+      let shorter = statement_shorter path (t ∷ ts) first.0.0 first.0.1 steps in
+      let rest = in_grammar n first.0.1 (found ++ first.0.0 ∷ []) all (omega arith) first.2 in
+      (first.0.0 ∷ rest.0, subst (λ (us : List Lexeme). Reads path us (first.0.0 ∷ rest.0)) (sym stands.tokens) (grammar.more stands.front first.0.1 first.0.0 rest.0 stands.is rest.1), rest.2 ∙ append_assoc found (first.0.0 ∷ []) rest.0)
 
-  pub statements_in_grammar : (ts : List Lexeme) (ns : List Notify) → statements_from path ts [] between ≡ Ok ns → Reads path ts ns
-  statements_in_grammar ts ns is =
-      let read = in_grammar (length ts) ts [] ns (omega arith) is in
+  pub statements_in_grammar : (ts : List Lexeme) (all : List Statement) → statements_from path ts [] between ≡ Ok all → Reads path ts all
+  statements_in_grammar ts all is =
+      let read = in_grammar (length ts) ts [] all (omega arith) is in
       subst (Reads path ts) (sym read.2) read.1
 
   -- ---- the tokens before a place lead to a position
 
-  Leads : List Lexeme → List Notify → Position → Type 0
+  Leads : List Lexeme → List Statement → Position → Type 0
   Leads front found p = (ts : List Lexeme) → statements_from path (front ++ ts) [] between ≡ statements_from path ts found p
 
-  leads_to : (front : List Lexeme) (found : List Notify) (p q : Position) (t : Lexeme) → Leads front found p → step path p t ≡ Some (to q) → Leads (front ++ t ∷ []) found q
+  leads_to : (front : List Lexeme) (found : List Statement) (p q : Position) (t : Lexeme) → Leads front found p → step path p t ≡ Some (to q) → Leads (front ++ t ∷ []) found q
   unfolding Leads statements_from
   leads_to front found p q t leads is ts = ap (λ us. statements_from path us [] between) (append_assoc front (t ∷ []) ts) ∙ leads (t ∷ ts) ∙ ap (λ m. advance (statements_from path ts) found m (refused p t)) is
 
-  leads_past : (front : List Lexeme) (found : List Notify) (p : Position) (n : Notify) (t : Lexeme) → Leads front found p → step path p t ≡ Some (closes n) → Leads (front ++ t ∷ []) (found ++ n ∷ []) between
+  leads_past : (front : List Lexeme) (found : List Statement) (p : Position) (s : Statement) (t : Lexeme) → Leads front found p → step path p t ≡ Some (closes s) → Leads (front ++ t ∷ []) (found ++ s ∷ []) between
   unfolding Leads statements_from
-  leads_past front found p n t leads is ts = ap (λ us. statements_from path us [] between) (append_assoc front (t ∷ []) ts) ∙ leads (t ∷ ts) ∙ ap (λ m. advance (statements_from path ts) found m (refused p t)) is
+  leads_past front found p s t leads is ts = ap (λ us. statements_from path us [] between) (append_assoc front (t ∷ []) ts) ∙ leads (t ∷ ts) ∙ ap (λ m. advance (statements_from path ts) found m (refused p t)) is
 
   -- a token that is refused goes on with nothing
-  no_way : (front : List Lexeme) (found : List Notify) (p : Position) (t : Lexeme) → Leads front found p → step path p t ≡ None → GoesOn path (front ++ t ∷ []) → ⊥
+  no_way : (front : List Lexeme) (found : List Statement) (p : Position) (t : Lexeme) → Leads front found p → step path p t ≡ None → GoesOn path (front ++ t ∷ []) → ⊥
   unfolding Leads statements_from
   no_way front found p t leads none way =
       let read = statements_read path ((front ++ t ∷ []) ++ way.0) way.1 [] way.2 in
@@ -68,29 +70,27 @@ module _ (path : List ℕ) where
 
   way : Position → List Lexeme
   way between = []
-  way named = mark kinds.OpenBrace ∷ quote ∷ mark kinds.Colon ∷ mark kinds.CloseBrace ∷ []
-  way opened = quote ∷ mark kinds.Colon ∷ mark kinds.CloseBrace ∷ []
-  way (titled x) = mark kinds.Colon ∷ mark kinds.CloseBrace ∷ []
-  way (parted x) = mark kinds.CloseBrace ∷ []
-  way (asked x) = mark kinds.Arrow ∷ quote ∷ mark kinds.CloseBrace ∷ []
-  way (pointed x) = quote ∷ mark kinds.CloseBrace ∷ []
-  way (valued x v) = mark kinds.CloseBrace ∷ []
-  way (ended x v) = mark kinds.CloseBrace ∷ []
+  way exporting = mark kinds.Notify ∷ mark kinds.OpenBrace ∷ quote ∷ mark kinds.Colon ∷ mark kinds.CloseBrace ∷ []
+  way (named exported) = mark kinds.OpenBrace ∷ quote ∷ mark kinds.Colon ∷ mark kinds.CloseBrace ∷ []
+  way (opened exported) = quote ∷ mark kinds.Colon ∷ mark kinds.CloseBrace ∷ []
+  way (titled n) = mark kinds.Colon ∷ mark kinds.CloseBrace ∷ []
+  way (parted n) = mark kinds.CloseBrace ∷ []
+  way (asked makes) = mark kinds.Arrow ∷ quote ∷ mark kinds.CloseBrace ∷ []
+  way (pointed makes) = quote ∷ mark kinds.CloseBrace ∷ []
+  way (valued n) = mark kinds.CloseBrace ∷ []
+  way (called type) = mark kinds.OpenCollector ∷ mark kinds.CloseCollector ∷ []
+  way (collecting type) = mark kinds.CloseCollector ∷ []
+  way (queried type) = mark kinds.DoubleEquals ∷ quote ∷ mark kinds.CloseCollector ∷ []
+  way (compared type) = quote ∷ mark kinds.CloseCollector ∷ []
+  way (limited type tag) = mark kinds.CloseCollector ∷ []
 
-  way_read : (p : Position) (found : List Notify) → (ns : List Notify) × (statements_from path (way p) found p ≡ Ok ns)
+  way_read : (p : Position) (found : List Statement) → (all : List Statement) × (statements_from path (way p) found p ≡ Ok all)
   unfolding way mark quote statements_from step same_kind
   way_read between found = (_, refl)
-  way_read named found = (_, refl)
-  way_read opened found = (_, refl)
-  way_read (titled x) found = (_, refl)
-  way_read (parted x) found = (_, refl)
-  way_read (asked x) found = (_, refl)
-  way_read (pointed x) found = (_, refl)
-  way_read (valued x v) found = (_, refl)
-  way_read (ended x v) found = (_, refl)
+  way_read _ found = (_, refl)
 
   -- tokens that lead to a position go on
-  goes_on : (front : List Lexeme) (found : List Notify) (p : Position) → Leads front found p → GoesOn path front
+  goes_on : (front : List Lexeme) (found : List Statement) (p : Position) → Leads front found p → GoesOn path front
   unfolding Leads
   goes_on front found p leads = let end = way_read p found in (way p, end.0, statements_in_grammar (front ++ way p) end.0 (leads (way p) ∙ end.1))
 
@@ -111,8 +111,9 @@ module _ (path : List ℕ) where
 
   text_cases : (p : Position) → RefusesText p ⊎ TakesText p
   unfolding step same_kind
-  text_cases opened = inr (record { spot_is = λ t. refl; some = λ line. (_, refl) })
-  text_cases (pointed x) = inr (record { spot_is = λ t. refl; some = λ line. (_, refl) })
+  text_cases (opened exported) = inr (record { spot_is = λ t. refl; some = λ line. (_, refl) })
+  text_cases (pointed makes) = inr (record { spot_is = λ t. refl; some = λ line. (_, refl) })
+  text_cases (compared type) = inr (record { spot_is = λ t. refl; some = λ line. (_, refl) })
   text_cases _ = inl (record { spot_is = λ t. refl; none = λ bytes line. refl })
 
   spot_cases : (k : Kind) (line : ℕ) → ((spot_of k line ≡ spots.Line line) × (k ≡ kinds.UnclosedComment → ⊥)) ⊎ ((spot_of k line ≡ spots.End) × (k ≡ kinds.UnclosedComment))
@@ -125,7 +126,7 @@ module _ (path : List ℕ) where
   text_spot_cases _ line = inl (refl, (λ e. cc), (λ e. cc))
 
   -- only at the end of the file is an end that comes too early
-  finish_end : (p : Position) (found : List Notify) (spot : Spot) → finish p found ≡ Err spot → spot ≡ spots.End
+  finish_end : (p : Position) (found : List Statement) (spot : Spot) → finish p found ≡ Err spot → spot ≡ spots.End
   finish_end between found spot is = absurd (cc)
   finish_end _ found spot is = cc
 
@@ -138,7 +139,7 @@ module _ (path : List ℕ) where
     placed front ts s is fault = subst (λ (r : Spot). FaultsAt path end front ts (line_of end r)) (sym is) fault
 
     -- a token that is refused
-    refusal : (front ts : List Lexeme) (t : Lexeme) (found : List Notify) (p : Position) → Leads front found p → step path p t ≡ None → spot ≡ refused p t → Faults front (t ∷ ts)
+    refusal : (front ts : List Lexeme) (t : Lexeme) (found : List Statement) (p : Position) → Leads front found p → step path p t ≡ None → spot ≡ refused p t → Faults front (t ∷ ts)
     refusal front ts t found p leads none is = ⊎_elim no_text some_text (text_cases p)
       where
         in_comment : t.kind ≡ kinds.UnclosedComment → spot ≡ spots.End → Faults front (t ∷ ts)
@@ -178,18 +179,18 @@ module _ (path : List ℕ) where
             with_text not_comment not_text (grammar.comment is_comment goes) = not_comment is_comment
 
     abbrev Further : List Lexeme → Type 0
-    Further ts = (front : List Lexeme) (found : List Notify) (p : Position) → Leads front found p → statements_from path ts found p ≡ Err spot → Faults front ts
+    Further ts = (front : List Lexeme) (found : List Statement) (p : Position) → Leads front found p → statements_from path ts found p ≡ Err spot → Faults front ts
 
-    by_move : (m : Option Move) (t : Lexeme) (ts front : List Lexeme) (found : List Notify) (p : Position) → Further ts → Leads front found p → step path p t ≡ m → advance (statements_from path ts) found m (refused p t) ≡ Err spot → Faults front (t ∷ ts)
+    by_move : (m : Option Move) (t : Lexeme) (ts front : List Lexeme) (found : List Statement) (p : Position) → Further ts → Leads front found p → step path p t ≡ m → advance (statements_from path ts) found m (refused p t) ≡ Err spot → Faults front (t ∷ ts)
     by_move None t ts front found p further leads e is = refusal front ts t found p leads e (let same : refused p t ≡ spot = cc in sym same)
     by_move (Some (to q)) t ts front found p further leads e is =
         let on = leads_to front found p q t leads e in
         grammar.behind front ts t (line_of end spot) (goes_on (front ++ t ∷ []) found q on) (further (front ++ t ∷ []) found q on is)
-    by_move (Some (closes n)) t ts front found p further leads e is =
-        let on = leads_past front found p n t leads e in
-        grammar.behind front ts t (line_of end spot) (goes_on (front ++ t ∷ []) (found ++ n ∷ []) between on) (further (front ++ t ∷ []) (found ++ n ∷ []) between on is)
+    by_move (Some (closes s)) t ts front found p further leads e is =
+        let on = leads_past front found p s t leads e in
+        grammar.behind front ts t (line_of end spot) (goes_on (front ++ t ∷ []) (found ++ s ∷ []) between on) (further (front ++ t ∷ []) (found ++ s ∷ []) between on is)
 
-    faults_from : (ts front : List Lexeme) (found : List Notify) (p : Position) → Leads front found p → statements_from path ts found p ≡ Err spot → Faults front ts
+    faults_from : (ts front : List Lexeme) (found : List Statement) (p : Position) → Leads front found p → statements_from path ts found p ≡ Err spot → Faults front ts
     unfolding statements_from Leads
     faults_from [] front found p leads is =
         placed front [] spots.End (finish_end p found spot is) (grammar.at_end front (λ ns reads.

@@ -3,7 +3,7 @@ use Rattle.std.proofs.Common.{◌≡◌, ℕ, List, [], Result, Ok, Err, refl, s
 use Rattle.pp_values.specs.declared.fault.Fault.{Fault}
 use Rattle.pp_parser.specs.declared.refusal.Spot.{Spot}
 use Rattle.pp_parser.specs.declared.tree.File.{File}
-use Rattle.pp_parser.specs.declared.tree.Notify.{Notify}
+use Rattle.pp_parser.specs.declared.tree.Statement.{Statement}
 use Rattle.pp_parser.specs.Grammar.{Reads, FaultsAt}
 use Rattle.pp_parser.specs.Laws.{IsTree, IsSyntaxFault}
 use Rattle.pp_parser.specs.Manifest.{statements_of, line_of, syntax_fault, file_or_fault, file_of}
@@ -13,7 +13,7 @@ use Rattle.pp_parser.proofs.Faults.{statements_in_grammar, faults}
 use Rattle.pp_parser.proofs.Lines.{no_fault, same_line}
 
 module _ (path text : List ℕ) where
-  tree_by : (o : Result (List Notify) Spot) (f : File) → statements_of path text ≡ o → file_or_fault path (end_line text) o ≡ Ok f → IsTree path text f
+  tree_by : (o : Result (List Statement) Spot) (f : File) → statements_of path text ≡ o → file_or_fault path (end_line text) o ≡ Ok f → IsTree path text f
   unfolding statements_of
   tree_by (Ok ns) f is tree =
       let same : ns ≡ f.statements = cc in
@@ -30,7 +30,7 @@ module _ (path text : List ℕ) where
   unfolding file_of statements_of
   reads_tree f tree = ap (λ o. file_or_fault path (end_line text) o) (statements_read path (tokens text) f.statements [] tree)
 
-  fault_by : (o : Result (List Notify) Spot) (fault : Fault) → statements_of path text ≡ o → file_or_fault path (end_line text) o ≡ Err fault → IsSyntaxFault path text fault
+  fault_by : (o : Result (List Statement) Spot) (fault : Fault) → statements_of path text ≡ o → file_or_fault path (end_line text) o ≡ Err fault → IsSyntaxFault path text fault
   unfolding statements_of
   fault_by (Ok ns) fault is refused = absurd (cc)
   fault_by (Err spot) fault is refused = record {
@@ -56,7 +56,7 @@ module _ (path text : List ℕ) where
   has_syntax_fault fault found = line_by (file_of path text) found.line refl found.stands ∙ ap (λ e. Err e) (sym found.is)
 
 -- tokens have one tree at most
-pub same_statements : (path : List ℕ) (ts : List Lexeme) (ns ms : List Notify) → Reads path ts ns → Reads path ts ms → ns ≡ ms
+pub same_statements : (path : List ℕ) (ts : List Lexeme) (ns ms : List Statement) → Reads path ts ns → Reads path ts ms → ns ≡ ms
 same_statements path ts ns ms one other =
     let both = sym (statements_read path ts ns [] one) ∙ statements_read path ts ms [] other in
     cc

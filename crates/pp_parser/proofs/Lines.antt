@@ -2,10 +2,10 @@
 use Rattle.std.proofs.Common.{◌≡◌, ◌⊎◌, inl, inr, ℕ, List, [], ◌∷◌, ◌++◌, Option, Some, None, Ok, refl, sym, ap, ◌∙◌, subst, append_assoc, append-nil}
 use Rattle.pp_parser.specs.declared.token.Kind.{Kind}
 use Rattle.pp_parser.specs.declared.token.Kind.TheVariants as kinds
-use Rattle.pp_parser.specs.declared.tree.Notify.{Notify}
+use Rattle.pp_parser.specs.declared.tree.Statement.{Statement}
 use Rattle.pp_parser.specs.Grammar.{Reads, GoesOn, GoesOnWith, FaultsAt}
 use Rattle.pp_parser.specs.Grammar as grammar
-use Rattle.pp_parser.specs.Manifest.{Position, between, named, opened, titled, parted, asked, pointed, valued, ended, Move, to, closes, advance, step, refused, statements_from}
+use Rattle.pp_parser.specs.Manifest.{Position, between, parted, Move, to, closes, advance, step, refused, statements_from}
 use Rattle.pp_parser.specs.Tokens.{Lexeme, same_kind}
 use Rattle.pp_parser.proofs.Complete.{statements_read}
 
@@ -17,33 +17,21 @@ module _ (path : List ℕ) where
   cut_off_step : (p : Position) (t : Lexeme) → IsCutOff t.kind → step path p t ≡ None
   unfolding IsCutOff step same_kind
   cut_off_step between t (inl is) = rw is refl
-  cut_off_step named t (inl is) = rw is refl
-  cut_off_step opened t (inl is) = rw is refl
-  cut_off_step (titled x) t (inl is) = rw is refl
-  cut_off_step (parted x) t (inl is) = rw is refl
-  cut_off_step (asked x) t (inl is) = rw is refl
-  cut_off_step (pointed x) t (inl is) = rw is refl
-  cut_off_step (valued x v) t (inl is) = rw is refl
-  cut_off_step (ended x v) t (inl is) = rw is refl
+  cut_off_step (parted n) t (inl is) = rw is refl
+  cut_off_step _ t (inl is) = rw is refl
   cut_off_step between t (inr is) = rw is refl
-  cut_off_step named t (inr is) = rw is refl
-  cut_off_step opened t (inr is) = rw is refl
-  cut_off_step (titled x) t (inr is) = rw is refl
-  cut_off_step (parted x) t (inr is) = rw is refl
-  cut_off_step (asked x) t (inr is) = rw is refl
-  cut_off_step (pointed x) t (inr is) = rw is refl
-  cut_off_step (valued x v) t (inr is) = rw is refl
-  cut_off_step (ended x v) t (inr is) = rw is refl
+  cut_off_step (parted n) t (inr is) = rw is refl
+  cut_off_step _ t (inr is) = rw is refl
 
   -- no file has a token that is cut off
-  not_read : (front more : List Lexeme) (t : Lexeme) (found ns : List Notify) (p : Position) → IsCutOff t.kind → statements_from path (front ++ t ∷ more) found p ≡ Ok ns → ⊥
+  not_read : (front more : List Lexeme) (t : Lexeme) (found ns : List Statement) (p : Position) → IsCutOff t.kind → statements_from path (front ++ t ∷ more) found p ≡ Ok ns → ⊥
   unfolding statements_from
   not_read [] more t found ns p cut is = let refuses = ap (λ m. advance (statements_from path more) found m (refused p t)) (sym (cut_off_step p t cut)) ∙ is in cc
   not_read (x ∷ front) more t found ns p cut is = by_move (step path p x) (λ found p is. not_read front more t found ns p cut is) is
     where
-      by_move : (m : Option Move) → ((found : List Notify) (p : Position) → statements_from path (front ++ t ∷ more) found p ≡ Ok ns → ⊥) → advance (statements_from path (front ++ t ∷ more)) found m (refused p x) ≡ Ok ns → ⊥
+      by_move : (m : Option Move) → ((found : List Statement) (p : Position) → statements_from path (front ++ t ∷ more) found p ≡ Ok ns → ⊥) → advance (statements_from path (front ++ t ∷ more)) found m (refused p x) ≡ Ok ns → ⊥
       by_move (Some (to q)) further is = further found q is
-      by_move (Some (closes n)) further is = further (found ++ n ∷ []) between is
+      by_move (Some (closes s)) further is = further (found ++ s ∷ []) between is
       by_move None further is = cc
 
   never_goes_on : (front : List Lexeme) (t : Lexeme) → IsCutOff t.kind → GoesOn path (front ++ t ∷ []) → ⊥
@@ -52,7 +40,7 @@ module _ (path : List ℕ) where
       (ap (λ us. statements_from path us [] between) (sym (append_assoc front (t ∷ []) goes.0)) ∙ statements_read path ((front ++ t ∷ []) ++ goes.0) goes.1 [] goes.2)
 
   -- what reads as a file has no F1
-  pub no_fault : (end line : ℕ) (front ts : List Lexeme) (ns : List Notify) → FaultsAt path end front ts line → Reads path (front ++ ts) ns → ⊥
+  pub no_fault : (end line : ℕ) (front ts : List Lexeme) (ns : List Statement) → FaultsAt path end front ts line → Reads path (front ++ ts) ns → ⊥
   unfolding IsCutOff
   no_fault end line _ _ ns (grammar.at_token front rest t refuses) reads = refuses (grammar.whole (rest, ns, subst (λ (us : List Lexeme). Reads path us ns) (sym (append_assoc front (t ∷ []) rest)) reads))
   no_fault end _ _ _ ns (grammar.behind front rest t line goes fault) reads = no_fault end line (front ++ t ∷ []) rest ns fault (subst (λ (us : List Lexeme). Reads path us ns) (sym (append_assoc front (t ∷ []) rest)) reads)

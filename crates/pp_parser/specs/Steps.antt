@@ -1,5 +1,5 @@
 -- The steps of a reader of tokens: each takes tokens from the front, or says where no text of the grammar goes on.
-use Rattle.std.specs.Prelude.{◌≡◌, ℕ, Bool, true, false, not, ◌&&◌, if◌then◌else◌, ◌==◌, List, [], ◌∷◌, length, Option, Some, None, Result, Ok, Err}
+use Rattle.std.specs.Prelude.{◌≡◌, ℕ, Bool, true, false, not, ◌&&◌, if◌then◌else◌, ◌==◌, List, [], ◌∷◌, length, Result, Ok, Err}
 use denote.Bor.{Bor}
 use Rattle.pp_parser.specs.declared.refusal.Refusal.{Refusal}
 use Rattle.pp_parser.specs.declared.refusal.Refusal.TheVariants as refusals
@@ -7,8 +7,6 @@ use Rattle.pp_parser.specs.declared.refusal.Spot.{Spot}
 use Rattle.pp_parser.specs.declared.refusal.Spot.TheVariants as spots
 use Rattle.pp_parser.specs.declared.token.Kind.{Kind}
 use Rattle.pp_parser.specs.declared.token.Kind.TheVariants as kinds
-use Rattle.pp_parser.specs.declared.tree.Notify.{Notify}
-use Rattle.pp_parser.specs.Grammar.{value, notify_of}
 use Rattle.pp_parser.specs.Tokens.{Lexeme, same_kind}
 
 abbrev pub Outcome : Type 0 → Type 0
@@ -66,8 +64,9 @@ rest (t ∷ ts) = ts
 unfoldable pub eat : Kind → Parser Bool
 eat k ts = if sees k ts then Ok (true, rest ts) else Ok (false, ts)
 
-unfoldable pub expect : Kind → Parser (Unit {0})
-expect k ts = if sees k ts then Ok (tt, rest ts) else Err (spot ts)
+unfoldable pub expect : Kind → Parser Lexeme
+expect k [] = Err spots.End
+expect k (t ∷ ts) = if same_kind t.kind k then Ok (t, ts) else Err (spot_of t.kind t.line)
 
 unfoldable pub text : Parser Lexeme
 text [] = Err spots.End
@@ -77,26 +76,6 @@ text (t ∷ ts) = if same_kind t.kind kinds.Quoted then Ok (t, ts) else Err (tex
 unfoldable pub title : Parser Lexeme
 title [] = Err spots.End
 title (t ∷ ts) = if same_kind t.kind kinds.Quoted && not (length t.text == 0) then Ok (t, ts) else Err (text_spot (t ∷ ts))
-
-unfoldable pub message : Parser (Option (List ℕ))
-message = do
-  found ← eat kinds.Message
-  if found then (do
-    expect kinds.Arrow
-    t ← text
-    comma ← eat kinds.Comma
-    pure (Some (value t))
-    ) else pure None
-
-unfoldable pub notify : List ℕ → Parser Notify
-notify path = do
-  expect kinds.Notify
-  expect kinds.OpenBrace
-  t ← title
-  expect kinds.Colon
-  m ← message
-  expect kinds.CloseBrace
-  pure (notify_of path t m)
 
 -- ---- what a function that reads tokens ensures: the outcome, unless memory fails
 

@@ -1,12 +1,14 @@
 -- The tokens of a text. A text is the list of its bytes.
 use Rattle.std.specs.Prelude.{ℕ, zero, suc, ◌+◌, ◌-◌, Bool, true, false, not, ◌&&◌, ◌||◌, if◌then◌else◌, ◌==◌, List, [], ◌∷◌, ◌++◌, length, take, drop, codes, slice_index, Option, Some, None}
-use Rattle.std.specs.Char.{is_ascii_lowercase, is_ascii_alphabetic, is_ascii_alphanumeric}
+use Rattle.std.specs.Char.{is_ascii_lowercase, is_ascii_uppercase, is_ascii_alphabetic, is_ascii_alphanumeric}
 use Rattle.std.specs.Str.{bytes_eq}
 use denote.Enum.Bare.{sameb}
 use Rattle.pp_parser.specs.contracts.token.Kind.{the_type}
 use Rattle.pp_parser.specs.declared.token.Kind.{Kind}
 use Rattle.pp_parser.specs.declared.token.Kind.TheVariants as kinds
 use Rattle.pp_parser.specs.declared.lexer.Piece.{Piece}
+use Rattle.pp_parser.specs.declared.lexer.WordSort.{WordSort}
+use Rattle.pp_parser.specs.declared.lexer.WordSort.TheVariants as sorts
 
 -- a token: what it is, what it says, and the line on which it begins
 pub record Lexeme : Type 0 where
@@ -49,22 +51,24 @@ unescaped_from false (b ∷ z) = let rest = unescaped_from (is_escape b z) z in 
 unfoldable pub unescaped : List ℕ → List ℕ
 unescaped = unescaped_from false
 
--- a segment of a name begins with a lower-case letter or `_`, and goes on with letters, digits and `_`
-abbrev pub begins_segment : ℕ → Bool
-begins_segment b = is_ascii_lowercase b || b == 95
+-- A segment of a name begins with a lower-case letter or `_`, and a segment of a type with a capital. Both go on with
+-- letters, digits and `_`.
+abbrev pub begins_segment : WordSort → ℕ → Bool
+begins_segment sorts.Name b = is_ascii_lowercase b || b == 95
+begins_segment sorts.Type b = is_ascii_uppercase b
 
 abbrev pub is_segment : ℕ → Bool
 is_segment b = is_ascii_alphanumeric b || b == 95
 
 -- `-` stands between two such bytes, and `::` before the next segment
-abbrev pub continues_name : ℕ → List ℕ → Bool
-continues_name b z = is_segment b || (b == 45 && is_segment (slice_index z 0)) || (b == 58 && slice_index z 0 == 58 && begins_segment (slice_index z 1))
+abbrev pub continues_word : WordSort → ℕ → List ℕ → Bool
+continues_word sort b z = is_segment b || (b == 45 && is_segment (slice_index z 0)) || (b == 58 && slice_index z 0 == 58 && begins_segment sort (slice_index z 1))
 
--- The place behind a name. The flag says that the next byte is the second of `::`.
-abbrev pub name_end : Bool → ℕ → List ℕ → ℕ
-name_end second at [] = at
-name_end true at (b ∷ z) = name_end false (at + 1) z
-name_end false at (b ∷ z) = if continues_name b z then name_end (b == 58) (at + 1) z else at
+-- The place behind a name or a type. The flag says that the next byte is the second of `::`.
+abbrev pub word_end : WordSort → Bool → ℕ → List ℕ → ℕ
+word_end sort second at [] = at
+word_end sort true at (b ∷ z) = word_end sort false (at + 1) z
+word_end sort false at (b ∷ z) = if continues_word sort b z then word_end sort (b == 58) (at + 1) z else at
 
 abbrev pub piece : Option Kind → ℕ → Piece
 piece kind len = record { kind = kind; len = len }
@@ -87,15 +91,34 @@ quoted z = quoted_of z (quoted_end false 1 (drop 1 z))
     quoted_of z None = piece (Some kinds.UnclosedQuoted) (length z)
     quoted_of z (Some end) = piece (Some kinds.Quoted) end
 
-unfoldable pub name : List ℕ → Piece
-name z =
-    let len = name_end false 0 z in
-    if bytes_eq (take len z) (codes "notify") then piece (Some kinds.Notify) len
-    else (if bytes_eq (take len z) (codes "message") then piece (Some kinds.Message) len else other z)
+-- the words of the grammar
+abbrev pub word_kind : List ℕ → Option Kind
+word_kind z =
+    if bytes_eq z (codes "notify") then Some kinds.Notify
+    else (if bytes_eq z (codes "message") then Some kinds.Message
+    else (if bytes_eq z (codes "tag") then Some kinds.Tag
+    else (if bytes_eq z (codes "Notify") then Some kinds.NotifyType else None)))
+
+unfoldable pub word : WordSort → List ℕ → Piece
+word sort z = let len = word_end sort false 0 z in word_of z (word_kind (take len z)) len
+  where
+    word_of : List ℕ → Option Kind → ℕ → Piece
+    word_of z None len = other z
+    word_of z (Some kind) len = piece (Some kind) len
 
 -- `::` before a letter or `_` begins a name or a type
 abbrev pub begins_path : List ℕ → Bool
 begins_path z = slice_index z 0 == 58 && slice_index z 1 == 58 && (is_ascii_alphabetic (slice_index z 2) || slice_index z 2 == 95)
+
+-- `@@`, `==`, `<<|`, `|>>`
+unfoldable pub collector_mark : List ℕ → Piece
+collector_mark z =
+    let b = slice_index z 0 in
+    let c = slice_index z 1 in
+    if b == 64 && c == 64 then piece (Some kinds.DoubleAt) 2
+    else (if b == 61 && c == 61 then piece (Some kinds.DoubleEquals) 2
+    else (if b == 60 && c == 60 && slice_index z 2 == 124 then piece (Some kinds.OpenCollector) 3
+    else (if b == 124 && c == 62 && slice_index z 2 == 62 then piece (Some kinds.CloseCollector) 3 else other z)))
 
 unfoldable pub mark : List ℕ → Piece
 mark z =
@@ -103,7 +126,7 @@ mark z =
     if b == 123 then piece (Some kinds.OpenBrace) 1 else (if b == 125 then piece (Some kinds.CloseBrace) 1
     else (if b == 44 then piece (Some kinds.Comma) 1
     else (if b == 61 && slice_index z 1 == 62 then piece (Some kinds.Arrow) 2
-    else (if b == 58 && not (begins_path z) then piece (Some kinds.Colon) 1 else other z))))
+    else (if b == 58 && not (begins_path z) then piece (Some kinds.Colon) 1 else collector_mark z))))
 
 -- The front of a text that is not empty: a token, which is the longest that may stand there, or white space or a comment.
 unfoldable pub front : List ℕ → Piece
@@ -113,7 +136,8 @@ front z =
     else (if b == 35 then piece None (line_end 1 (drop 1 z))
     else (if b == 47 && slice_index z 1 == 42 then comment z
     else (if b == 39 then quoted z
-    else (if begins_segment b then name z else mark z))))
+    else (if begins_segment sorts.Name b then word sorts.Name z
+    else (if begins_segment sorts.Type b then word sorts.Type z else mark z)))))
 
 -- ---- the tokens of a text
 

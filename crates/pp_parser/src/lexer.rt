@@ -15,6 +15,13 @@ pub struct Piece {
     pub len: usize,
 }
 
+/// A word is a name or a type, by how each of its segments begins.
+#[derive(Clone, Copy, Debug)]
+pub enum WordSort {
+    Name,
+    Type,
+}
+
 impl Piece {
     fn new(kind: Option<Kind>, len: usize) -> Piece
         ensures { result ≡ spec.piece kind len }
@@ -91,10 +98,13 @@ fn quoted_end(bytes: &[u8], from: usize) -> Option<usize>
     None
 }
 
-fn begins_segment(b: u8) -> bool
-    ensures { result ≡ spec.begins_segment b }
+fn begins_segment(sort: WordSort, b: u8) -> bool
+    ensures { result ≡ spec.begins_segment sort b }
 {
-    b.is_ascii_lowercase() || b == b'_'
+    match sort {
+        WordSort::Name => b.is_ascii_lowercase() || b == b'_',
+        WordSort::Type => b.is_ascii_uppercase(),
+    }
 }
 
 fn is_segment(b: u8) -> bool
@@ -103,26 +113,26 @@ fn is_segment(b: u8) -> bool
     b.is_ascii_alphanumeric() || b == b'_'
 }
 
-fn continues_name(bytes: &[u8], at: usize) -> bool
+fn continues_word(sort: WordSort, bytes: &[u8], at: usize) -> bool
     requires { at < length bytes.now }
-    ensures { result ≡ spec.continues_name (slice_index bytes.now at) (drop (at + 1) bytes.now) }
+    ensures { result ≡ spec.continues_word sort (slice_index bytes.now at) (drop (at + 1) bytes.now) }
 {
     let next = byte(bytes, at + 1);
     match bytes[at] {
         b'-' => is_segment(next),
-        b':' => next == b':' && begins_segment(byte(bytes, at + 2)),
+        b':' => next == b':' && begins_segment(sort, byte(bytes, at + 2)),
         b => is_segment(b),
     }
 }
 
-/// The place behind a name.
-fn name_end(bytes: &[u8]) -> usize
-    ensures value { result ≡ spec.name_end false 0 bytes.now }
+/// The place behind a name or a type.
+fn word_end(sort: WordSort, bytes: &[u8]) -> usize
+    ensures value { result ≡ spec.word_end sort false 0 bytes.now }
     ensures within { result ≤ length bytes.now }
 {
     let mut is_second = false;
     for at in 0..bytes.len() {
-        if !is_second && !continues_name(bytes, at) {
+        if !is_second && !continues_word(sort, bytes, at) {
             return at;
         }
         is_second = !is_second && bytes[at] == b':';
@@ -166,18 +176,40 @@ fn quoted(bytes: &[u8]) -> Piece
     }
 }
 
-#[tactic(auto, unfolding(crate::specs::Tokens::name))]
-fn name(bytes: &[u8]) -> Piece
+fn is_spelled(spelling: &[u8], word: &[u8]) -> bool
+    ensures { result ≡ bytes_eq spelling.now word.now }
+{
+    spelling == word
+}
+
+/// The kind of a word of the grammar.
+fn word_kind(spelling: &[u8]) -> Option<Kind>
+    ensures { result ≡ spec.word_kind spelling.now }
+{
+    if is_spelled(spelling, b"notify") {
+        Some(Kind::Notify)
+    } else if is_spelled(spelling, b"message") {
+        Some(Kind::Message)
+    } else if is_spelled(spelling, b"tag") {
+        Some(Kind::Tag)
+    } else if is_spelled(spelling, b"Notify") {
+        Some(Kind::NotifyType)
+    } else {
+        None
+    }
+}
+
+#[tactic(auto, unfolding(crate::specs::Tokens::word))]
+fn word(sort: WordSort, bytes: &[u8]) -> Piece
     requires { 0 < length bytes.now }
-    ensures value { result ≡ spec.name bytes.now }
+    ensures value { result ≡ spec.word sort bytes.now }
     ensures piece { IsPiece bytes.now result }
     ensures quotes { QuotesFit bytes.now result }
 {
-    let len = name_end(bytes);
-    match &bytes[..len] {
-        b"notify" => Piece::new(Some(Kind::Notify), len),
-        b"message" => Piece::new(Some(Kind::Message), len),
-        _ => other(bytes),
+    let len = word_end(sort, bytes);
+    match word_kind(&bytes[..len]) {
+        None => other(bytes),
+        kind => Piece::new(kind, len),
     }
 }
 
@@ -188,6 +220,24 @@ fn begins_path(bytes: &[u8]) -> bool
     byte(bytes, 0) == b':'
         && byte(bytes, 1) == b':'
         && (third.is_ascii_alphabetic() || third == b'_')
+}
+
+/// A mark that stands before a resource or in a collector.
+#[tactic(auto, unfolding(crate::specs::Tokens::collector_mark))]
+fn collector_mark(bytes: &[u8]) -> Piece
+    requires { 0 < length bytes.now }
+    ensures value { result ≡ spec.collector_mark bytes.now }
+    ensures piece { IsPiece bytes.now result }
+    ensures quotes { QuotesFit bytes.now result }
+{
+    let third = byte(bytes, 2);
+    match (bytes[0], byte(bytes, 1)) {
+        (b'@', b'@') => Piece::new(Some(Kind::DoubleAt), 2),
+        (b'=', b'=') => Piece::new(Some(Kind::DoubleEquals), 2),
+        (b'<', b'<') if third == b'|' => Piece::new(Some(Kind::OpenCollector), 3),
+        (b'|', b'>') if third == b'>' => Piece::new(Some(Kind::CloseCollector), 3),
+        _ => other(bytes),
+    }
 }
 
 #[tactic(auto, unfolding(crate::specs::Tokens::mark))]
@@ -203,7 +253,7 @@ fn mark(bytes: &[u8]) -> Piece
         b',' => Piece::new(Some(Kind::Comma), 1),
         b'=' if byte(bytes, 1) == b'>' => Piece::new(Some(Kind::Arrow), 2),
         b':' if !begins_path(bytes) => Piece::new(Some(Kind::Colon), 1),
-        _ => other(bytes),
+        _ => collector_mark(bytes),
     }
 }
 
@@ -220,7 +270,8 @@ fn front(bytes: &[u8]) -> Piece
         b'#' => Piece::new(None, line_end(bytes, 1)),
         b'/' if byte(bytes, 1) == b'*' => comment(bytes),
         b'\'' => quoted(bytes),
-        b if begins_segment(b) => name(bytes),
+        b if begins_segment(WordSort::Name, b) => word(WordSort::Name, bytes),
+        b if begins_segment(WordSort::Type, b) => word(WordSort::Type, bytes),
         _ => mark(bytes),
     }
 }

@@ -10,6 +10,15 @@ pub enum Kind {
 
     /// The name `message`.
     Message,
+
+    /// The name `tag`.
+    Tag,
+
+    /// The type `Notify`.
+    NotifyType,
+
+    /// `@@`
+    DoubleAt,
     OpenBrace,
     CloseBrace,
     Colon,
@@ -17,6 +26,15 @@ pub enum Kind {
     /// `=>`
     Arrow,
     Comma,
+
+    /// `==`
+    DoubleEquals,
+
+    /// `<<|`
+    OpenCollector,
+
+    /// `|>>`
+    CloseCollector,
 
     /// A text in single quotes.
     Quoted,

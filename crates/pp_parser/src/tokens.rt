@@ -38,7 +38,7 @@ impl<'a> Tokens<'a> {
 
     /// Whether a token of this kind comes next.
     #[tactic(auto, unfolding(crate::specs::Steps::sees, crate::specs::Tokens::same_kind))]
-    fn sees(&self, kind: Kind) -> bool
+    pub fn sees(&self, kind: Kind) -> bool
         ensures { result ≡ spec.sees kind self.now }
     {
         match self.left {
@@ -49,7 +49,7 @@ impl<'a> Tokens<'a> {
 
     /// Where the tokens leave the grammar, if the next may not stand here.
     #[tactic(auto, unfolding(crate::specs::Steps::spot))]
-    fn spot(&self) -> Spot
+    pub fn spot(&self) -> Spot
         ensures { result ≡ spec.spot self.now }
     {
         match self.left {
@@ -75,8 +75,9 @@ impl<'a> Tokens<'a> {
         }
     }
 
+    /// Leaves out the next token.
     #[tactic(auto, unfolding(crate::specs::Steps::rest))]
-    fn skip(&mut self)
+    pub fn skip(&mut self)
         ensures { self.new ≡ spec.rest self.old }
     {
         if let [_, rest @ ..] = self.left {
@@ -96,17 +97,21 @@ impl<'a> Tokens<'a> {
         found
     }
 
-    #[tactic(auto, unfolding(crate::specs::Steps::expect))]
-    pub fn expect(&mut self, kind: Kind) -> Result<(), Spot>
-        ensures { spec.Steps (spec.expect kind self.old) result self.new }
+    /// The next token, which is to be of this kind.
+    #[tactic(auto, unfolding(crate::specs::Steps::expect, crate::specs::Steps::spot, crate::specs::Tokens::same_kind))]
+    pub fn expect(&mut self, kind: Kind) -> Result<&'a Token<'a>, Spot>
+        ensures { spec.StepsTo (spec.expect kind self.old) result self.new }
     {
-        if !self.sees(kind) {
-            return Err(self.spot());
+        match self.left {
+            [token, rest @ ..] if token.kind() == kind => {
+                self.left = rest;
+                Ok(token)
+            },
+            _ => Err(self.spot()),
         }
-        self.skip();
-        Ok(())
     }
 
+    /// A text.
     #[tactic(auto, unfolding(crate::specs::Steps::text, crate::specs::Steps::text_spot, crate::specs::Tokens::same_kind))]
     pub fn text(&mut self) -> Result<&'a Token<'a>, Spot>
         ensures { spec.StepsTo (spec.text self.old) result self.new }

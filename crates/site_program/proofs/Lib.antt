@@ -1,6 +1,10 @@
-mod Examples
+mod Bundled
 mod Exact
+mod Examples
 mod Readable
+mod Runs
 mod Saying
 mod Told
+mod TurnExamples
+mod Turns
 mod Worked

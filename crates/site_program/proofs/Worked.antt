@@ -1,6 +1,6 @@
 -- From the parts of a run to how it ended.
 use Rattle.std.proofs.Common.{◌≡◌, ℕ, List, subst, sym, refl, inl, inr}
-use Rattle.site_io.specs.Stream.{Stream, HasWritten}
+use Rattle.site_io.specs.Stream.{Stream}
 use Rattle.site_io.specs.Transfer.{HasReadAll, StopsBy}
 use Rattle.site_io.specs.declared.transfer.ReadStop.{ReadStop}
 use Rattle.site_io.specs.declared.transfer.ReadStop.TheVariants as r
@@ -8,63 +8,80 @@ use Rattle.site_program.specs.declared.answer.Answer.{Answer}
 use Rattle.site_program.specs.declared.answer.Answer.TheVariants as a
 use Rattle.site_program.specs.declared.ending.Ending.{Ending}
 use Rattle.site_program.specs.declared.ending.Ending.TheVariants as e
+use Rattle.site_program.specs.declared.words.Command.{Command}
+use Rattle.site_program.specs.declared.words.Command.TheVariants as c
 use Rattle.site_program.specs.Answer.{IsAnswer}
-use Rattle.site_program.specs.Endings.{Ends, manifest_limit}
-use Rattle.site_program.specs.Words.{manifest, asked_of}
-use Rattle.site_program.specs.Work.{Works, Delivers, GivesUp, IsCutOff}
-use Rattle.site_program.specs.World.{world, FailsToSay}
+use Rattle.site_program.specs.Endings.{Ends, IsCommand}
+use Rattle.site_program.specs.Limits.{limit_of}
+use Rattle.site_program.specs.Words.{Asked, asked_of, asked_by}
+use Rattle.site_program.specs.Work.{Works, Delivers, GivesUp}
+use Rattle.site_program.specs.World.{world}
+
+-- no answer ends a run for its words, or for a fault of the source
+unread : (answer : Answer) (out out' err err' : Stream) → Delivers e.ReadFault answer out out' err err' → ⊥
+unread (a.Done text) out out' err err' did = cc did.0.0
+unread (a.Refused text) out out' err err' did = cc did.0.0
+unread (a.Short text) out out' err err' did = cc did.0
+unread (a.Fault text) out out' err err' did = cc did.0.0
+unread (a.BadInput text) out out' err err' did = cc did.0
+
+unasked : (answer : Answer) (out out' err err' : Stream) → Delivers e.BadWords answer out out' err err' → ⊥
+unasked (a.Done text) out out' err err' did = cc did.0.0
+unasked (a.Refused text) out out' err err' did = cc did.0.0
+unasked (a.Short text) out out' err err' did = cc did.0
+unasked (a.Fault text) out out' err err' did = cc did.0.0
+unasked (a.BadInput text) out out' err err' did = cc did.0
 
 -- an answer to the input that was delivered is the work on it
-pub worked : (ending : Ending) (answer : Answer) (node input : List ℕ) (out out' err err' : Stream)
-    → IsAnswer answer node input → Delivers ending answer out out' err err' → Works ending node input out out' err err'
-worked e.Done (a.Catalog text) node input out out' err err' is did = record {
-  text = is.0;
-  catalog = is.1.catalog;
-  meant = is.1.meant;
-  written = subst (λ t. HasWritten t out out') is.1.is did.0.1;
-  silent = did.1;
-}
-worked e.WriteFault (a.Catalog text) node input out out' err err' is did = (
-  is.0,
-  subst (λ m. IsCutOff m out out' err err') (sym is.1.meant) (subst (λ t. FailsToSay t out out') is.1.is did.0, did.1),
-)
-worked ending (a.Catalog text) node input out out' err err' is did = absurd (cc did.0.0)
-worked e.Refused (a.Fault text) node input out out' err err' is did = record {
-  text = is.0;
-  fault = is.1.fault;
-  meant = is.1.meant;
-  written = subst (λ t. HasWritten t err err') is.1.is did.0.1;
-  untouched = did.1;
-}
-worked e.WriteFault (a.Fault text) node input out out' err err' is did = (
-  is.0,
-  subst (λ m. IsCutOff m out out' err err') (sym is.1.meant) (subst (λ t. FailsToSay t err err') is.1.is did.0, did.1),
-)
-worked ending (a.Fault text) node input out out' err err' is did = absurd (cc did.0.0)
-worked ending a.NoText node input out out' err err' is did = subst (λ x. Works x node input out out' err err') (sym did.0) (is, did.1)
+pub worked : (ending : Ending) (answer : Answer) (asked : Asked) (input : List ℕ) (out out' err err' : Stream)
+    → IsAnswer asked answer input → Delivers ending answer out out' err err' → Works ending asked input out out' err err'
+worked e.Done answer asked input out out' err err' is did = record { answer = answer; is = is; written = did }
+worked e.Refused answer asked input out out' err err' is did = record { answer = answer; is = is; written = did }
+worked e.BadInput answer asked input out out' err err' is did = record { answer = answer; is = is; written = did }
+worked e.WriteFault answer asked input out out' err err' is did = record { answer = answer; is = is; written = did }
+worked e.Memory answer asked input out out' err err' is did = inl (record { answer = answer; is = is; written = did })
+worked e.BadWords answer asked input out out' err err' is did = unasked answer out out' err err' did
+worked e.ReadFault answer asked input out out' err err' is did = unread answer out out' err err' did
+
+pub is_command : (command : Command) → IsCommand (asked_by command)
+is_command (c.Manifest node) = tt
+is_command c.Sequence = tt
+
+ends_read : (ending : Ending) (words : List (List ℕ)) (input : List ℕ) (s s' out out' err err' : Stream)
+    → IsCommand (asked_of words) → HasReadAll input (limit_of (asked_of words)) s s' → Works ending (asked_of words) input out out' err err'
+    → Ends ending words (world s out err) (world s' out' err')
+ends_read e.Done words input s s' out out' err err' asked read work = record { asked = asked; input = input; source = read; work = work }
+ends_read e.Refused words input s s' out out' err err' asked read work = record { asked = asked; input = input; source = read; work = work }
+ends_read e.WriteFault words input s s' out out' err err' asked read work = record { asked = asked; input = input; source = read; work = work }
+ends_read e.BadInput words input s s' out out' err err' asked read work = inl (record { asked = asked; input = input; source = read; work = work })
+ends_read e.Memory words input s s' out out' err err' asked read work = inl (record { asked = asked; input = input; source = read; work = work })
+ends_read e.BadWords words input s s' out out' err err' asked read work = absurd work
+ends_read e.ReadFault words input s s' out out' err err' asked read work = absurd work
 
 -- where the input was read, the work on it says how the run ended
-pub ends_worked : (ending : Ending) (words : List (List ℕ)) (node input : List ℕ) (s s' out out' err err' : Stream)
-    → asked_of words ≡ manifest node → HasReadAll input manifest_limit s s' → Works ending node input out out' err err'
-    → Ends ending words (world s out err) (world s' out' err')
-ends_worked e.Done words node input s s' out out' err err' asked read work = record { node = node; asked = asked; input = input; source = read; work = work }
-ends_worked e.Refused words node input s s' out out' err err' asked read work = record { node = node; asked = asked; input = input; source = read; work = work }
-ends_worked e.WriteFault words node input s s' out out' err err' asked read work = record { node = node; asked = asked; input = input; source = read; work = work }
-ends_worked e.BadInput words node input s s' out out' err err' asked read work = inl (record { node = node; asked = asked; input = input; source = read; work = work })
-ends_worked e.Memory words node input s s' out out' err err' asked read work = inl (record { node = node; asked = asked; input = input; source = read; work = work })
-ends_worked e.BadWords words node input s s' out out' err err' asked read work = absurd work
-ends_worked e.ReadFault words node input s s' out out' err err' asked read work = absurd work
+pub ends_worked : (ending : Ending) (words : List (List ℕ)) (command : Command) (input : List ℕ) (limit : ℕ) (s s' out out' err err' : Stream)
+    → asked_of words ≡ asked_by command → limit ≡ limit_of (asked_by command) → HasReadAll input limit s s'
+    → Works ending (asked_by command) input out out' err err' → Ends ending words (world s out err) (world s' out' err')
+ends_worked ending words command input limit s s' out out' err err' is limit_is read work =
+    ends_read ending words input s s' out out' err err' (subst IsCommand (sym is) (is_command command))
+    (subst (λ asked. HasReadAll input (limit_of asked) s s') (sym is) (subst (λ n. HasReadAll input n s s') limit_is read))
+    (subst (λ asked. Works ending asked input out out' err err') (sym is) work)
+
+ends_unread : (stop : ReadStop) (ending : Ending) (words : List (List ℕ)) (s s' out err err' : Stream)
+    → IsCommand (asked_of words) → StopsBy stop (limit_of (asked_of words)) s s' → GivesUp (asked_of words) stop ending err err'
+    → Ends ending words (world s out err) (world s' out err')
+ends_unread r.Fault ending words s s' out err err' asked read did =
+    subst (λ x. Ends x words (world s out err) (world s' out err')) (sym did.0) (record { asked = asked; source = read; said = (did.1, refl) })
+ends_unread r.TooLong ending words s s' out err err' asked read did =
+    subst (λ x. Ends x words (world s out err) (world s' out err')) (sym did.0) (inr (record { asked = asked; source = read; said = (did.1, refl) }))
+ends_unread r.Memory ending words s s' out err err' asked read did =
+    subst (λ x. Ends x words (world s out err) (world s' out err')) (sym did.0) (inr (record { asked = asked; source = read; said = (did.1, refl) }))
 
 -- where it was not read, the stop says so
-pub ends_stopped : (stop : ReadStop) (ending : Ending) (words : List (List ℕ)) (node : List ℕ) (s s' out err err' : Stream)
-    → asked_of words ≡ manifest node → StopsBy stop manifest_limit s s' → GivesUp stop ending err err'
+pub ends_stopped : (stop : ReadStop) (ending : Ending) (words : List (List ℕ)) (command : Command) (limit : ℕ) (s s' out err err' : Stream)
+    → asked_of words ≡ asked_by command → limit ≡ limit_of (asked_by command) → StopsBy stop limit s s' → GivesUp (asked_by command) stop ending err err'
     → Ends ending words (world s out err) (world s' out err')
-ends_stopped r.Fault ending words node s s' out err err' asked read did =
-    subst (λ x. Ends x words (world s out err) (world s' out err')) (sym did.0)
-    (record { node = node; asked = asked; source = read; said = (did.1, refl) })
-ends_stopped r.TooLong ending words node s s' out err err' asked read did =
-    subst (λ x. Ends x words (world s out err) (world s' out err')) (sym did.0)
-    (inr (record { node = node; asked = asked; source = read; said = (did.1, refl) }))
-ends_stopped r.Memory ending words node s s' out err err' asked read did =
-    subst (λ x. Ends x words (world s out err) (world s' out err')) (sym did.0)
-    (inr (record { node = node; asked = asked; source = read; said = (did.1, refl) }))
+ends_stopped stop ending words command limit s s' out err err' is limit_is read did =
+    ends_unread stop ending words s s' out err err' (subst IsCommand (sym is) (is_command command))
+    (subst (λ asked. StopsBy stop (limit_of asked) s s') (sym is) (subst (λ n. StopsBy stop n s s') limit_is read))
+    (subst (λ asked. GivesUp asked stop ending err err') (sym is) did)

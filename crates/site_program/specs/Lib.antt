@@ -1,6 +1,12 @@
 pub mod Answer
+pub mod Attempts
 pub mod Endings
+pub mod Limits
+pub mod Puppet
+pub mod Sequence
+pub mod SequenceLaws
 pub mod Status
+pub mod Stops
 pub mod Words
 pub mod Work
 pub mod World

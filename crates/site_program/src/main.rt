@@ -1,9 +1,16 @@
-//! The program of the site: `manifest NODE` reads a manifest and writes the node's catalog.
+//! The program of the site: `manifest NODE` reads a manifest and writes the node's catalog; `sequence` reads a bundle, answers its
+//! requests one after another, and writes the history and the replies.
 #![tactic(auto)]
 
 mod answer;
+mod bundle_answer;
 mod ending;
+mod laws;
+mod lines;
+mod manifest_answer;
+mod replies;
 mod say;
+mod sequence;
 mod site;
 mod words;
 

@@ -1,32 +1,42 @@
-ghost use Rattle.std.specs.Prelude.{◌≡◌, ◌↔◌, ◌⊎◌, ◌≤◌, List, ℕ, length, Some};
-ghost use Rattle.site_program.specs.Words.{asked_of, texts_of, manifest};
+ghost use Rattle.std.specs.Prelude.{◌≡◌, ◌↔◌, ◌⊎◌, ◌≤◌, List, ℕ, IfOk, length, Some};
+ghost use Rattle.site_program.specs.Words.{asked_of, asked_by, texts_of};
 ghost use Rattle.site_io.specs.Stream.{Rose};
-ghost use Rattle.site_program.specs.World.{world, Says};
+ghost use Rattle.site_program.specs.World.{world, line, Says};
 ghost use Rattle.site_program.specs.Status.{IsStatus};
-ghost use Rattle.site_program.specs.Work.{Works, Delivers, GivesUp};
-ghost use Rattle.site_program.specs.Endings.{manifest_limit, Ends, IsComplaint, IsSettled};
+ghost use Rattle.site_program.specs.Answer.{IsAnswer};
+ghost use Rattle.site_program.specs.Work.{Works, Delivers, GivesUp, too_long};
+ghost use Rattle.site_program.specs.Limits.{limit_of};
+ghost use Rattle.site_program.specs.Endings.{Ends, IsComplaint, IsSettled};
 
-use crate::answer::{Answer, answer_to};
+use crate::answer::Answer;
+use crate::bundle_answer::bundle_answer;
 use crate::ending::Ending;
+use crate::manifest_answer::manifest_answer;
 use crate::say::{say, say_word};
 use crate::words::{Command, Complaint, read_words};
+use pp_values::memory::Memory;
 use site_io::{Bytes, ReadStop, Sink, Source, read_all, write_all};
 use std::alloc::Global;
 
 /// The most bytes that a manifest has: 4 MiB.
 const MANIFEST_LIMIT: usize = 4_194_304;
 
+/// The most bytes that a bundle has: 64 MiB.
+const BUNDLE_LIMIT: usize = 67_108_864;
+
 /// Runs the program on its words, which come without the program's name, and gives the exit status.
 ///
 /// | Status | When | Error line |
 /// |-|-|-|
-/// | 0 | the catalog was written | none |
+/// | 0 | the catalog was written, or journal and replies were, none of which is a refusal | none |
 /// | 1 | the manifest has no catalog | its fault |
+/// | 1 | journal and replies were written, one of which is a refusal | none |
 /// | 10 | the words are faulty | `usage: manifest NODE` or `bad word WORD` |
-/// | 11 | the input is longer than 4 MiB, or no text in UTF-8 | `B3 manifests/site.pp`, `B2 manifests/site.pp` |
+/// | 11 | the manifest is longer than 4 MiB, or no text in UTF-8 | `B3 manifests/site.pp`, `B2 manifests/site.pp` |
+/// | 11 | the input of `sequence` is no bundle | `B1`, `B2 PATH` or `B3 PATH` |
 /// | 12 | the input could not be read | `read fault` |
 /// | 13 | the output, or the line of a fault, could not be written | none, or a front of the fault's line |
-/// | 16 | want of memory | `memory` |
+/// | 16 | want of memory, in the program or in a reply that was written | `memory` |
 ///
 /// The first that is met decides, in the order: words (10), input (12, 11), work, output (0, 1 or 13).
 /// An error line of statuses 10, 11, 12 and 16 that can't be written changes no status.
@@ -38,10 +48,10 @@ pub fn site_main<S: Source, K: Sink, E: Sink>(
     err: &mut E,
 ) -> u8
     // What each status means: what was asked, what was read, and what was written.
-    ensures catalog { result ≡ 0 → Ends Ending.Done (texts_of words.now)
+    ensures done { result ≡ 0 → Ends Ending.Done (texts_of words.now)
         (world (S.stream source.old) (K.stream out.old) (E.stream err.old))
         (world (S.stream source.new) (K.stream out.new) (E.stream err.new)) }
-    ensures fault { result ≡ 1 → Ends Ending.Refused (texts_of words.now)
+    ensures refused { result ≡ 1 → Ends Ending.Refused (texts_of words.now)
         (world (S.stream source.old) (K.stream out.old) (E.stream err.old))
         (world (S.stream source.new) (K.stream out.new) (E.stream err.new)) }
     ensures complaint { result ≡ 10 → Ends Ending.BadWords (texts_of words.now)
@@ -85,7 +95,7 @@ fn run<S: Source, K: Sink, E: Sink>(
         (world (S.stream source.new) (K.stream out.new) (E.stream err.new)) }
 {
     match read_words(words) {
-        Ok(Command::Manifest { node }) => run_manifest(alloc, node, source, out, err),
+        Ok(command) => run_command(alloc, command, source, out, err),
         Err(Complaint::Usage) => {
             say(err, "usage: manifest NODE\n");
             Ending::BadWords
@@ -97,48 +107,79 @@ fn run<S: Source, K: Sink, E: Sink>(
     }
 }
 
-fn run_manifest<S: Source, K: Sink, E: Sink>(
+fn run_command<S: Source, K: Sink, E: Sink>(
     alloc: Global,
-    node: &str,
+    command: Command<'_>,
     source: &mut S,
     out: &mut K,
     err: &mut E,
 ) -> Ending
-    ensures { (words : List (List ℕ)) → asked_of words ≡ manifest node.now → Ends result words
+    ensures { (words : List (List ℕ)) → asked_of words ≡ asked_by command.entry → Ends result words
         (world (S.stream source.old) (K.stream out.old) (E.stream err.old))
         (world (S.stream source.new) (K.stream out.new) (E.stream err.new)) }
 {
-    match read_all(alloc, source, MANIFEST_LIMIT) {
-        Ok(input) => work(alloc, node, input, out, err),
-        Err(stop) => give_up(stop, err),
+    match read_all(alloc, source, limit_of(command)) {
+        Ok(input) => work(alloc, command, input, out, err),
+        Err(stop) => give_up(command, stop, err),
     }
 }
 
-/// Compiles the manifest that was read, and writes what comes of it.
+/// The most bytes that a command reads.
+fn limit_of(command: Command<'_>) -> usize
+    ensures { result ≡ limit_of (asked_by command.entry) }
+{
+    match command {
+        Command::Manifest { .. } => MANIFEST_LIMIT,
+        Command::Sequence => BUNDLE_LIMIT,
+    }
+}
+
+/// Does the work on the input that was read, and writes what comes of it.
 fn work<K: Sink, E: Sink>(
     alloc: Global,
-    node: &str,
+    command: Command<'_>,
     input: Bytes,
     out: &mut K,
     err: &mut E,
 ) -> Ending
-    requires { length input ≤ manifest_limit }
-    ensures { Works result node.now input (K.stream out.old) (K.stream out.new) (E.stream err.old) (E.stream err.new) }
+    requires { length input ≤ limit_of (asked_by command) }
+    ensures { Works result (asked_by command.entry) input (K.stream out.old) (K.stream out.new) (E.stream err.old) (E.stream err.new) }
 {
-    match answer_to(alloc, node, input) {
+    match answer_to(alloc, command, input) {
         Ok(answer) => deliver(&answer, out, err),
         Err(_) => refuse(err, Ending::Memory, "memory\n"),
     }
 }
 
+/// The answer to a command by this input.
+fn answer_to(alloc: Global, command: Command<'_>, input: Bytes) -> Result<Answer, Memory>
+    requires { length input ≤ limit_of (asked_by command) }
+    ensures { IfOk result (λ answer. IsAnswer (asked_by command.entry) answer input) }
+{
+    match command {
+        Command::Manifest { node } => manifest_answer(alloc, node, input),
+        Command::Sequence => bundle_answer(alloc, input.as_slice()),
+    }
+}
+
 /// Says why the input was not read.
-fn give_up<E: Sink>(stop: ReadStop, err: &mut E) -> Ending
-    ensures { GivesUp stop result (E.stream err.old) (E.stream err.new) }
+fn give_up<E: Sink>(command: Command<'_>, stop: ReadStop, err: &mut E) -> Ending
+    ensures { GivesUp (asked_by command.entry) stop result (E.stream err.old) (E.stream err.new) }
 {
     match stop {
         ReadStop::Fault => refuse(err, Ending::ReadFault, "read fault\n"),
-        ReadStop::TooLong => refuse(err, Ending::BadInput, "B3 manifests/site.pp\n"),
+        ReadStop::TooLong => refuse_long(command, err),
         ReadStop::Memory => refuse(err, Ending::Memory, "memory\n"),
+    }
+}
+
+fn refuse_long<E: Sink>(command: Command<'_>, err: &mut E) -> Ending
+    ensures ending { result ≡ Ending.BadInput }
+    ensures line { Says (line (too_long (asked_by command.entry))) (E.stream err.old) (E.stream err.new) }
+{
+    match command {
+        Command::Manifest { .. } => refuse(err, Ending::BadInput, "B3 manifests/site.pp\n"),
+        Command::Sequence => refuse(err, Ending::BadInput, "B3 bundle\n"),
     }
 }
 
@@ -156,14 +197,22 @@ fn deliver<K: Sink, E: Sink>(answer: &Answer, out: &mut K, err: &mut E) -> Endin
     ensures { Delivers result answer.now (K.stream out.old) (K.stream out.new) (E.stream err.old) (E.stream err.new) }
 {
     match answer {
-        Answer::Catalog(line) => match write_all(out, line.as_str().as_bytes()) {
+        Answer::Done(text) => match write_all(out, text.as_str().as_bytes()) {
             Ok(()) => Ending::Done,
+            Err(_) => Ending::WriteFault,
+        },
+        Answer::Refused(text) => match write_all(out, text.as_str().as_bytes()) {
+            Ok(()) => Ending::Refused,
+            Err(_) => Ending::WriteFault,
+        },
+        Answer::Short(text) => match write_all(out, text.as_str().as_bytes()) {
+            Ok(()) => refuse(err, Ending::Memory, "memory\n"),
             Err(_) => Ending::WriteFault,
         },
         Answer::Fault(line) => match write_all(err, line.as_str().as_bytes()) {
             Ok(()) => Ending::Refused,
             Err(_) => Ending::WriteFault,
         },
-        Answer::NoText => refuse(err, Ending::BadInput, "B2 manifests/site.pp\n"),
+        Answer::BadInput(line) => refuse(err, Ending::BadInput, line.as_str()),
     }
 }

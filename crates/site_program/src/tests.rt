@@ -113,6 +113,8 @@ fn refuses_words(rt: HostRuntime) -> Result<(), Fail> {
         (["manifest"].as_slice(), usage),
         (["manifest", "n", "n"].as_slice(), usage),
         (["Manifest", "n"].as_slice(), usage),
+        (["sequence", "n"].as_slice(), usage),
+        (["Sequence"].as_slice(), usage),
         (["manifest", "Web"].as_slice(), "bad word Web\n"),
         (["manifest", ""].as_slice(), "bad word \n"),
         (["manifest", "a/b"].as_slice(), "bad word a/b\n"),
@@ -202,5 +204,112 @@ fn tells_faults_of_streams(rt: HostRuntime) -> Result<(), Fail> {
     let lost = run(rt.alloc(), &[], b"", Failing { err: 1, ..NONE })?;
     assert_eq!(rt; lost.status, 10);
     assert!(rt; lost.err.is_empty());
+    Ok(())
+}
+
+/// Bundles, with the status and the output of `sequence`.
+const BUNDLES: [(&str, u8, &str); 5] = [
+    (
+        r#"{"bundle": 1, "files": {"manifests/site.pp": ""}, "nodes": {"a": {}}, "requests": [{"node": "a"}]}"#,
+        0,
+        r#"{"entry":0,"journal":1,"kind":"open","site":{"files":{"manifests/site.pp":""},"nodes":{"a":{}}}}
+{"author":0,"call":0,"entry":1,"facts":{},"k":1,"kind":"publish","node":"a","set":[]}
+{"entries":2}
+{"catalog":{"catalog":1,"edges":[],"node":"a","resources":[{"attrs":{},"in":[],"tags":["class","main"],"title":"main","type":"Class"}]},"entry":1,"k":1,"reply":0}
+"#,
+    ),
+    (
+        r#"{"bundle": 1, "files": {"manifests/site.pp": "@@notify { 'me': }\nNotify <<| |>>"}, "nodes": {"a": {}}, "requests": [{"node": "a"}, {"node": "a"}]}"#,
+        0,
+        r#"{"entry":0,"journal":1,"kind":"open","site":{"files":{"manifests/site.pp":"@@notify { 'me': }\nNotify <<| |>>"},"nodes":{"a":{}}}}
+{"author":0,"call":0,"entry":1,"facts":{},"k":1,"kind":"publish","node":"a","set":[{"at":"manifests/site.pp:1","attrs":{},"tags":["class","main","me","notify"],"title":"me","type":"Notify"}]}
+{"author":0,"call":1,"entry":2,"facts":{},"k":2,"kind":"publish","node":"a","set":[{"at":"manifests/site.pp:1","attrs":{},"tags":["class","main","me","notify"],"title":"me","type":"Notify"}]}
+{"entries":3}
+{"catalog":{"catalog":1,"edges":[],"node":"a","resources":[{"attrs":{},"in":[],"tags":["class","main"],"title":"main","type":"Class"},{"attrs":{},"in":[0],"tags":["class","main","me","notify"],"title":"me","type":"Notify"}]},"entry":1,"k":1,"reply":0}
+{"catalog":{"catalog":1,"edges":[],"node":"a","resources":[{"attrs":{},"in":[],"tags":["class","main"],"title":"main","type":"Class"},{"attrs":{},"in":[0],"tags":["class","main","me","notify"],"title":"me","type":"Notify"}]},"entry":2,"k":2,"reply":1}
+"#,
+    ),
+    (
+        r#"{"bundle": 1, "files": {"manifests/site.pp": "@@notify { 'me': }\nNotify <<| |>>"}, "nodes": {"a": {}, "b": {}}, "requests": [{"node": "a"}, {"node": "b"}]}"#,
+        1,
+        r#"{"entry":0,"journal":1,"kind":"open","site":{"files":{"manifests/site.pp":"@@notify { 'me': }\nNotify <<| |>>"},"nodes":{"a":{},"b":{}}}}
+{"author":0,"call":0,"entry":1,"facts":{},"k":1,"kind":"publish","node":"a","set":[{"at":"manifests/site.pp:1","attrs":{},"tags":["class","main","me","notify"],"title":"me","type":"Notify"}]}
+{"entries":2}
+{"catalog":{"catalog":1,"edges":[],"node":"a","resources":[{"attrs":{},"in":[],"tags":["class","main"],"title":"main","type":"Class"},{"attrs":{},"in":[0],"tags":["class","main","me","notify"],"title":"me","type":"Notify"}]},"entry":1,"k":1,"reply":0}
+{"fault":"F14 manifests/site.pp:1 Duplicate Notify[me] manifests/site.pp:1","k":2,"reply":1}
+"#,
+    ),
+    (
+        r#"{"bundle": 1, "files": {"manifests/site.pp": ""}, "nodes": {"a": {}}, "requests": [{"node": "z"}, {"node": "a", "seen": 2}]}"#,
+        1,
+        r#"{"entry":0,"journal":1,"kind":"open","site":{"files":{"manifests/site.pp":""},"nodes":{"a":{}}}}
+{"entries":1}
+{"k":1,"reply":0,"unknown":"z"}
+{"length":1,"reply":1,"seen":2}
+"#,
+    ),
+    (
+        r#"{"bundle": 1, "files": {"manifests/site.pp": "notify { 'a'"}, "requests": [{"deactivate": "b"}, {"node": "b", "facts": {}}]}"#,
+        1,
+        r#"{"entry":0,"journal":1,"kind":"open","site":{"files":{"manifests/site.pp":"notify { 'a'"},"nodes":{}}}
+{"author":0,"call":0,"entry":1,"kind":"deactivate","node":"b"}
+{"entries":2}
+{"entry":1,"reply":0}
+{"fault":"F1 manifests/site.pp:1 Syntax","k":2,"reply":1}
+"#,
+    ),
+];
+
+#[test]
+fn answers_bundles(rt: HostRuntime) -> Result<(), Fail> {
+    for (bundle, status, out) in BUNDLES {
+        let run = run(rt.alloc(), &["sequence"], bundle.as_bytes(), NONE)?;
+        assert_eq!(rt; run.status, status, "{bundle}");
+        assert_eq!(rt; run.out.as_slice(), out.as_bytes(), "{bundle}");
+        assert!(rt; run.err.is_empty(), "{bundle}");
+    }
+    Ok(())
+}
+
+#[test]
+fn refuses_what_is_no_bundle(rt: HostRuntime) -> Result<(), Fail> {
+    for (input, line) in [
+        (b"".as_slice(), "B1\n"),
+        (b"{".as_slice(), "B1\n"),
+        (b"\xff".as_slice(), "B1\n"),
+        (b"{\"bundle\":2}".as_slice(), "B2 bundle\n"),
+        (b"[]".as_slice(), "B2 bundle\n"),
+        (b"{\"bundle\":1}".as_slice(), "B2 files\n"),
+        (
+            b"{\"bundle\":1,\"files\":{\"manifests/site.pp\":\"\"},\"requests\":[{}]}".as_slice(),
+            "B2 requests.0\n",
+        ),
+    ] {
+        let run = run(rt.alloc(), &["sequence"], input, NONE)?;
+        assert_eq!(rt; run.status, 11, "{line}");
+        assert!(rt; run.out.is_empty(), "{line}");
+        assert_eq!(rt; run.err.as_slice(), line.as_bytes(), "{line}");
+    }
+    Ok(())
+}
+
+#[test]
+fn tells_faults_of_streams_in_sequence(rt: HostRuntime) -> Result<(), Fail> {
+    let (served, ..) = BUNDLES[0];
+    let (unknown, ..) = BUNDLES[3];
+    for (bundle, failing, status, line) in [
+        (served, Failing { source: 1, ..NONE }, 12, "read fault\n"),
+        (served, Failing { source: 2, ..NONE }, 12, "read fault\n"),
+        (served, Failing { out: 1, ..NONE }, 13, ""),
+        (unknown, Failing { out: 1, ..NONE }, 13, ""),
+        (served, Failing { err: 1, ..NONE }, 0, ""),
+        (unknown, Failing { err: 1, ..NONE }, 1, ""),
+        ("{", Failing { err: 1, ..NONE }, 11, ""),
+    ] {
+        let run = run(rt.alloc(), &["sequence"], bundle.as_bytes(), failing)?;
+        assert_eq!(rt; run.status, status, "{bundle}");
+        assert_eq!(rt; run.out.is_empty(), status > 1, "{bundle}");
+        assert_eq!(rt; run.err.as_slice(), line.as_bytes(), "{bundle}");
+    }
     Ok(())
 }

@@ -1,0 +1,18 @@
+-- What the declarations of the code say.
+use Rattle.std.specs.Prelude.{List, map}
+use Rattle.pp_parser.specs.declared.tree.Collector.{Collector}
+use Rattle.compile_core.specs.declared.declaration.Declaration.{Declaration}
+use Rattle.compile_core.specs.declared.declaration.Declaration.TheVariants as v
+use Rattle.compile_core.specs.Declarations.{Declared, local, imported}
+use denote.Ref.{Bor}
+
+abbrev pub seen : Declaration → Declared
+seen (v.Local n) = local n.now
+seen (v.Imported place e) = imported (place, e.now)
+
+abbrev pub all_seen : List Declaration → List Declared
+all_seen = map seen
+
+-- the collectors behind references
+abbrev pub collectors_at : List (Bor Collector) → List Collector
+collectors_at = map (λ c. c.now)

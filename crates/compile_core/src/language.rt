@@ -1,0 +1,77 @@
+//! Puppet's language, in which a site is written.
+ghost use Rattle.std.specs.Prelude.{◌≡◌};
+
+use crate::compiling::compile;
+use export_store::version::Version;
+use pp_values::fault::{Fault, Stop};
+use pp_values::memory::Memory;
+use pp_values::text::Text;
+use pp_values::value::Value;
+use res_core::catalog::Catalog;
+use res_core::export_set::ExportSet;
+use site_bundle::site::Site;
+use site_core::compile_stop::CompileStop;
+use site_core::language::Language;
+use site_docs::catalog_texts::catalog_text;
+use site_docs::fault_texts::fault_text;
+use site_docs::site_texts::site_text;
+use std::alloc::Global;
+
+/// The language of manifests, as far as it is built. Facts mean nothing in it yet.
+#[derive(Drop)]
+pub struct PuppetLanguage;
+
+impl Language for PuppetLanguage {
+    type Site = Site;
+
+    type Catalog = Catalog;
+
+    type Fault = Fault;
+
+    ghost use Rattle.site_bundle.specs.SiteView.{facts_for};
+    ghost use Rattle.site_docs.specs.SiteText as sites;
+    ghost use Rattle.site_docs.specs.CatalogText as catalogs;
+    ghost use Rattle.site_docs.specs.FaultText as faults;
+    ghost use Rattle.compile_core.specs.Meaning as main;
+
+    ghost meaning = { λ site node facts sets. main.meaning site.manifest node sets };
+
+    ghost listed = { facts_for };
+
+    ghost site_form = { sites.site_text };
+
+    ghost catalog_form = { catalogs.catalog_text };
+
+    ghost fault_form = { faults.fault_text };
+
+    fn compile(
+        &self,
+        alloc: Global,
+        site: &Site,
+        node: &Text,
+        _facts: &Value,
+        sets: &Version,
+    ) -> Result<(Catalog, ExportSet), CompileStop<Fault>> {
+        match compile(alloc, site.manifest(), node, sets) {
+            Ok(made) => Ok(made),
+            Err(Stop::Fault(fault)) => Err(CompileStop::Fault(fault)),
+            Err(Stop::Memory) => Err(CompileStop::Memory),
+        }
+    }
+
+    fn facts_of<'a>(&self, site: &'a Site, node: &Text) -> Option<&'a Value> {
+        site.facts_of(node)
+    }
+
+    fn site_text(&self, alloc: Global, site: &Site) -> Result<Text, Memory> {
+        site_text(alloc, site)
+    }
+
+    fn catalog_text(&self, alloc: Global, catalog: &Catalog) -> Result<Text, Memory> {
+        catalog_text(alloc, catalog)
+    }
+
+    fn fault_text(&self, alloc: Global, fault: &Fault) -> Result<Text, Memory> {
+        fault_text(alloc, fault)
+    }
+}

@@ -1,0 +1,4 @@
+pub mod SettingMembers
+pub mod FormLemmas
+pub mod Floats
+mod Examples

@@ -1,0 +1,6 @@
+//! Values of the language as JSON.
+#![tactic(auto)]
+
+#[cfg(test)]
+mod tests;
+pub mod value_forms;

@@ -1,0 +1,137 @@
+-- Bundles, and what they say.
+use Rattle.std.proofs.Common.{◌≡◌, true, false, [], ◌∷◌, Some, None, Ok, Err, refl, codes}
+use Rattle.pp_values.specs.Datum.{hash, no_entries}
+use Rattle.res_core.specs.Asked.{compile, deactivate}
+use Rattle.site_bundle.specs.NodeNames.{is_node_name}
+use Rattle.site_bundle.specs.SiteView.{SiteView, facts_for, with_facts}
+use Rattle.site_bundle.specs.Refusals.{not_json, bad_shape}
+use Rattle.site_bundle.specs.Bundles.{bundle_of}
+use Rattle.site_bundle.proofs.OnLiterals.{bundle_on_literals}
+
+-- nodes by name, requests in their order
+whole : bundle_of (codes "{\"bundle\": 1, \"files\": {\"manifests/site.pp\": \"\"}, \"nodes\": {\"b\": {}, \"a\": {}}, \"requests\": [{\"node\": \"a\", \"seen\": 2}, {\"node\": \"b\", \"facts\": {}}, {\"deactivate\": \"z\"}]}") ≡ Ok (record {
+  site = record { manifest = []; nodes = (codes "a", hash no_entries) ∷ (codes "b", hash no_entries) ∷ [] };
+  requests = compile (record { node = codes "a"; facts = None; seen = 2 }) ∷ compile (record { node = codes "b"; facts = Some (hash no_entries); seen = 0 }) ∷ deactivate (codes "z") ∷ [];
+})
+unfolding bundle_on_literals
+whole = refl
+
+-- nodes and requests may be missing, and other members do not count
+least : bundle_of (codes "{\"bundle\":1,\"files\":{\"manifests/site.pp\":\"x\"},\"other\":[1.5]}") ≡ Ok (record { site = record { manifest = codes "x"; nodes = [] }; requests = [] })
+unfolding bundle_on_literals
+least = refl
+
+-- a text that is cut off
+no_json : bundle_of (codes "{") ≡ Err not_json
+unfolding bundle_on_literals
+no_json = refl
+
+-- a byte that is no text
+no_text : bundle_of (255 ∷ []) ≡ Err not_json
+unfolding bundle_on_literals
+no_text = refl
+
+-- a document that is no object
+no_object : bundle_of (codes "[1]") ≡ Err (bad_shape (codes "bundle"))
+unfolding bundle_on_literals
+no_object = refl
+
+-- `1.0` is not the integer 1
+no_integer : bundle_of (codes "{\"bundle\":1.0,\"files\": {\"manifests/site.pp\": \"\"}}") ≡ Err (bad_shape (codes "bundle"))
+unfolding bundle_on_literals
+no_integer = refl
+
+-- no files
+no_files : bundle_of (codes "{\"bundle\":1}") ≡ Err (bad_shape (codes "files"))
+unfolding bundle_on_literals
+no_files = refl
+
+-- files come before nodes
+files_first : bundle_of (codes "{\"nodes\":[],\"files\":[],\"bundle\":1}") ≡ Err (bad_shape (codes "files"))
+unfolding bundle_on_literals
+files_first = refl
+
+-- a file before the main manifest
+other_file : bundle_of (codes "{\"bundle\":1,\"files\":{\"a\":\"\",\"manifests/site.pp\":\"\"}}") ≡ Err (bad_shape (codes "files.a"))
+unfolding bundle_on_literals
+other_file = refl
+
+-- the main manifest is missing where it should stand
+main_missing : bundle_of (codes "{\"bundle\":1,\"files\":{\"z\":\"\"}}") ≡ Err (bad_shape (codes "files.manifests/site.pp"))
+unfolding bundle_on_literals
+main_missing = refl
+
+-- a file behind the main manifest, which is a text
+file_behind : bundle_of (codes "{\"bundle\":1,\"files\":{\"z\":1,\"manifests/site.pp\":\"\"}}") ≡ Err (bad_shape (codes "files.z"))
+unfolding bundle_on_literals
+file_behind = refl
+
+-- a key that is no node name
+node_name : bundle_of (codes "{\"bundle\":1,\"files\": {\"manifests/site.pp\": \"\"},\"nodes\":{\"A\":{}}}") ≡ Err (bad_shape (codes "nodes.A"))
+unfolding bundle_on_literals
+node_name = refl
+
+-- facts that are no object
+node_facts : bundle_of (codes "{\"bundle\":1,\"files\": {\"manifests/site.pp\": \"\"},\"nodes\":{\"a\":1}}") ≡ Err (bad_shape (codes "nodes.a"))
+unfolding bundle_on_literals
+node_facts = refl
+
+-- both node and deactivate
+both : bundle_of (codes "{\"bundle\":1,\"files\": {\"manifests/site.pp\": \"\"},\"requests\":[{\"node\":\"a\"},{\"node\":\"a\",\"deactivate\":\"a\"}]}") ≡ Err (bad_shape (codes "requests.1"))
+unfolding bundle_on_literals
+both = refl
+
+-- beside `deactivate` nothing else counts
+ignored : bundle_of (codes "{\"bundle\":1,\"files\": {\"manifests/site.pp\": \"\"},\"requests\":[{\"facts\":1,\"seen\":-1,\"deactivate\":\"a\"}]}") ≡ Ok (record { site = record { manifest = []; nodes = [] }; requests = deactivate (codes "a") ∷ [] })
+unfolding bundle_on_literals
+ignored = refl
+
+-- a number that takes more than 32 bits
+seen : bundle_of (codes "{\"bundle\":1,\"files\": {\"manifests/site.pp\": \"\"},\"requests\":[{\"node\":\"a\",\"seen\":4294967296}]}") ≡ Err (bad_shape (codes "requests.0.seen"))
+unfolding bundle_on_literals
+seen = refl
+
+-- facts come before node and seen
+facts_first : bundle_of (codes "{\"bundle\":1,\"files\": {\"manifests/site.pp\": \"\"},\"requests\":[{\"node\":\"\",\"seen\":1.0,\"facts\":[]}]}") ≡ Err (bad_shape (codes "requests.0.facts"))
+unfolding bundle_on_literals
+facts_first = refl
+
+-- and node before seen
+name_next : bundle_of (codes "{\"bundle\":1,\"files\": {\"manifests/site.pp\": \"\"},\"requests\":[{\"node\":\"\",\"seen\":1.0}]}") ≡ Err (bad_shape (codes "requests.0.node"))
+unfolding bundle_on_literals
+name_next = refl
+
+-- a machine, after all the others
+machine_last : bundle_of (codes "{\"bundle\":1,\"machine\":null,\"files\":{},\"nodes\":{}}") ≡ Err (bad_shape (codes "files.manifests/site.pp"))
+unfolding bundle_on_literals
+machine_last = refl
+
+-- a machine
+machine : bundle_of (codes "{\"bundle\":1,\"machine\":null,\"files\": {\"manifests/site.pp\": \"\"}}") ≡ Err (bad_shape (codes "machine"))
+unfolding bundle_on_literals
+machine = refl
+
+-- the last value of a key that stands twice
+twice : bundle_of (codes "{\"bundle\":2,\"bundle\":1,\"files\":{\"manifests/site.pp\":\"\"}}") ≡ Ok (record { site = record { manifest = []; nodes = [] }; requests = [] })
+unfolding bundle_on_literals
+twice = refl
+
+empty_name : is_node_name [] ≡ false
+empty_name = refl
+
+small_letters : is_node_name (codes "web-1.a_b") ≡ true
+small_letters = refl
+
+capital_letter : is_node_name (codes "Web") ≡ false
+capital_letter = refl
+
+site : SiteView
+site = record { manifest = []; nodes = (codes "a", hash no_entries) ∷ (codes "c", hash no_entries) ∷ [] }
+
+listed_between : (with_facts site (codes "b") (hash no_entries)).nodes ≡ (codes "a", hash no_entries) ∷ (codes "b", hash no_entries) ∷ (codes "c", hash no_entries) ∷ []
+unfolding site
+listed_between = refl
+
+not_listed : facts_for site (codes "b") ≡ None
+unfolding site
+not_listed = refl

@@ -1,0 +1,35 @@
+-- What the bytes of a bundle say.
+use Rattle.std.specs.Prelude.{ℕ, ◌==◌, Bool, false, if◌then◌else◌, codes, is_some, List, [], Option, Some, None, option_and_then, Result, Ok, Err}
+use Rattle.serde_json.specs.Data.{Data}
+use Rattle.serde_json.specs.Find.{get, as_number, as_u64}
+use Rattle.site_bundle.specs.declared.bundle.Bundle.{Bundle}
+use Rattle.site_bundle.specs.Refusals.{Refusal, bad_shape, result_and_then}
+use Rattle.site_bundle.specs.Documents.{document_of}
+use Rattle.site_bundle.specs.Files.{manifest_of}
+use Rattle.site_bundle.specs.Nodes.{nodes_of}
+use Rattle.site_bundle.specs.RequestsOf.{requests_of}
+
+abbrev pub is_one : Option ℕ → Bool
+is_one None = false
+is_one (Some n) = n == 1
+
+-- the document is an object whose `bundle` is the integer 1
+abbrev pub is_bundle : Data → Bool
+is_bundle d = is_one (option_and_then as_u64 (option_and_then as_number (get (codes "bundle") d)))
+
+-- so far a bundle has no machine
+abbrev pub unless_machine : Data → Bundle → Result Bundle Refusal
+unless_machine d bundle = if is_some (get (codes "machine") d) then Err (bad_shape (codes "machine")) else Ok bundle
+
+-- its members in their order, so that the first one that is bad decides
+unfoldable pub members_of : Data → Result Bundle Refusal
+members_of d =
+    result_and_then (λ manifest. result_and_then (λ site. result_and_then (λ requests. unless_machine d (record { site = site; requests = requests }))
+    (requests_of d)) (nodes_of d (record { manifest = manifest; nodes = [] }))) (manifest_of d)
+
+abbrev pub bundle_in : Data → Result Bundle Refusal
+bundle_in d = if is_bundle d then members_of d else Err (bad_shape (codes "bundle"))
+
+-- the site and the requests that the bytes say, or the first thing that is wrong with them
+unfoldable pub bundle_of : List ℕ → Result Bundle Refusal
+bundle_of bytes = result_and_then bundle_in (document_of bytes)

@@ -1,0 +1,10 @@
+pub mod SiteView
+pub mod Listing
+pub mod NodeNames
+pub mod Refusals
+pub mod Documents
+pub mod Files
+pub mod GivenFacts
+pub mod Nodes
+pub mod RequestsOf
+pub mod Bundles

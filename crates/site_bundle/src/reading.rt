@@ -1,0 +1,65 @@
+//! Reading a bundle from its bytes.
+ghost use Rattle.std.specs.Prelude.{◌≡◌, ◌≤◌, length, IfOk, IsTrue};
+ghost use Rattle.serde_json.specs.View.{view};
+ghost use Rattle.site_bundle.specs.Refusals.{Reads};
+ghost use Rattle.site_bundle.specs.RequestsOf.{most_requests, give_facts};
+ghost use Rattle.site_bundle.specs.Bundles.{is_bundle, members_of, bundle_in, bundle_of};
+
+use crate::bundle::Bundle;
+use crate::bundle_stop::BundleStop;
+use crate::document::read_document;
+use crate::files::read_manifest;
+use crate::nodes::read_nodes;
+use crate::refusing::bad_shape;
+use crate::requests::read_requests;
+use crate::site::Site;
+use serde_json::Value;
+use std::alloc::Global;
+
+/// The bundle that these bytes say, or the first thing that is wrong with them.
+#[tactic(auto, unfolding(crate::specs::Bundles::bundle_of))]
+pub fn read_bundle(alloc: Global, bytes: &[u8]) -> Result<Bundle, BundleStop>
+    ensures bundle { Reads result (bundle_of bytes.now) }
+    ensures facts { IfOk result (λ b. IsTrue (give_facts b.requests)) }
+    ensures few { IfOk result (λ b. length b.requests ≤ most_requests) }
+{
+    let document = read_document(alloc, bytes)?;
+    bundle_in(alloc, &document)
+}
+
+fn bundle_in(alloc: Global, document: &Value) -> Result<Bundle, BundleStop>
+    ensures bundle { Reads result (bundle_in (view document.now)) }
+    ensures facts { IfOk result (λ b. IsTrue (give_facts b.requests)) }
+    ensures few { IfOk result (λ b. length b.requests ≤ most_requests) }
+{
+    if is_bundle(document) {
+        members_of(alloc, document)
+    } else {
+        Err(bad_shape(alloc, "bundle"))
+    }
+}
+
+/// Whether the document is an object whose `bundle` is the integer 1.
+fn is_bundle(document: &Value) -> bool
+    ensures { result ≡ is_bundle (view document.now) }
+{
+    match document.get("bundle").and_then(Value::as_u64) {
+        Some(version) => version == 1,
+        None => false,
+    }
+}
+
+#[tactic(auto, unfolding(crate::specs::Bundles::members_of))]
+fn members_of(alloc: Global, document: &Value) -> Result<Bundle, BundleStop>
+    ensures bundle { Reads result (members_of (view document.now)) }
+    ensures facts { IfOk result (λ b. IsTrue (give_facts b.requests)) }
+    ensures few { IfOk result (λ b. length b.requests ≤ most_requests) }
+{
+    let manifest = read_manifest(alloc, document)?;
+    let site = read_nodes(alloc, document, Site::new(alloc, manifest))?;
+    let requests = read_requests(alloc, document)?;
+    if document.get("machine").is_some() {
+        return Err(bad_shape(alloc, "machine"));
+    }
+    Ok(Bundle { site, requests })
+}

@@ -1,0 +1,88 @@
+-- No document has a float, so that its text is exact.
+use Rattle.std.proofs.Common.{◌≡◌, ℕ, false, List, map, refl}
+use Rattle.serde_json.specs.Data.{string, array}
+use Rattle.serde_json.specs.View.{items_of}
+use Rattle.serde_json.specs.Written.{has_float}
+use Rattle.pp_values.specs.Datum.{Datum}
+use Rattle.res_core.specs.declared.held.Held.{Held}
+use Rattle.res_core.specs.declared.edge.Edge.{Edge}
+use Rattle.res_core.specs.declared.catalog.Catalog.{Catalog}
+use Rattle.res_core.specs.declared.exported.Exported.{Exported}
+use Rattle.site_core.specs.Events.{Event, opens, publishes, deactivates}
+use Rattle.json_values.specs.ValueForm.{form}
+use Rattle.json_values.proofs.Floats.{either, form_no_float, settings_no_float, all_no_float}
+use Rattle.site_bundle.specs.SiteView.{SiteView}
+use Rattle.site_docs.specs.CatalogText.{index_data, held_object, held_data, edge_data, catalog_object, catalog_data}
+use Rattle.site_docs.specs.SiteText.{site_object, site_data}
+use Rattle.site_docs.specs.JournalText.{export_object, export_data, opening_object, publication_object, deactivation_object, count_object, entry_data}
+use Rattle.site_docs.specs.ReplyText.{refused_object, full_object, ahead_object, unknown_object, deactivated_object, memory_object}
+
+held_no_float : (h : Held) → has_float (held_data h) ≡ false
+unfolding held_data held_object
+held_no_float h =
+    either _ _ (settings_no_float h.item.attributes)
+    (either _ _ (all_no_float index_data (λ i. refl) h.inside) (either _ _ (all_no_float string (λ t. refl) h.item.tags) refl))
+
+edge_no_float : (e : Edge) → has_float (edge_data e) ≡ false
+unfolding edge_data
+edge_no_float e = refl
+
+pub catalog_no_float : (c : Catalog) → has_float (catalog_data c) ≡ false
+unfolding catalog_data catalog_object
+catalog_no_float c = either _ _ (all_no_float edge_data edge_no_float c.edges) (either _ _ (all_no_float held_data held_no_float c.resources) refl)
+
+pub site_no_float : (s : SiteView) → has_float (site_data s) ≡ false
+unfolding site_data site_object
+site_no_float s = either _ _ refl (either _ _ (settings_no_float s.nodes) refl)
+
+export_no_float : (e : Exported) → has_float (export_data e) ≡ false
+unfolding export_data export_object
+export_no_float e = either _ _ (settings_no_float e.item.attributes) (either _ _ (all_no_float string (λ t. refl) e.item.tags) refl)
+
+opening_no_float : (n : ℕ) (s : SiteView) → has_float (opening_object n (site_data s)) ≡ false
+unfolding opening_object
+opening_no_float n s = either _ _ (site_no_float s) refl
+
+publication_no_float : (author call entry k : ℕ) (facts : Datum) (node : List ℕ) (set : List Exported) →
+    has_float (publication_object author call entry (form facts) k node (array (items_of (map export_data set)))) ≡ false
+unfolding publication_object
+publication_no_float author call entry k facts node set =
+    either _ _ (form_no_float facts) (either _ _ (all_no_float export_data export_no_float set) refl)
+
+deactivation_no_float : (author call entry : ℕ) (node : List ℕ) → has_float (deactivation_object author call entry node) ≡ false
+unfolding deactivation_object
+deactivation_no_float author call entry node = refl
+
+pub entry_no_float : (n : ℕ) (e : Event SiteView) → has_float (entry_data n e) ≡ false
+unfolding entry_data
+entry_no_float n (opens site) = opening_no_float n site
+entry_no_float n (publishes p) = publication_no_float p.author p.call n p.k p.facts p.node p.set.items
+entry_no_float n (deactivates d) = deactivation_no_float d.author d.call n d.node
+
+pub count_no_float : (n : ℕ) → has_float (count_object n) ≡ false
+unfolding count_object
+count_no_float n = refl
+
+pub refused_no_float : (reply k : ℕ) (fault : List ℕ) → has_float (refused_object reply k fault) ≡ false
+unfolding refused_object
+refused_no_float reply k fault = refl
+
+pub full_no_float : (reply length : ℕ) → has_float (full_object reply length) ≡ false
+unfolding full_object
+full_no_float reply length = refl
+
+pub ahead_no_float : (reply length seen : ℕ) → has_float (ahead_object reply length seen) ≡ false
+unfolding ahead_object
+ahead_no_float reply length seen = refl
+
+pub unknown_no_float : (reply k : ℕ) (node : List ℕ) → has_float (unknown_object reply k node) ≡ false
+unfolding unknown_object
+unknown_no_float reply k node = refl
+
+pub deactivated_no_float : (reply entry : ℕ) → has_float (deactivated_object reply entry) ≡ false
+unfolding deactivated_object
+deactivated_no_float reply entry = refl
+
+pub memory_no_float : (reply : ℕ) → has_float (memory_object reply) ≡ false
+unfolding memory_object
+memory_no_float reply = refl

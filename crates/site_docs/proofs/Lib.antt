@@ -1,0 +1,4 @@
+pub mod LineLemmas
+pub mod Nodes
+pub mod Floats
+mod Examples

@@ -1,0 +1,77 @@
+-- The text of a history: a line of compact JSON for each entry, with the members of each object in byte order, and a last line
+-- with the number of entries.
+use Rattle.std.specs.Prelude.{ℕ, ◌+◌, List, [], ◌∷◌, ◌++◌, length, map, codes}
+use Rattle.serde_json.specs.Data.{Data, string, array, object, no_members, member}
+use Rattle.serde_json.specs.View.{items_of}
+use Rattle.serde_json.specs.Written.{compact_text}
+use Rattle.pp_values.specs.Words.{kind_text}
+use Rattle.res_core.specs.declared.exported.Exported.{Exported}
+use Rattle.site_core.specs.Events.{Event, opens, publishes, deactivates}
+use Rattle.json_values.specs.ValueForm.{form, setting_members}
+use Rattle.site_bundle.specs.SiteView.{SiteView}
+use Rattle.site_docs.specs.CatalogText.{index_data}
+use Rattle.site_docs.specs.FaultText.{place_text}
+use Rattle.site_docs.specs.SiteText.{site_data}
+
+-- an exported resource, from the forms of its parts
+unfoldable pub export_object : List ℕ → Data → Data → List ℕ → List ℕ → Data
+export_object at attributes tags title kind =
+    object (member (codes "at") (string at)
+    (member (codes "attrs") attributes
+    (member (codes "tags") tags
+    (member (codes "title") (string title)
+    (member (codes "type") (string kind) no_members)))))
+
+unfoldable pub export_data : Exported → Data
+export_data e =
+    export_object (place_text e.node_place) (object (setting_members e.item.attributes)) (array (items_of (map string e.item.tags)))
+    e.item.title (kind_text e.item.kind)
+
+-- an entry that opens a site; 1 is the version of this form
+unfoldable pub opening_object : ℕ → Data → Data
+opening_object entry site =
+    object (member (codes "entry") (index_data entry)
+    (member (codes "journal") (index_data 1)
+    (member (codes "kind") (string (codes "open"))
+    (member (codes "site") site no_members))))
+
+-- an entry by which a node's exports were published, made from the first k entries
+unfoldable pub publication_object : (author call entry : ℕ) → Data → ℕ → List ℕ → Data → Data
+publication_object author call entry facts k node set =
+    object (member (codes "author") (index_data author)
+    (member (codes "call") (index_data call)
+    (member (codes "entry") (index_data entry)
+    (member (codes "facts") facts
+    (member (codes "k") (index_data k)
+    (member (codes "kind") (string (codes "publish"))
+    (member (codes "node") (string node)
+    (member (codes "set") set no_members))))))))
+
+unfoldable pub deactivation_object : (author call entry : ℕ) → List ℕ → Data
+deactivation_object author call entry node =
+    object (member (codes "author") (index_data author)
+    (member (codes "call") (index_data call)
+    (member (codes "entry") (index_data entry)
+    (member (codes "kind") (string (codes "deactivate"))
+    (member (codes "node") (string node) no_members)))))
+
+unfoldable pub count_object : ℕ → Data
+count_object count = object (member (codes "entries") (index_data count) no_members)
+
+-- entry n
+unfoldable pub entry_data : ℕ → Event SiteView → Data
+entry_data n (opens site) = opening_object n (site_data site)
+entry_data n (publishes p) = publication_object p.author p.call n (form p.facts) p.k p.node (array (items_of (map export_data p.set.items)))
+entry_data n (deactivates d) = deactivation_object d.author d.call n d.node
+
+-- a document as a line
+abbrev pub line : Data → List ℕ
+line d = compact_text d ++ 10 ∷ []
+
+-- the lines of these entries, the first of which is entry n
+unfoldable pub entry_lines : ℕ → List (Event SiteView) → List ℕ
+entry_lines n [] = []
+entry_lines n (e ∷ es) = line (entry_data n e) ++ entry_lines (n + 1) es
+
+abbrev pub journal_text : List (Event SiteView) → List ℕ
+journal_text h = entry_lines 0 h ++ line (count_object (length h))

@@ -1,0 +1,5 @@
+pub mod FaultText
+pub mod CatalogText
+pub mod SiteText
+pub mod JournalText
+pub mod ReplyText

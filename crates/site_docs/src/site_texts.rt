@@ -1,0 +1,50 @@
+//! Sites as text.
+ghost use Rattle.std.specs.Prelude.{◌≡◌, IfOk};
+ghost use Rattle.serde_json.specs.Data.{no_members};
+ghost use Rattle.serde_json.specs.View.{view as json_view, members_view};
+ghost use Rattle.json_values.specs.ValueForm.{put_all};
+ghost use Rattle.site_bundle.specs.Listing.{listed};
+ghost use Rattle.site_docs.specs.SiteText.{site_object as object_of_site, site_data, site_text};
+
+use crate::resource_forms::json_text;
+use json_values::value_forms::value_form;
+use pp_values::memory::Memory;
+use pp_values::text::Text;
+use serde_json::{Map, Value as Json, json};
+use site_bundle::site::{Nodes, Site};
+use std::alloc::{AllocError, Global};
+
+/// The site as one line of compact JSON, without a line feed at its end.
+#[tactic(auto, using(crate::proofs::Floats::site_no_float))]
+pub fn site_text(alloc: Global, site: &Site) -> Result<Text, Memory>
+    ensures { IfOk result (λ t. t ≡ site_text site.now) }
+{
+    let form = site_form(alloc, site)?;
+    json_text(alloc, &form)
+}
+
+/// The site as JSON.
+pub(crate) fn site_form(alloc: Global, site: &Site) -> Result<Json, Memory>
+    ensures { IfOk result (λ j. json_view j ≡ site_data site.now) }
+{
+    let nodes = Json::Object(node_forms(alloc, site.nodes())?);
+    Ok(site_object(alloc, site.manifest().as_str(), nodes)?)
+}
+
+#[tactic(auto, unfolding(crate::specs::SiteText::site_object))]
+fn site_object(alloc: Global, manifest: &str, nodes: Json) -> Result<Json, AllocError>
+    ensures { IfOk result (λ j. json_view j ≡ object_of_site manifest.now (json_view nodes)) }
+{
+    json!(in alloc; {"files": {"manifests/site.pp": manifest}, "nodes": nodes})
+}
+
+fn node_forms(alloc: Global, nodes: &Nodes) -> Result<Map<String, Json>, Memory>
+    ensures { IfOk result (λ m. members_view m.entries ≡ put_all (listed nodes.now.entries) no_members) }
+{
+    let mut members = Map::new(alloc);
+    for (name, facts) in nodes {
+        let form = value_form(alloc, facts)?;
+        serde_json::put(&mut members, alloc, name.as_str(), form)?;
+    }
+    Ok(members)
+}

@@ -81,6 +81,7 @@ impl What {
                 let earlier = earlier.copy(alloc)?;
                 Ok(What::SameNamevar { later, earlier })
             }
+            What::NotBuilt => Ok(What::NotBuilt),
         }
     }
 }

@@ -2,7 +2,7 @@
 use Rattle.std.specs.Prelude.{ℕ, ◌==◌, if◌then◌else◌, List, [], ◌∷◌, ◌++◌, map, codes, decimal}
 use Rattle.pp_values.specs.declared.fault.Fault.{Fault}
 use Rattle.pp_values.specs.declared.fault.What.{What}
-use Rattle.pp_values.specs.declared.fault.What.TheVariants.{Syntax, UnknownVariable, Reassigned, UnknownClass, UnknownType, UnknownFunction, WrongArguments, TypeMismatch, MissingParameter, UnknownParameter, BadOperand, NumberRange, ZeroDivisor, Duplicate, AlreadySet, NoOverrideTarget, NoRelationTarget, Cycle, NoNode, LookupMissing, LookupLoop, MergeMismatch, BadData, BadInterpolation, Failed, ClassVirtual, RoundLimit, ResourceLimit, DepthLimit, SameNamevar}
+use Rattle.pp_values.specs.declared.fault.What.TheVariants.{Syntax, UnknownVariable, Reassigned, UnknownClass, UnknownType, UnknownFunction, WrongArguments, TypeMismatch, MissingParameter, UnknownParameter, BadOperand, NumberRange, ZeroDivisor, Duplicate, AlreadySet, NoOverrideTarget, NoRelationTarget, Cycle, NoNode, LookupMissing, LookupLoop, MergeMismatch, BadData, BadInterpolation, Failed, ClassVirtual, RoundLimit, ResourceLimit, DepthLimit, SameNamevar, NotBuilt}
 use Rattle.pp_values.specs.declared.fault.Subject.{Subject}
 use Rattle.pp_values.specs.declared.fault.Subject.TheVariants as subject
 use Rattle.pp_values.specs.declared.place.Place.{Place}
@@ -41,6 +41,7 @@ fault_number RoundLimit = 27
 fault_number ResourceLimit = 28
 fault_number DepthLimit = 29
 fault_number (SameNamevar later earlier) = 30
+fault_number NotBuilt = 31
 
 abbrev pub fault_name : What → List ℕ
 fault_name Syntax = codes "Syntax"
@@ -73,6 +74,7 @@ fault_name RoundLimit = codes "RoundLimit"
 fault_name ResourceLimit = codes "ResourceLimit"
 fault_name DepthLimit = codes "DepthLimit"
 fault_name (SameNamevar later earlier) = codes "SameNamevar"
+fault_name NotBuilt = codes "NotBuilt"
 
 -- a file and a line: `manifests/site.pp:2`
 abbrev pub place_text : Place → List ℕ
@@ -124,6 +126,7 @@ details RoundLimit = []
 details ResourceLimit = []
 details DepthLimit = []
 details (SameNamevar later earlier) = reference_text later ++ (codes " " ++ reference_text earlier)
+details NotBuilt = []
 
 -- the text behind a space, if it is not empty
 abbrev pub spaced : List ℕ → List ℕ

@@ -89,6 +89,7 @@ fn fault_number(what: &What) -> u32
         What::ResourceLimit => 28,
         What::DepthLimit => 29,
         What::SameNamevar { .. } => 30,
+        What::NotBuilt => 31,
     }
 }
 
@@ -126,6 +127,7 @@ fn fault_name(what: &What) -> &'static str
         What::ResourceLimit => "ResourceLimit",
         What::DepthLimit => "DepthLimit",
         What::SameNamevar { .. } => "SameNamevar",
+        What::NotBuilt => "NotBuilt",
     }
 }
 
@@ -133,7 +135,11 @@ fn write_details(out: &mut String, what: &What) -> Result<(), Memory>
     ensures { OnOk result (string_bytes out.new ≡ string_bytes out.old ++ details what.now) }
 {
     match what {
-        What::Syntax | What::RoundLimit | What::ResourceLimit | What::DepthLimit => Ok(()),
+        What::Syntax
+        | What::RoundLimit
+        | What::ResourceLimit
+        | What::DepthLimit
+        | What::NotBuilt => Ok(()),
         What::UnknownVariable(text)
         | What::Reassigned(text)
         | What::UnknownClass(text)

@@ -76,6 +76,7 @@ fn lines_of_faults(rt: HostRuntime) -> Result<(), Fail> {
         same_namevar(alloc),
         "F30 m.pp:7 SameNamevar User[b] User[a]",
     )?;
+    says(&rt, line(alloc, What::NotBuilt), "F31 m.pp:7 NotBuilt")?;
     says(
         &rt,
         cycle(alloc),

@@ -135,11 +135,8 @@ fn write_details(out: &mut String, what: &What) -> Result<(), Memory>
     ensures { OnOk result (string_bytes out.new ≡ string_bytes out.old ++ details what.now) }
 {
     match what {
-        What::Syntax
-        | What::RoundLimit
-        | What::ResourceLimit
-        | What::DepthLimit
-        | What::NotBuilt => Ok(()),
+        What::Syntax | What::RoundLimit | What::ResourceLimit | What::DepthLimit | What::NotBuilt =>
+            Ok(()),
         What::UnknownVariable(text)
         | What::Reassigned(text)
         | What::UnknownClass(text)

@@ -1,0 +1,10 @@
+pub mod ByteLemmas
+mod Examples
+pub mod EscapeLemmas
+pub mod MarkLemmas
+pub mod NumberLemmas
+pub mod NumberLaws
+pub mod PartLemmas
+pub mod ScanLemmas
+pub mod TextLemmas
+pub mod WordLemmas

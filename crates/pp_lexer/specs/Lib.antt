@@ -1,0 +1,9 @@
+pub mod Bytes
+pub mod Escapes
+pub mod Fronts
+pub mod Marks
+pub mod Modes
+pub mod Numbers
+pub mod Texts
+pub mod Tokens
+pub mod Words

@@ -1,0 +1,60 @@
+//! The tokens of a file, or its fault.
+
+ghost use Rattle.std.specs.Prelude.{◌≡◌, ◌+◌, ◌^◌, ◌<◌, length, IfOk};
+ghost use Rattle.pp_lexer.specs.Tokens as spec;
+ghost use Rattle.pp_lexer.specs.Tokens.{Lexes};
+
+use crate::kind::Kind;
+use crate::scan::scan;
+use crate::token::Token;
+use crate::tokens::Tokens;
+use pp_values::fault::{Fault, Stop, What};
+use pp_values::memory::Memory;
+use pp_values::place::Place;
+use pp_values::text::Text;
+use std::alloc::Global;
+
+fn ends_early(kind: Kind) -> bool
+    ensures { result ≡ spec.ends_early kind }
+{
+    match kind {
+        Kind::Bad | Kind::Unclosed => true,
+        _ => false,
+    }
+}
+
+/// The line of the last token, where that ends the list early.
+fn early_end(tokens: &[Token]) -> Option<u32>
+    ensures { result ≡ spec.early_end tokens.now }
+{
+    match tokens.last() {
+        Some(last) if ends_early(last.kind) => Some(last.line),
+        _ => None,
+    }
+}
+
+fn syntax_fault(alloc: Global, file: &Text, line: u32) -> Result<Fault, Memory>
+    ensures { IfOk result (λ fault. fault ≡ spec.syntax_fault file.now line) }
+{
+    let file = file.copy(alloc)?;
+    Ok(Fault {
+        at: Place { file, line },
+        what: What::Syntax,
+    })
+}
+
+/// The tokens of the file at a path. Where no token can be read, or the end of the file cuts off a text or a comment, it is
+/// the fault of the syntax at that line. An interpolation that the end of the file cuts off is none: no token of it is
+/// missing, so it is left to the grammar.
+#[tactic(auto, unfolding(crate::specs::Tokens::lexed))]
+pub fn lex(alloc: Global, file: &Text, text: &Text) -> Result<Tokens, Stop>
+    // Places count lines in 32 bits.
+    requires { length text.now + 1 < 2 ^ 32 }
+    ensures { Lexes (spec.lexed file.now text.now) result }
+{
+    let tokens = scan(alloc, text.as_str())?;
+    match early_end(tokens.as_slice()) {
+        None => Ok(tokens),
+        Some(line) => Err(Stop::Fault(syntax_fault(alloc, file, line)?)),
+    }
+}

@@ -1,0 +1,18 @@
+//! Cuts the text of a manifest into its tokens.
+#![tactic(auto)]
+
+mod bytes;
+mod escapes;
+mod front;
+pub mod kind;
+pub mod lexing;
+mod marks;
+mod mode;
+mod numbers;
+pub mod scan;
+#[cfg(test)]
+mod tests;
+mod texts;
+pub mod token;
+pub mod tokens;
+mod words;

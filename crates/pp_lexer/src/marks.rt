@@ -1,0 +1,93 @@
+//! Punctuation.
+
+ghost use Rattle.std.specs.Prelude.{◌≡◌, ◌<◌, ◌≤◌, length, map, nat_eq, true};
+ghost use Rattle.std.specs.List.{starts_with};
+ghost use Rattle.pp_lexer.specs.Fronts.{IsPiece};
+ghost use Rattle.pp_lexer.specs.Fronts as fronts;
+ghost use Rattle.pp_lexer.specs.Marks as spec;
+ghost use Rattle.pp_lexer.specs.Marks.{AllEndInAscii};
+
+use crate::front::{Front, bad};
+use crate::kind::Kind;
+
+/// The marks, a longer one before those that it begins with. Where a mark has two kinds, by what stands round it, this is
+/// the first of them.
+pub const MARKS: [(&[u8], Kind); 41] = [
+    (b"<<|", Kind::OpenExported),
+    (b"|>>", Kind::CloseExported),
+    (b"<<", Kind::Append),
+    (b"<|", Kind::OpenCollector),
+    (b"|>", Kind::CloseCollector),
+    (b"->", Kind::InEdge),
+    (b"~>", Kind::InEdgeSub),
+    (b"<-", Kind::OutEdge),
+    (b"<~", Kind::OutEdgeSub),
+    (b"=>", Kind::Arrow),
+    (b"+>", Kind::PlusArrow),
+    (b"==", Kind::Equal),
+    (b"!=", Kind::NotEqual),
+    (b"=~", Kind::Match),
+    (b"!~", Kind::NoMatch),
+    (b"<=", Kind::AtMost),
+    (b">=", Kind::AtLeast),
+    (b"@@", Kind::AtAt),
+    (b"{", Kind::OpenBrace),
+    (b"}", Kind::CloseBrace),
+    (b"(", Kind::OpenParen),
+    (b")", Kind::CloseParen),
+    (b"[", Kind::OpenBracket),
+    (b"]", Kind::CloseBracket),
+    (b":", Kind::Colon),
+    (b";", Kind::Semicolon),
+    (b",", Kind::Comma),
+    (b".", Kind::Dot),
+    (b"?", Kind::Question),
+    (b"@", Kind::At),
+    (b"|", Kind::Bar),
+    (b"=", Kind::Assign),
+    (b"<", Kind::Less),
+    (b">", Kind::Greater),
+    (b"+", Kind::Plus),
+    (b"-", Kind::Minus),
+    (b"*", Kind::Star),
+    (b"/", Kind::Slash),
+    (b"%", Kind::Percent),
+    (b"!", Kind::Bang),
+    (b"\"", Kind::TextBegin),
+];
+
+/// The mark with which a text begins.
+fn found_mark(bytes: &[u8], mark: &[u8], kind: Kind) -> Front
+    requires begins { starts_with nat_eq bytes.now mark.now ≡ true }
+    requires within { length mark.now ≤ length bytes.now }
+    requires ascii { spec.ends_in_ascii (mark.now, kind) ≡ true }
+    ensures value { result ≡ fronts.mark kind (length mark.now) }
+    ensures piece { IsPiece bytes.now result }
+{
+    Front::mark(kind, mark.len())
+}
+
+fn first_mark(mut table: &[(&[u8], Kind)], bytes: &[u8]) -> Front
+    requires some { 0 < length bytes.now }
+    requires ascii { AllEndInAscii (map (λ m. (m.0.now, m.1)) table.now) }
+    ensures value { result ≡ spec.first_mark (map (λ m. (m.0.now, m.1)) table.entry.now) bytes.now }
+    ensures piece { IsPiece bytes.now result }
+{
+    while let [mark, rest @ ..] = table {
+        if bytes.starts_with(mark.0) {
+            return found_mark(bytes, mark.0, mark.1);
+        }
+        table = rest;
+    }
+    bad(bytes)
+}
+
+/// The punctuation at the front of a text, if there is any.
+#[tactic(auto, unfolding(crate::specs::Marks::punctuation))]
+pub fn punctuation(bytes: &[u8]) -> Front
+    requires { 0 < length bytes.now }
+    ensures value { result ≡ spec.punctuation bytes.now }
+    ensures piece { IsPiece bytes.now result }
+{
+    first_mark(&MARKS, bytes)
+}

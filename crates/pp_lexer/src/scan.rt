@@ -1,0 +1,223 @@
+//! Cuts a text into its tokens.
+
+ghost use Rattle.std.specs.Prelude.{◌≡◌, ◌+◌, ◌^◌, ◌<◌, ◌++◌, ◌∷◌, [], length, slice_index, IfOk, OnOk, drop};
+ghost use Rattle.pp_lexer.specs.Bytes as bytes;
+ghost use Rattle.pp_lexer.specs.Fronts.{HasEnds, IsBetweenQuotes, IsPart, IsPiece};
+ghost use Rattle.pp_lexer.specs.Tokens as spec;
+
+use crate::bytes::{blank_len, line_at, meets_brace, opens_comment};
+use crate::escapes::{Quotes, said};
+use crate::front::{Found, Front};
+use crate::kind::Kind;
+use crate::marks::punctuation;
+use crate::mode::{Mode, Nest, mode_after};
+use crate::numbers::number;
+use crate::texts::{in_text, quoted};
+use crate::token::Token;
+use crate::tokens::Tokens;
+use crate::words::{WordSort, begins_word, name, type_name, variable};
+use pp_values::memory::Memory;
+use pp_values::text::Text;
+use std::alloc::Global;
+
+/// The token at a place outside of texts, where neither white space nor a comment stands.
+#[tactic(auto, unfolding(crate::specs::Tokens::token_front))]
+fn token_front(bytes: &[u8]) -> Front
+    requires { 0 < length bytes.now }
+    ensures value { result ≡ spec.token_front bytes.now }
+    ensures piece { IsPiece bytes.now result }
+{
+    let first = bytes[0];
+    if first == b'\'' {
+        quoted(bytes)
+    } else if first == b'$' {
+        variable(bytes)
+    } else if first.is_ascii_digit() {
+        number(bytes)
+    } else if begins_word(WordSort::Name, bytes) {
+        name(bytes)
+    } else if begins_word(WordSort::Type, bytes) {
+        type_name(bytes)
+    } else {
+        punctuation(bytes)
+    }
+}
+
+/// What stands at a place outside of texts.
+#[tactic(auto, unfolding(crate::specs::Tokens::in_code))]
+fn in_code(bytes: &[u8]) -> Front
+    requires { 0 < length bytes.now }
+    ensures value { result ≡ spec.in_code bytes.now }
+    ensures piece { IsPiece bytes.now result }
+{
+    let blank = blank_len(bytes);
+    if blank != 0 {
+        Front::new(Found::Blank, blank)
+    } else if opens_comment(bytes) {
+        Front::new(Found::CutOff, bytes.len())
+    } else {
+        token_front(bytes)
+    }
+}
+
+/// The kind of a mark, by what stands round it.
+fn kind_in_place(mode: Mode, nest: &Nest, behind: &[u8], kind: Kind) -> Kind
+    ensures { result ≡ spec.kind_in_place mode nest.now behind.now kind }
+{
+    match (mode, kind) {
+        (Mode::AfterToken, Kind::OpenBracket) => Kind::TightBracket,
+        (_, Kind::CloseBrace) if nest.in_interpolation() => Kind::InterpolationEnd,
+        (_, Kind::Bar) if meets_brace(behind) => Kind::LastBar,
+        _ => kind,
+    }
+}
+
+fn found_in_place(mode: Mode, nest: &Nest, behind: &[u8], found: Found) -> Found
+    ensures value { result ≡ spec.found_in_place mode nest.now behind.now found }
+{
+    match found {
+        Found::Mark(kind) => Found::Mark(kind_in_place(mode, nest, behind, kind)),
+        _ => found,
+    }
+}
+
+/// What stands at a place outside of texts, by what stands round it.
+fn in_place(mode: Mode, nest: &Nest, text: &str) -> Front
+    requires { 0 < length text.now }
+    ensures value { result ≡ spec.in_place mode nest.now text.now (spec.in_code text.now) }
+    ensures part { IsPart text.now result }
+{
+    let bytes = text.as_bytes();
+    let front = in_code(bytes);
+    let found = found_in_place(mode, nest, &bytes[1..], front.found);
+    Front::new(found, front.len)
+}
+
+/// What stands at the front of a text that is not empty.
+fn front_at(mode: Mode, nest: &Nest, text: &str) -> Front
+    requires { 0 < length text.now }
+    ensures value { result ≡ spec.front_at mode nest.now text.now }
+    ensures part { IsPart text.now result }
+{
+    match mode {
+        Mode::Inside => in_text(text),
+        _ => in_place(mode, nest, text),
+    }
+}
+
+/// What a text in single quotes says.
+fn quoted_text(alloc: Global, spelling: &str) -> Result<Text, Memory>
+    requires { IsBetweenQuotes spelling.now (length spelling.now) }
+    ensures { IfOk result (λ t. t ≡ spec.quoted_text spelling.now) }
+{
+    let end = spelling.len() - 1;
+    said(alloc, Quotes::Single, &spelling[1..end])
+}
+
+/// What a variable says.
+fn dollar_text(alloc: Global, spelling: &str) -> Result<Text, Memory>
+    requires some { 0 < length spelling.now }
+    requires dollar { slice_index spelling.now 0 ≡ 36 }
+    ensures { IfOk result (λ t. t ≡ drop 1 spelling.now) }
+{
+    Text::from_str(alloc, &spelling[1..])
+}
+
+fn put(found: &mut Tokens, kind: Kind, text: Text, line: u32) -> Result<(), Memory>
+    ensures { OnOk result (found.new ≡ found.old ++ spec.token kind text line ∷ []) }
+{
+    found.push(Token {
+        kind,
+        text,
+        line,
+        number: 0,
+    })
+}
+
+fn put_number(alloc: Global, found: &mut Tokens, number: i64, line: u32) -> Result<(), Memory>
+    ensures { OnOk result (found.new ≡ found.old ++ spec.number_token number line ∷ []) }
+{
+    found.push(Token {
+        kind: Kind::Number,
+        text: Text::new(String::new(alloc)),
+        line,
+        number,
+    })
+}
+
+/// Appends a run that says something.
+fn put_run(found: &mut Tokens, text: Text, line: u32) -> Result<(), Memory>
+    ensures { OnOk result (found.new ≡ found.old ++ spec.piece text line) }
+{
+    if text.as_str().is_empty() {
+        Ok(())
+    } else {
+        put(found, Kind::Piece, text, line)
+    }
+}
+
+/// Appends the tokens of what stands at a place, from its spelling.
+fn emit(
+    alloc: Global,
+    tokens: &mut Tokens,
+    found: Found,
+    spelling: &str,
+    line: u32,
+) -> Result<(), Memory>
+    requires some { 0 < length spelling.now }
+    requires ends { HasEnds spelling.now found (length spelling.now) }
+    ensures { OnOk result (tokens.new ≡ tokens.old ++ spec.emitted line found spelling.now) }
+{
+    match found {
+        Found::Blank | Found::CutOff => Ok(()),
+        Found::Mark(kind) => put(tokens, kind, Text::new(String::new(alloc)), line),
+        Found::Word(kind) => put(tokens, kind, Text::from_str(alloc, spelling)?, line),
+        Found::Dollar(kind) => put(tokens, kind, dollar_text(alloc, spelling)?, line),
+        Found::Number(number) => put_number(alloc, tokens, number, line),
+        Found::Quoted => put(tokens, Kind::Text, quoted_text(alloc, spelling)?, line),
+        Found::Run => put_run(tokens, said(alloc, Quotes::Double, spelling)?, line),
+    }
+}
+
+/// Appends the end of the file, where it is within a text or a comment.
+fn finish(alloc: Global, tokens: &mut Tokens, mode: Mode, line: u32) -> Result<(), Memory>
+    ensures { OnOk result (tokens.new ≡ tokens.old ++ spec.at_end mode line) }
+{
+    match mode {
+        Mode::Inside => put(tokens, Kind::Unclosed, Text::new(String::new(alloc)), line),
+        _ => Ok(()),
+    }
+}
+
+/// The tokens of a text. Where no token can be read, or the end of the file cuts off a text or a comment, the last of them
+/// says so.
+pub fn scan(alloc: Global, text: &str) -> Result<Tokens, Memory>
+    // Places count lines in 32 bits.
+    requires { length text.now + 1 < 2 ^ 32 }
+    ensures { IfOk result (λ ts. ts ≡ spec.tokens text.now) }
+{
+    let mut tokens = Tokens::new(alloc);
+    let mut nest = Nest::new(alloc);
+    let mut mode = Mode::AfterBlank;
+    let mut line = 1;
+    let mut rest = text;
+    while !rest.is_empty() {
+        let front = front_at(mode, &nest, rest);
+        let (spelling, after) = rest.split_at(front.len);
+        emit(alloc, &mut tokens, front.found, spelling, line)?;
+        nest.pass(front.found)?;
+        mode = mode_after(front.found);
+        line = line_at(line, spelling.as_bytes());
+        rest = after;
+    }
+    finish(alloc, &mut tokens, mode, line)?;
+    Ok(tokens)
+}
+
+/// The line of the end of the file: one more than the number of line feeds.
+pub fn end_line(text: &str) -> u32
+    requires { length text.now + 1 < 2 ^ 32 }
+    ensures { result ≡ bytes.end_line text.now }
+{
+    line_at(1, text.as_bytes())
+}

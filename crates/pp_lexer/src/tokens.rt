@@ -1,0 +1,59 @@
+//! A list of tokens.
+
+ghost use Rattle.std.specs.Prelude.{◌≡◌, [], ◌∷◌, ◌++◌, ◌↔◌, length, is_ok, if◌then◌else◌, IsTrue};
+
+use crate::token::Token;
+use pp_values::memory::Memory;
+use std::alloc::Global;
+use std::marker::Model;
+
+/// A list of tokens.
+#[derive(Debug, Drop)]
+pub struct Tokens {
+    items: Vec<Token>,
+}
+
+impl Model for Tokens {
+    ghost use Rattle.std.specs.Prelude.{List};
+    ghost use Rattle.pp_lexer.specs.declared.token.Token.{Token};
+
+    ghost Value = { List Token };
+
+    ghost view = { λ l. l.items.items };
+}
+
+impl Tokens {
+    pub fn new(alloc: Global) -> Tokens
+        ensures { result ≡ [] }
+    {
+        Tokens {
+            items: Vec::new(alloc),
+        }
+    }
+
+    pub fn len(&self) -> usize
+        ensures { result ≡ length self.now }
+    {
+        self.items.len()
+    }
+
+    pub fn is_empty(&self) -> bool
+        ensures { IsTrue result ↔ (self.now ≡ []) }
+    {
+        self.items.is_empty()
+    }
+
+    pub fn as_slice(&self) -> &[Token]
+        ensures { result.now ≡ self.now }
+    {
+        self.items.as_slice()
+    }
+
+    /// Appends a token. Where there is no memory, the list stays as it was.
+    pub fn push(&mut self, token: Token) -> Result<(), Memory>
+        ensures { self.new ≡ (if is_ok result then self.old ++ token ∷ [] else self.old) }
+    {
+        self.items.push(token)?;
+        Ok(())
+    }
+}

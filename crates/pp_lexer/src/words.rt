@@ -1,0 +1,175 @@
+//! Names, types and variables.
+
+ghost use Rattle.std.specs.Prelude.{◌≡◌, ◌+◌, ◌-◌, ◌<◌, ◌≤◌, length, take, drop, map, slice_index, true, IsTrue};
+ghost use Rattle.std.specs.Str.{bytes_eq};
+ghost use Rattle.pp_lexer.specs.Fronts.{IsPiece};
+ghost use Rattle.pp_lexer.specs.Words as spec;
+
+use crate::bytes::{byte, is_word};
+use crate::front::{Found, Front, bad};
+use crate::kind::Kind;
+
+/// What a word is, by how each of its segments begins and whether `-` may stand in it.
+#[derive(Clone, Copy, Debug)]
+pub enum WordSort {
+    Name,
+    Type,
+    Variable,
+}
+
+/// The keywords and the names of the statement functions. Any other name is just a name.
+pub const WORDS: [(&[u8], Kind); 27] = [
+    (b"and", Kind::And),
+    (b"case", Kind::Case),
+    (b"class", Kind::Class),
+    (b"default", Kind::Default),
+    (b"define", Kind::Define),
+    (b"else", Kind::Else),
+    (b"elsif", Kind::Elsif),
+    (b"false", Kind::False),
+    (b"function", Kind::Function),
+    (b"if", Kind::If),
+    (b"in", Kind::In),
+    (b"inherits", Kind::Inherits),
+    (b"node", Kind::Node),
+    (b"or", Kind::Or),
+    (b"true", Kind::True),
+    (b"undef", Kind::Undef),
+    (b"unless", Kind::Unless),
+    (b"include", Kind::StatementFunction),
+    (b"contain", Kind::StatementFunction),
+    (b"require", Kind::StatementFunction),
+    (b"realize", Kind::StatementFunction),
+    (b"notice", Kind::StatementFunction),
+    (b"warning", Kind::StatementFunction),
+    (b"info", Kind::StatementFunction),
+    (b"debug", Kind::StatementFunction),
+    (b"err", Kind::StatementFunction),
+    (b"fail", Kind::StatementFunction),
+];
+
+pub fn begins_segment(sort: WordSort, b: u8) -> bool
+    ensures { result ≡ spec.begins_segment sort b }
+{
+    match sort {
+        WordSort::Type => b.is_ascii_uppercase(),
+        WordSort::Name => b.is_ascii_lowercase() || b == b'_',
+        WordSort::Variable => b.is_ascii_lowercase() || b == b'_',
+    }
+}
+
+fn takes_dash(sort: WordSort) -> bool
+    ensures { result ≡ spec.takes_dash sort }
+{
+    match sort {
+        WordSort::Variable => false,
+        WordSort::Name => true,
+        WordSort::Type => true,
+    }
+}
+
+fn continues_word(sort: WordSort, bytes: &[u8], at: usize) -> bool
+    requires { at < length bytes.now }
+    ensures value { result ≡ spec.continues_word sort (slice_index bytes.now at) (drop (at + 1) bytes.now) }
+    ensures ascii { result ≡ true → slice_index bytes.now at < 128 }
+    ensures second { result ≡ true → slice_index bytes.now at ≡ 58 → slice_index bytes.now (at + 1) ≡ 58 }
+{
+    let next = byte(bytes, at + 1);
+    match bytes[at] {
+        b'-' => takes_dash(sort) && is_word(next),
+        b':' => next == b':' && begins_segment(sort, byte(bytes, at + 2)),
+        b => is_word(b),
+    }
+}
+
+/// The length of a word that begins here.
+pub fn word_len(sort: WordSort, bytes: &[u8]) -> usize
+    requires { spec.begins_word sort bytes.now ≡ true }
+    ensures value { result ≡ spec.word_len sort bytes.now }
+    ensures within { (0 < result) × (result ≤ length bytes.now) }
+    ensures ascii { slice_index bytes.now (result - 1) < 128 }
+{
+    let mut is_second = byte(bytes, 0) == b':';
+    for at in 1..bytes.len() {
+        if !is_second && !continues_word(sort, bytes, at) {
+            return at;
+        }
+        is_second = !is_second && bytes[at] == b':';
+    }
+    bytes.len()
+}
+
+/// Whether a word of this sort begins here.
+pub fn begins_word(sort: WordSort, bytes: &[u8]) -> bool
+    ensures { result ≡ spec.begins_word sort bytes.now }
+{
+    let first = byte(bytes, 0);
+    begins_segment(sort, first)
+        || (first == b':' && byte(bytes, 1) == b':' && begins_segment(sort, byte(bytes, 2)))
+}
+
+fn named(mut table: &[(&[u8], Kind)], spelling: &[u8]) -> Kind
+    ensures { result ≡ spec.named (map (λ w. (w.0.now, w.1)) table.entry.now) spelling.now }
+{
+    while let [word, rest @ ..] = table {
+        if spelling == word.0 {
+            return word.1;
+        }
+        table = rest;
+    }
+    Kind::Name
+}
+
+#[tactic(auto, unfolding(crate::specs::Words::name_kind))]
+fn name_kind(spelling: &[u8]) -> Kind
+    ensures { result ≡ spec.name_kind spelling.now }
+{
+    named(&WORDS, spelling)
+}
+
+/// A name, with its kind.
+#[tactic(auto, unfolding(crate::specs::Words::name))]
+pub fn name(bytes: &[u8]) -> Front
+    requires { spec.begins_word WordSort.Name bytes.now ≡ true }
+    ensures value { result ≡ spec.name bytes.now }
+    ensures piece { IsPiece bytes.now result }
+{
+    let len = word_len(WordSort::Name, bytes);
+    Front::new(Found::Word(name_kind(&bytes[..len])), len)
+}
+
+/// A type.
+#[tactic(auto, unfolding(crate::specs::Words::type_name))]
+pub fn type_name(bytes: &[u8]) -> Front
+    requires { spec.begins_word WordSort.Type bytes.now ≡ true }
+    ensures value { result ≡ spec.type_name bytes.now }
+    ensures piece { IsPiece bytes.now result }
+{
+    let len = word_len(WordSort::Type, bytes);
+    Front::new(Found::Word(Kind::Type), len)
+}
+
+fn variable_kind(spelling: &[u8]) -> Kind
+    ensures { result ≡ spec.variable_kind spelling.now }
+{
+    if spelling.contains(&b':') {
+        Kind::QualifiedVariable
+    } else {
+        Kind::Variable
+    }
+}
+
+/// A variable.
+#[tactic(auto, unfolding(crate::specs::Words::variable))]
+pub fn variable(bytes: &[u8]) -> Front
+    requires { slice_index bytes.now 0 ≡ 36 }
+    ensures value { result ≡ spec.variable bytes.now }
+    ensures piece { IsPiece bytes.now result }
+{
+    let behind = &bytes[1..];
+    if !begins_word(WordSort::Variable, behind) {
+        return bad(bytes);
+    }
+    let len = word_len(WordSort::Variable, behind);
+    Front::new(Found::Dollar(variable_kind(&behind[..len])), len + 1)
+}

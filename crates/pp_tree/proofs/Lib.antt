@@ -1,0 +1,3 @@
+pub mod Colons
+mod Examples
+pub mod TableLemmas

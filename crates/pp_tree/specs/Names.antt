@@ -1,0 +1,30 @@
+-- The names of a table.
+use Rattle.std.specs.Prelude.{ℕ, Bool, true, false, List, [], ◌∷◌, ◌&&◌, ◌==◌, ◌++◌, if◌then◌else◌, None, Some, map, nat_eq}
+use Rattle.std.specs.Char.{to_ascii_lowercase}
+use Rattle.std.specs.Cmp.Lexicographic.{pointwise}
+use Rattle.std.specs.Hash as fed
+use Rattle.pp_tree.specs.declared.table.DefinitionName.{DefinitionName}
+use Rattle.pp_tree.specs.declared.table.DefinitionName.TheVariants.{Code, Node}
+
+-- a text without a `::` at its front, of which one is dropped
+unfoldable pub without_front_colons : List ℕ → List ℕ
+without_front_colons [] = []
+without_front_colons (a ∷ []) = a ∷ []
+without_front_colons (a ∷ b ∷ rest) = if (a == 58) && (b == 58) then rest else a ∷ b ∷ rest
+
+-- how a class or a define is looked up: without a `::` at its front, with its ASCII letters in lower case
+unfoldable pub normal : List ℕ → List ℕ
+normal text = map to_ascii_lowercase (without_front_colons text)
+
+-- two names are the same, letter by letter; that of a node is never that of a class or define
+abbrev pub same_name : DefinitionName → DefinitionName → Bool
+same_name (Code a) (Code b) = pointwise nat_eq a b
+same_name (Node None) (Node None) = true
+same_name (Node (Some a)) (Node (Some b)) = pointwise nat_eq a b
+same_name _ _ = false
+
+-- what a hasher is fed
+abbrev pub name_writes : DefinitionName → List (List ℕ)
+name_writes (Code a) = fed.u8 0 ++ fed.str a
+name_writes (Node None) = fed.u8 1
+name_writes (Node (Some a)) = fed.u8 2 ++ fed.str a

@@ -1,0 +1,48 @@
+use crate::boxed::Boxed;
+use crate::expr::Expr;
+use crate::items::Items;
+use crate::statement::Statement;
+
+/// `if $a { } elsif $b { } else { }`
+#[cycle(tree)]
+#[derive(Drop)]
+pub struct If {
+    pub condition: Boxed<Expr>,
+    pub block: Items<Statement>,
+    pub elsifs: Items<Elsif>,
+    pub otherwise: Option<Items<Statement>>,
+}
+
+/// `elsif $b { }`
+#[cycle(tree)]
+#[derive(Drop)]
+pub struct Elsif {
+    pub condition: Expr,
+    pub block: Items<Statement>,
+}
+
+/// `unless $a { } else { }`
+#[cycle(tree)]
+#[derive(Drop)]
+pub struct Unless {
+    pub condition: Boxed<Expr>,
+    pub block: Items<Statement>,
+    pub otherwise: Option<Items<Statement>>,
+}
+
+/// `case $a { 1, 2: { } default: { } }`
+#[cycle(tree)]
+#[derive(Drop)]
+pub struct Case {
+    pub control: Boxed<Expr>,
+    pub options: Items<CaseOption>,
+}
+
+/// An option of a case: `1, 2: { }`.
+#[cycle(tree)]
+#[derive(Drop)]
+pub struct CaseOption {
+    pub values: Items<Expr>,
+    pub block: Items<Statement>,
+    pub at: u32,
+}

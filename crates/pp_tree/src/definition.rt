@@ -1,0 +1,55 @@
+use crate::items::Items;
+use crate::param::Params;
+use crate::statement::Block;
+use pp_values::text::Text;
+
+/// The name of a class or a define, as it is written, and its line.
+#[derive(Drop)]
+pub struct Name {
+    pub text: Text,
+    pub at: u32,
+}
+
+/// `class a($b) inherits c { }`
+#[derive(Drop)]
+pub struct Class {
+    pub name: Name,
+    pub params: Params,
+    pub inherits: Option<Name>,
+    pub block: Block,
+    pub at: u32,
+}
+
+/// `define a($b) { }`
+#[derive(Drop)]
+pub struct Define {
+    pub name: Name,
+    pub params: Params,
+    pub block: Block,
+    pub at: u32,
+}
+
+/// `node 'a', default { }`
+#[derive(Drop)]
+pub struct Node {
+    pub names: Items<NodeName>,
+    pub block: Block,
+    pub at: u32,
+}
+
+/// A name of a node definition, as it is written, or none for `default`.
+#[derive(Drop)]
+pub struct NodeName {
+    pub name: Option<Text>,
+    pub at: u32,
+}
+
+/// A definition at the top of a file.
+#[derive(Drop)]
+pub enum Definition {
+    Class(Class),
+    Define(Define),
+    Node(Node),
+    /// In a table alone: a further name of the node definition that stands under this first name.
+    SameNode(Option<Text>),
+}

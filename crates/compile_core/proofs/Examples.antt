@@ -2,16 +2,16 @@
 use Rattle.std.proofs.Common.{◌≡◌, ℕ, true, false, Bool, List, [], ◌∷◌, Option, Some, None, Ok, Err, map, refl, codes}
 use Rattle.pp_values.specs.Datum as d
 use Rattle.pp_values.specs.declared.fault.What.TheVariants.{Duplicate, UnknownParameter}
-use Rattle.pp_parser.specs.declared.tree.Notify.{Notify}
-use Rattle.pp_parser.specs.declared.tree.Collector.{Collector}
-use Rattle.pp_parser.specs.declared.tree.Statement.TheVariants as statement
+use Rattle.compile_core.specs.declared.form.Notify.{Notify}
+use Rattle.compile_core.specs.declared.form.Collector.{Collector}
+use Rattle.compile_core.specs.declared.form.Form.TheVariants as form
 use Rattle.res_core.specs.Settings.{Setting}
 use Rattle.res_core.specs.TagNames.{segments, is_word_byte, is_tag_byte}
 use Rattle.export_store.specs.ExportQueries.{Placed}
-use Rattle.compile_core.specs.Declarations.{local, imported, declare, in_turn, locals, collectors}
+use Rattle.compile_core.specs.Declarations.{local, imported, declare, in_turn, evaluate, locals, collectors}
 use Rattle.compile_core.specs.Imports.{import_one}
 use Rattle.compile_core.specs.Finishing.{notify_resource, is_live, exported_of, listed}
-use Rattle.compile_core.specs.Meaning.{main_manifest}
+use Rattle.compile_core.specs.Places.{main_manifest, main_place, not_built}
 
 -- a resource of the main manifest, by its line
 abbrev at_line : ℕ → Bool → List ℕ → Option (List ℕ) → Notify
@@ -26,7 +26,8 @@ export node place title settings =
     (record { node = node; place = place }, record { node_place = record { file = codes "other.pp"; line = 3 }; item = record { kind = codes "notify"; title = title; attributes = settings; tags = codes "web" ∷ [] } })
 
 -- statements keep their order, and collectors come after them
-statements : (let ss = statement.Collector (asks None) ∷ statement.Notify (at_line 1 true (codes "x") None) ∷ [] in (locals ss ≡ local (at_line 1 true (codes "x") None) ∷ []) × (collectors ss ≡ asks None ∷ []))
+statements : (let fs = form.Collector (asks None) ∷ form.Notify (at_line 1 true (codes "x") None) ∷ [] in (in_turn evaluate [] fs ≡ Ok (local (at_line 1 true (codes "x") None) ∷ [])) × (collectors fs ≡ asks None ∷ []))
+unfolding in_turn
 statements = (refl, refl)
 
 -- of several titles that stand twice, the first statement with an earlier title counts, exported or not
@@ -34,6 +35,16 @@ first_of_three : in_turn declare [] (map local (at_line 1 false (codes "a") None
     ≡ Err (record { at = record { file = main_manifest; line = 3 }; what = Duplicate (record { kind = codes "notify"; title = codes "b" }) (record { file = main_manifest; line = 2 }) })
 unfolding in_turn
 first_of_three = refl
+
+-- the first fault counts: of the statements in their order, and then of the node definitions
+turns :
+    (locals (form.Notify (at_line 1 false (codes "x") None) ∷ form.NotBuilt 2 ∷ form.Notify (at_line 3 false (codes "x") None) ∷ form.NotBuilt 4 ∷ []) (Some 0) ≡ Err (not_built 2))
+    × (locals (form.Notify (at_line 1 false (codes "x") None) ∷ form.Notify (at_line 2 false (codes "x") None) ∷ form.NotBuilt 3 ∷ []) None
+    ≡ Err (record { at = main_place 2; what = Duplicate (record { kind = codes "notify"; title = codes "x" }) (main_place 1) }))
+    × (locals (form.Notify (at_line 2 false (codes "x") None) ∷ []) (Some 1) ≡ Err (not_built 1))
+    × (locals (form.Notify (at_line 2 false (codes "x") None) ∷ form.Collector (asks None) ∷ []) None ≡ Ok (local (at_line 2 false (codes "x") None) ∷ []))
+unfolding in_turn
+turns = (refl, refl, refl, refl)
 
 -- titles are compared byte by byte
 titles : in_turn declare [] (map local (at_line 1 false (codes "a") None ∷ at_line 1 false (codes "A") None ∷ []))

@@ -7,15 +7,15 @@ use Rattle.std.specs.Cmp.Lexicographic.{nat_list_eq_equiv}
 use Rattle.std.specs.FinMap.{entries}
 use Rattle.std.specs.Option.{option_or}
 use Rattle.std.specs.Str.{bytes_eq}
-use Rattle.pp_parser.specs.declared.tree.Collector.{Collector}
-use Rattle.pp_parser.specs.declared.tree.Statement.{Statement}
-use Rattle.pp_parser.specs.declared.tree.Statement.TheVariants as statement
+use Rattle.compile_core.specs.declared.form.Collector.{Collector}
+use Rattle.compile_core.specs.declared.form.Form.{Form}
+use Rattle.compile_core.specs.declared.form.Form.TheVariants as form
 use Rattle.export_store.specs.declared.export_place.ExportPlace.{ExportPlace}
 use Rattle.export_store.specs.ExportQueries.{Placed, exports_of, is_found}
 use Rattle.export_store.specs.Sets.{Sets}
-use Rattle.compile_core.specs.Declarations.{Declared, local, imported, kind, title_of, has_title, declared_as, with_new, declare, and_then, in_turn, locals}
+use Rattle.compile_core.specs.Declarations.{Declared, local, imported, kind, title_of, has_title, declared_as, with_new, declare, evaluate, without_nodes, and_then, in_turn, locals}
 use Rattle.compile_core.specs.Imports.{same_place, is_import_of, is_imported, unknown_name, import_new, import_one, found_by, all_found}
-use Rattle.compile_core.specs.Places.{placed_at, is_own_import, import_by_title}
+use Rattle.compile_core.specs.ImportPlaces.{placed_at, is_own_import, import_by_title}
 use Rattle.compile_core.proofs.PlaceLemmas.{StandAt, stand-append, stand-filter, all_stand}
 use Rattle.compile_core.proofs.TitleLemmas.{not_first}
 
@@ -137,15 +137,27 @@ all_same sets (p ∷ ps) ds kept stand =
       | Err f ↦ λ e. refl
     ] refl)
 
-kept_locals : (sets : Sets) (ss : List Statement) (before ds : List Declared) → IsKept sets before → in_turn declare before (locals ss) ≡ Ok ds → IsKept sets ds
+kept_forms : (sets : Sets) (fs : List Form) (before ds : List Declared) → IsKept sets before → in_turn evaluate before fs ≡ Ok ds → IsKept sets ds
 unfolding in_turn
-kept_locals sets [] before ds kept e =
+kept_forms sets [] before ds kept e =
     let is : before ≡ ds = cc in
     subst (IsKept sets) is kept
-kept_locals sets (statement.Collector c ∷ ss) before ds kept e = kept_locals sets ss before ds kept e
-kept_locals sets (statement.Notify n ∷ ss) before ds kept e =
-    elim (declare before (local n)) as (λ r. declare before (local n) ≡ r → and_then r (λ more. in_turn declare more (locals ss)) ≡ Ok ds → IsKept sets ds) [
-      | Ok more ↦ λ is rest. kept_locals sets ss more ds (kept_new sets before more (local n) (declared_as n.title before) kept tt refl is) rest
+kept_forms sets (form.NotBuilt line ∷ fs) before ds kept e = absurd cc
+kept_forms sets (form.Collector c ∷ fs) before ds kept e = kept_forms sets fs before ds kept e
+kept_forms sets (form.Notify n ∷ fs) before ds kept e =
+    elim (declare before (local n)) as (λ r. declare before (local n) ≡ r → and_then r (λ more. in_turn evaluate more fs) ≡ Ok ds → IsKept sets ds) [
+      | Ok more ↦ λ is rest. kept_forms sets fs more ds (kept_new sets before more (local n) (declared_as n.title before) kept tt refl is) rest
+      | Err f ↦ λ is rest. absurd cc
+    ] refl e
+
+passed : (node : Option ℕ) (more ds : List Declared) → without_nodes node more ≡ Ok ds → more ≡ ds
+passed None more ds e = cc
+passed (Some line) more ds e = absurd cc
+
+kept_locals : (sets : Sets) (fs : List Form) (node : Option ℕ) (ds : List Declared) → locals fs node ≡ Ok ds → IsKept sets ds
+kept_locals sets fs node ds e =
+    elim (in_turn evaluate [] fs) as (λ r. in_turn evaluate [] fs ≡ r → and_then r (without_nodes node) ≡ Ok ds → IsKept sets ds) [
+      | Ok more ↦ λ is rest. subst (IsKept sets) (passed node more ds rest) (kept_forms sets fs [] more (record { distinct = tt; stand = tt }) is)
       | Err f ↦ λ is rest. absurd cc
     ] refl e
 
@@ -156,7 +168,6 @@ found_stand sets node (c ∷ cs) =
     (found_stand sets node cs)
 
 -- behind the declarations of a manifest the imports are the same
-pub by_title : (sets : Sets) (node : List ℕ) (ss : List Statement) (cs : List Collector) (ds : List Declared) → in_turn declare [] (locals ss) ≡ Ok ds →
+pub by_title : (sets : Sets) (node : List ℕ) (fs : List Form) (first : Option ℕ) (cs : List Collector) (ds : List Declared) → locals fs first ≡ Ok ds →
     in_turn import_one ds (all_found sets node cs) ≡ in_turn import_by_title ds (all_found sets node cs)
-by_title sets node ss cs ds declared =
-    all_same sets (all_found sets node cs) ds (kept_locals sets ss [] ds (record { distinct = tt; stand = tt }) declared) (found_stand sets node cs)
+by_title sets node fs first cs ds declared = all_same sets (all_found sets node cs) ds (kept_locals sets fs first ds declared) (found_stand sets node cs)

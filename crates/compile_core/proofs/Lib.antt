@@ -1,6 +1,8 @@
 mod Examples
+mod FormExamples
 pub mod ImportLaws
 pub mod Lists
+pub mod Nodes
 pub mod RoundLaws
 pub mod PlaceLemmas
 pub mod Statements

@@ -11,14 +11,14 @@ use Rattle.std.specs.List.{slice_get, cons_option}
 use Rattle.res_core.specs.Rising.{text_cmp}
 use Rattle.res_core.specs.declared.exported.Exported.{Exported}
 use Rattle.res_core.specs.declared.export_set.ExportSet.{ExportSet}
-use Rattle.pp_parser.specs.declared.tree.Collector.{Collector}
+use Rattle.compile_core.specs.declared.form.Collector.{Collector}
 use Rattle.export_store.specs.declared.export_place.ExportPlace.{ExportPlace}
 use Rattle.export_store.specs.ExportQueries.{Placed, placed, all_placed, exports_of, is_found, places_of, found}
 use Rattle.export_store.specs.Rows.{Entry}
 use Rattle.export_store.specs.Sets.{Sets}
 use Rattle.compile_core.specs.Declarations.{kind}
 use Rattle.compile_core.specs.Imports.{found_by}
-use Rattle.compile_core.specs.Places.{placed_at, all_placed_at}
+use Rattle.compile_core.specs.ImportPlaces.{placed_at, all_placed_at}
 
 -- each of these stands at its place
 abbrev pub StandAt : Sets → List Placed → Type 0

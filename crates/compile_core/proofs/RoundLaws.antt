@@ -5,7 +5,7 @@ use Rattle.std.proofs.lemmas.List.Folds.{list_any-append}
 use Rattle.std.proofs.lemmas.Slice.Eq.{bytes_eq-Decides}
 use Rattle.export_store.specs.declared.export_place.ExportPlace.{ExportPlace}
 use Rattle.export_store.specs.ExportQueries.{Placed}
-use Rattle.compile_core.specs.Declarations.{Declared, imported, declared_as, with_new, and_then, in_turn, declare, locals, collectors}
+use Rattle.compile_core.specs.Declarations.{Declared, imported, declared_as, with_new, and_then, in_turn, locals, collectors}
 use Rattle.compile_core.specs.Imports.{same_place, is_import_of, is_imported, unknown_name, import_new, import_one, all_found}
 use Rattle.compile_core.specs.Laws.{OneRoundIsEnough}
 
@@ -78,9 +78,9 @@ nothing_new (p ∷ ps) ds h =
     ap (λ b. and_then (if b then Ok ds else import_new (unknown_name p.1.item.attributes) ds p) (λ now. in_turn import_one now ps)) h.0 ∙ nothing_new ps ds h.1
 
 pub one_round : OneRoundIsEnough
-one_round node ss sets ds e =
-    let found = all_found sets node (collectors ss) in
-    elim (in_turn declare [] (locals ss)) as (λ r. and_then r (λ now. in_turn import_one now found) ≡ Ok ds → in_turn import_one ds found ≡ Ok ds) [
+one_round node fs first sets ds e =
+    let found = all_found sets node (collectors fs) in
+    elim (locals fs first) as (λ r. and_then r (λ now. in_turn import_one now found) ≡ Ok ds → in_turn import_one ds found ≡ Ok ds) [
       | Ok now ↦ λ is. nothing_new found ds (all_there found now ds is)
       | Err f ↦ λ is. absurd cc
     ] e

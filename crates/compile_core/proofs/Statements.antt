@@ -1,28 +1,15 @@
--- Statements, one after another.
-use Rattle.std.proofs.Common.{◌≡◌, ℕ, suc, ◌+◌, ◌<◌, ◌≤◌, List, [], ◌∷◌, ◌++◌, length, get_or, drop, refl, sym, ap, ◌∙◌, add-one, drop-cons}
+-- What is left of a list, and of what the collectors behind it find.
+use Rattle.std.proofs.Common.{◌≡◌, ℕ, suc, ◌+◌, ◌<◌, ◌≤◌, List, [], ◌∷◌, ◌++◌, length, get_or, drop, sym, ap, add-one, drop-cons}
 use Rattle.std.proofs.Math.ListN.{drop_of_length-le}
 use denote.Ref.{Bor}
-use Rattle.pp_parser.specs.declared.tree.Collector.{Collector}
-use Rattle.pp_parser.specs.declared.tree.Statement.{Statement}
-use Rattle.pp_parser.specs.declared.tree.Statement.TheVariants as statement
+use Rattle.compile_core.specs.declared.form.Collector.{Collector}
 use Rattle.export_store.specs.Sets.{Sets}
-use Rattle.compile_core.specs.Declarations.{locals}
 use Rattle.compile_core.specs.DeclarationViews.{collectors_at}
 use Rattle.compile_core.specs.Imports.{found_by, all_found}
 
 -- an element, and those behind it
 pub at_front : {X : Type 0} (xs : List X) (i : ℕ) (x : X) → i < length xs → x ≡ get_or xs i x → drop i xs ≡ x ∷ drop (i + 1) xs
 at_front xs i x low is = rw (add-one, drop-cons xs i x) (ap (λ y. y ∷ drop (suc i) xs) (sym is))
-
-locals-cons : (s : Statement) (ss : List Statement) → locals (s ∷ ss) ≡ locals (s ∷ []) ++ locals ss
-locals-cons (statement.Notify n) ss = refl
-locals-cons (statement.Collector c) ss = refl
-
-pub locals_at : (ss : List Statement) (i : ℕ) (s : Statement) → i < length ss → s ≡ get_or ss i s → locals (drop i ss) ≡ locals (s ∷ []) ++ locals (drop (i + 1) ss)
-locals_at ss i s low is = ap locals (at_front ss i s low is) ∙ locals-cons s (drop (i + 1) ss)
-
-pub locals_end : (ss : List Statement) (i : ℕ) → length ss ≤ i → locals (drop i ss) ≡ []
-locals_end ss i high = ap locals (drop_of_length-le ss high)
 
 pub found_from : (sets : Sets) (node : List ℕ) (cs : List (Bor Collector)) (i : ℕ) (c : Bor Collector) → i < length cs → c ≡ get_or cs i c →
     all_found sets node (collectors_at (drop i cs)) ≡ found_by sets node c.now ++ all_found sets node (collectors_at (drop (i + 1) cs))

@@ -1,6 +1,6 @@
 -- What the declarations of the code say.
 use Rattle.std.specs.Prelude.{List, map}
-use Rattle.pp_parser.specs.declared.tree.Collector.{Collector}
+use Rattle.compile_core.specs.declared.form.Collector.{Collector}
 use Rattle.compile_core.specs.declared.declaration.Declaration.{Declaration}
 use Rattle.compile_core.specs.declared.declaration.Declaration.TheVariants as v
 use Rattle.compile_core.specs.Declarations.{Declared, local, imported}

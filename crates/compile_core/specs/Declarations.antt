@@ -5,11 +5,12 @@ use Rattle.pp_values.specs.declared.fault.Fault.{Fault}
 use Rattle.pp_values.specs.declared.fault.What.TheVariants.{Duplicate}
 use Rattle.pp_values.specs.declared.place.Place.{Place}
 use Rattle.pp_values.specs.declared.reference.Reference.{Reference}
-use Rattle.pp_parser.specs.declared.tree.Notify.{Notify}
-use Rattle.pp_parser.specs.declared.tree.Collector.{Collector}
-use Rattle.pp_parser.specs.declared.tree.Statement.{Statement}
-use Rattle.pp_parser.specs.declared.tree.Statement.TheVariants as statement
+use Rattle.compile_core.specs.declared.form.Notify.{Notify}
+use Rattle.compile_core.specs.declared.form.Collector.{Collector}
+use Rattle.compile_core.specs.declared.form.Form.{Form}
+use Rattle.compile_core.specs.declared.form.Form.TheVariants as form
 use Rattle.export_store.specs.ExportQueries.{Placed}
+use Rattle.compile_core.specs.Places.{not_built}
 
 pub data Declared : Type 0 where
   -- by a statement of the main manifest
@@ -64,15 +65,25 @@ unfoldable pub in_turn : {T : Type 0} → (List Declared → T → Result (List 
 in_turn step ds [] = Ok ds
 in_turn step ds (x ∷ xs) = and_then (step ds x) (λ more. in_turn step more xs)
 
--- ---- what the statements say
+-- ---- what the main manifest says
 
--- the resources that the main manifest declares, in its order
-abbrev pub locals : List Statement → List Declared
-locals [] = []
-locals (statement.Notify n ∷ ss) = local n ∷ locals ss
-locals (statement.Collector c ∷ ss) = locals ss
+-- A statement that is not evaluated yet is F31 at its turn. Collectors are evaluated later.
+abbrev pub evaluate : List Declared → Form → Result (List Declared) Fault
+evaluate ds (form.Notify n) = declare ds (local n)
+evaluate ds (form.Collector c) = Ok ds
+evaluate ds (form.NotBuilt line) = Err (not_built line)
 
-abbrev pub collectors : List Statement → List Collector
+-- no node definition is evaluated yet: F31 at the line of the first, where there is one
+abbrev pub without_nodes : Option ℕ → List Declared → Result (List Declared) Fault
+without_nodes None ds = Ok ds
+without_nodes (Some line) ds = Err (not_built line)
+
+-- the statements in their order, and then the first node definition
+abbrev pub locals : List Form → Option ℕ → Result (List Declared) Fault
+locals fs node = and_then (in_turn evaluate [] fs) (without_nodes node)
+
+abbrev pub collectors : List Form → List Collector
 collectors [] = []
-collectors (statement.Notify n ∷ ss) = collectors ss
-collectors (statement.Collector c ∷ ss) = c ∷ collectors ss
+collectors (form.Notify n ∷ fs) = collectors fs
+collectors (form.Collector c ∷ fs) = c ∷ collectors fs
+collectors (form.NotBuilt line ∷ fs) = collectors fs

@@ -4,7 +4,7 @@ use Rattle.std.proofs.Common.{inl, inr}
 use Rattle.std.specs.Coded.{Coded, code_by, coded×, coded⊎, coded_ℕ, coded_bool, coded_list, coded_option}
 use Rattle.pp_values.specs.Codes.{coded_text}
 use Rattle.pp_values.specs.declared.place.Place.{Place}
-use Rattle.pp_parser.specs.declared.tree.Notify.{Notify}
+use Rattle.compile_core.specs.declared.form.Notify.{Notify}
 use Rattle.res_core.specs.ExportedCodes.{coded_place, coded_exported}
 use Rattle.export_store.specs.ExportQueries.{Placed}
 use Rattle.compile_core.specs.Declarations.{Declared, local, imported}

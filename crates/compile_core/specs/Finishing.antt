@@ -2,8 +2,8 @@
 use Rattle.std.specs.Prelude.{ℕ, Bool, true, false, not, ◌||◌, List, [], ◌∷◌, map, filter, Option, None, Some, codes}
 use Rattle.std.specs.List.{list_any}
 use Rattle.pp_values.specs.Datum.{text}
-use Rattle.pp_parser.specs.declared.tree.Notify.{Notify}
-use Rattle.pp_parser.specs.declared.tree.Collector.{Collector}
+use Rattle.compile_core.specs.declared.form.Notify.{Notify}
+use Rattle.compile_core.specs.declared.form.Collector.{Collector}
 use Rattle.res_core.specs.Settings.{Setting}
 use Rattle.res_core.specs.TagNames.{tags}
 use Rattle.res_core.specs.declared.resource.Resource.{Resource}

@@ -4,7 +4,7 @@ use Rattle.std.specs.List.{flat_map, list_any}
 use Rattle.std.specs.Str.{bytes_eq}
 use Rattle.pp_values.specs.declared.fault.Fault.{Fault}
 use Rattle.pp_values.specs.declared.fault.What.TheVariants.{UnknownParameter}
-use Rattle.pp_parser.specs.declared.tree.Collector.{Collector}
+use Rattle.compile_core.specs.declared.form.Collector.{Collector}
 use Rattle.res_core.specs.declared.exported.Exported.{Exported}
 use Rattle.res_core.specs.Settings.{Setting, setting_names}
 use Rattle.export_store.specs.declared.export_place.ExportPlace.{ExportPlace}

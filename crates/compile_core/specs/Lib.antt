@@ -1,9 +1,15 @@
+pub mod Collectors
 pub mod Declarations
 pub mod DeclarationViews
 pub mod DeclaredCodes
 pub mod Finishing
+pub mod Forms
+pub mod ImportPlaces
 pub mod Imports
 pub mod Laws
+pub mod Layers
 pub mod Meaning
+pub mod Notifies
+pub mod Parts
 pub mod Places
 pub mod Titles

@@ -1,29 +1,16 @@
--- Exported resources at places of the sets, and imports that are told by their titles: what the functions within speak of.
-use Rattle.std.specs.Prelude.{Bool, false, if◌then◌else◌, List, Option, None, Some, Result, Ok, option_and_then, option_map, slice_get}
-use Rattle.std.specs.FinMap.{get}
-use Rattle.std.specs.List.{filter_map}
-use Rattle.res_core.specs.declared.exported.Exported.{Exported}
-use Rattle.export_store.specs.declared.export_place.ExportPlace.{ExportPlace}
-use Rattle.export_store.specs.ExportQueries.{Placed}
-use Rattle.export_store.specs.Sets.{Sets}
+-- Places of the main manifest.
+use Rattle.std.specs.Prelude.{ℕ, List, codes}
 use Rattle.pp_values.specs.declared.fault.Fault.{Fault}
-use Rattle.compile_core.specs.Declarations.{Declared, declared_as}
-use Rattle.compile_core.specs.Imports.{is_import_of, unknown_name, import_new}
+use Rattle.pp_values.specs.declared.fault.What.TheVariants.{NotBuilt}
+use Rattle.pp_values.specs.declared.place.Place.{Place}
 
-abbrev pub exported_at : Sets → ExportPlace → Option Exported
-exported_at sets p = option_and_then (λ s. slice_get s.items p.place) (get sets p.node)
+-- where the main manifest stands in a site
+abbrev pub main_manifest : List ℕ
+main_manifest = codes "manifests/site.pp"
 
-abbrev pub placed_at : Sets → ExportPlace → Option Placed
-placed_at sets p = option_map (λ e. (p, e)) (exported_at sets p)
+abbrev pub main_place : ℕ → Place
+main_place line = record { file = main_manifest; line = line }
 
-abbrev pub all_placed_at : Sets → List ExportPlace → List Placed
-all_placed_at sets = filter_map (placed_at sets)
-
--- the declaration that has the title is the import of the resource at this place
-abbrev pub is_own_import : ExportPlace → Option Declared → Bool
-is_own_import place None = false
-is_own_import place (Some d) = is_import_of place d
-
--- a resource that was imported already has declared its own title
-abbrev pub import_by_title : List Declared → Placed → Result (List Declared) Fault
-import_by_title ds p = if is_own_import p.0 (declared_as p.1.item.title ds) then Ok ds else import_new (unknown_name p.1.item.attributes) ds p
+-- F31 at a line of the main manifest: what stands there is not evaluated yet
+abbrev pub not_built : ℕ → Fault
+not_built line = record { at = main_place line; what = NotBuilt }

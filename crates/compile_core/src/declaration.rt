@@ -1,8 +1,8 @@
 ghost use Rattle.std.specs.Prelude.{◌≡◌};
 ghost use Rattle.compile_core.specs.Declarations.{title_of, place_of};
 
+use crate::form::Notify;
 use export_store::export_place::ExportPlace;
-use pp_parser::tree::Notify;
 use pp_values::place::Place;
 use pp_values::text::Text;
 use res_core::exported::Exported;

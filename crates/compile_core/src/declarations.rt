@@ -1,10 +1,11 @@
 ghost use Rattle.std.specs.Prelude.{◌≡◌, [], ◌∷◌, ◌++◌, None, IfOk, option_copied, option_map};
-ghost use Rattle.compile_core.specs.Declarations.{title_of, declared_as, declare, duplicate as duplicate_of, in_turn, locals};
+ghost use Rattle.compile_core.specs.Declarations.{title_of, declared_as, declare, duplicate as duplicate_of, in_turn, evaluate};
 ghost use Rattle.compile_core.specs.DeclarationViews.{seen, all_seen};
 ghost use Rattle.compile_core.specs.Meaning.{Answers};
 
 use crate::declaration::Declaration;
-use pp_parser::tree::Statement;
+use crate::form::Form;
+use crate::places::not_built;
 use pp_values::fault::{Fault, Stop, What};
 use pp_values::memory::Memory;
 use pp_values::reference::Reference;
@@ -106,29 +107,27 @@ fn duplicate(
     })
 }
 
-/// The resources that the statements declare.
-pub fn declare_locals<'a>(
-    alloc: Global,
-    statements: &'a [Statement],
-) -> Result<Declarations<'a>, Stop>
-    ensures { Answers result (in_turn declare [] (locals statements.now)) }
+/// The resources that the statements declare, or the first fault.
+pub fn declare_locals<'a>(alloc: Global, forms: &'a [Form]) -> Result<Declarations<'a>, Stop>
+    ensures { Answers result (in_turn evaluate [] forms.now) }
 {
     let mut declarations = Declarations::new(alloc);
-    for statement in statements {
-        declarations = declare_if_local(alloc, declarations, statement)?;
+    for form in forms {
+        declarations = evaluate(alloc, declarations, form)?;
     }
     Ok(declarations)
 }
 
-fn declare_if_local<'a>(
+fn evaluate<'a>(
     alloc: Global,
     declarations: Declarations<'a>,
-    statement: &'a Statement,
+    form: &'a Form,
 ) -> Result<Declarations<'a>, Stop>
-    ensures { Answers result (in_turn declare declarations.entry (locals (statement.now ∷ []))) }
+    ensures { Answers result (evaluate declarations.entry form.now) }
 {
-    match statement {
-        Statement::Notify(notify) => declarations.declare(alloc, Declaration::Local(notify)),
-        Statement::Collector(_) => Ok(declarations),
+    match form {
+        Form::Notify(notify) => declarations.declare(alloc, Declaration::Local(notify)),
+        Form::Collector(_) => Ok(declarations),
+        Form::NotBuilt(line) => Err(Stop::Fault(not_built(alloc, *line)?)),
     }
 }

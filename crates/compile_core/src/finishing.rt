@@ -10,7 +10,7 @@ ghost use Rattle.compile_core.specs.DeclarationViews.{seen, all_seen, collectors
 ghost use Rattle.compile_core.specs.Finishing.{main_tags as tags_of_main, main_class as class_main, given_tags as tags_given, message_settings, notify_resource as resource_of_notify, resource_of, is_collected as is_collected_by, listed, catalog_of as catalog_meant, exported as exported_resource, exported_of, exports_of as exports_meant};
 
 use crate::declaration::Declaration;
-use pp_parser::tree::{Collector, Notify};
+use crate::form::{Collector, Notify};
 use pp_values::memory::Memory;
 use pp_values::text::Text;
 use pp_values::texts::Texts;

@@ -4,14 +4,14 @@ ghost use Rattle.res_core.specs.AttributeViews.{settings};
 ghost use Rattle.compile_core.specs.Declarations.{in_turn};
 ghost use Rattle.compile_core.specs.DeclarationViews.{seen, collectors_at};
 ghost use Rattle.compile_core.specs.Imports.{all_found, found_by, unknown_name as name_unknown, unknown_parameter as parameter_unknown};
-ghost use Rattle.compile_core.specs.Places.{exported_at as at_place, all_placed_at, is_own_import as own_import, import_by_title};
+ghost use Rattle.compile_core.specs.ImportPlaces.{exported_at as at_place, all_placed_at, is_own_import as own_import, import_by_title};
 ghost use Rattle.compile_core.specs.Meaning.{Answers};
 
 use crate::declaration::Declaration;
 use crate::declarations::Declarations;
+use crate::form::Collector;
 use export_store::export_place::ExportPlace;
 use export_store::version::Version;
-use pp_parser::tree::Collector;
 use pp_values::fault::{Fault, Stop, What};
 use pp_values::memory::Memory;
 use pp_values::reference::Reference;

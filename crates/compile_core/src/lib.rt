@@ -1,12 +1,16 @@
 //! What a manifest means: the catalog of a node and what it exports, or the first fault.
 #![tactic(auto)]
 
+mod collectors;
 pub mod compiling;
 mod declaration;
 mod declarations;
 mod finishing;
+pub mod form;
+pub mod forms;
 mod importing;
 pub mod language;
 pub mod laws;
-#[cfg(test)]
-mod tests;
+mod notifies;
+mod parts;
+pub mod places;

@@ -7,6 +7,4 @@ pub mod laws;
 mod queries;
 mod row;
 mod rows;
-#[cfg(test)]
-mod tests;
 pub mod version;

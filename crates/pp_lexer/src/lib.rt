@@ -10,8 +10,6 @@ mod marks;
 mod mode;
 mod numbers;
 pub mod scan;
-#[cfg(test)]
-mod tests;
 mod texts;
 pub mod token;
 pub mod tokens;

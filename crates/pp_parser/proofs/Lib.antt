@@ -1,11 +1,4 @@
-pub mod Attributes
-pub mod Complete
-mod Examples
-pub mod Faults
-pub mod FileLaws
-pub mod LexLemmas
-pub mod Lines
-pub mod QuotedLemmas
-pub mod Reading
-pub mod Sound
+pub mod Behind
+pub mod Doubled
+pub mod Loops
 pub mod Turns

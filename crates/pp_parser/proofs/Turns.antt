@@ -1,85 +1,58 @@
--- The turns of the loops that read statements and attributes.
-use Rattle.std.proofs.Common.{◌≡◌, ℕ, ◌<◌, Bool, true, false, cond, List, [], ◌∷◌, ◌++◌, length, Option, Some, None, Result, Ok, Err, refl, sym, ◌∙◌, arith, rules}
-use Rattle.pp_parser.specs.declared.refusal.Spot.{Spot}
-use Rattle.pp_parser.specs.declared.refusal.Spot.TheVariants as spots
-use Rattle.pp_parser.specs.declared.tree.Statement.{Statement}
-use Rattle.pp_parser.specs.Manifest.{Position, between, parted, valued, collecting, limited, Move, to, closes, advance, advance_one, finish, refused, step, statements_from, statement_from}
-use Rattle.pp_parser.specs.Statements.{statement}
-use Rattle.pp_parser.specs.Steps.{Outcome}
-use Rattle.pp_parser.specs.Tokens.{Lexeme}
-use Rattle.pp_parser.proofs.Reading.{statement_steps}
+-- Levels and lists, as the program counts them.
+use Rattle.std.proofs.Common.{◌≡◌, ℕ, zero, suc, ◌+◌, ◌-◌, ◌<◌, ◌≤◌, Bool, true, false, if◌then◌else◌, nat_eq, List, [], ◌∷◌, ◌++◌, Option, Ok, Err, refl, sym, ap, ◌∙◌, arith}
+use Rattle.std.proofs.Math.Dec.{eqb-suc-zero}
+use Rattle.pp_lexer.specs.declared.kind.Kind.{Kind}
+use Rattle.pp_parser.specs.declared.goal.Goal.{Goal}
+use Rattle.pp_parser.specs.Input.{Input, Parser, and_then, ◌>>=◌, pure, kind, eat, refusal, more_or_done, repeat_from, separated_from}
+use Rattle.pp_parser.specs.Levels.{within, part_by}
 
--- the outcome of the steps, and then of what reads on from there
-abbrev pub followed : {A B : Type 0} → Outcome A → (A → List Lexeme → Result B Spot) → Result B Spot
-followed (Ok p) f = f p.0 p.1
-followed (Err e) f = Err e
+-- ---- levels
 
--- a position within a statement
-abbrev is_inside : Position → Bool
-is_inside between = false
-is_inside _ = true
+pub deepest_is : (levels : ℕ) → (within levels).is_deepest ≡ nat_eq levels 0
+unfolding within
+deepest_is zero = refl
+deepest_is (suc n) = sym (eqb-suc-zero n)
 
--- it does not leave a statement without closing it
-data Stays : Option Move → Type 0 where
-  goes : (p : Position) → is_inside p ≡ true → Stays (Some (to p))
-  closed : (s : Statement) → Stays (Some (closes s))
-  nowhere : Stays None
+pub read_none : (levels : ℕ) (goal : Goal) (i : Input) → levels ≡ 0 → (within levels).read goal i ≡ Err (refusal i)
+unfolding within
+read_none zero goal i e = refl
+read_none (suc n) goal i e = absurd (omega arith)
 
-if_so : (b : Bool) (m n : Option Move) → Stays m → Stays n → Stays (cond b m n)
-if_so true m n one other = one
-if_so false m n one other = other
+pub read_within : (levels : ℕ) (goal : Goal) (i : Input) → 0 < levels → (within levels).read goal i ≡ part_by (within (levels - 1)) goal i
+unfolding within
+read_within zero goal i some = absurd (omega arith)
+read_within (suc n) goal i some = let e : suc n - 1 ≡ n = omega arith in rw e refl
 
-module _ (path : List ℕ) where
-  steps_stay : (p : Position) (t : Lexeme) → Stays (step path p t)
-  unfolding step
-  steps_stay between t = search (rules, if_so, goes, nowhere)
-  steps_stay (parted n) t = search (rules, if_so, goes, closed, nowhere)
-  steps_stay (valued n) t = search (rules, if_so, goes, closed, nowhere)
-  steps_stay (collecting type) t = search (rules, if_so, goes, closed, nowhere)
-  steps_stay (limited type tag) t = search (rules, if_so, closed, nowhere)
-  steps_stay _ t = search (rules, if_so, goes, nowhere)
+-- ---- lists
 
-  finish_inside : (p : Position) (found : List Statement) → is_inside p ≡ true → finish p found ≡ Err spots.End
-  finish_inside between found inside = absurd (cc)
-  finish_inside _ found inside = refl
+pub one_more : {X : Type 0} (f : ℕ → X) (n at : ℕ) → at < n → f (n - at) ≡ f (suc (n - (at + 1)))
+one_more f n at below = let turn : n - at ≡ suc (n - (at + 1)) = omega arith in ap f turn
 
-  -- the file behind a statement
-  abbrev behind : List Statement → Statement → List Lexeme → Result (List Statement) Spot
-  behind found s ts = statements_from path ts (found ++ s ∷ []) between
+pub no_more : {X : Type 0} (f : ℕ → X) (n at : ℕ) → n ≤ at → f (n - at) ≡ f 0
+no_more f n at done = let none : n - at ≡ 0 = omega arith in ap f none
 
-  by_move : (m : Option Move) (ts : List Lexeme) (found : List Statement) (spot : Spot) → ((p : Position) → is_inside p ≡ true → statements_from path ts found p ≡ followed (statement_from path ts p) (behind found)) → Stays m → advance (statements_from path ts) found m spot ≡ followed (advance_one (statement_from path ts) ts m spot) (behind found)
-  by_move _ ts found spot further (goes p inside) = further p inside
-  by_move _ ts found spot further (closed s) = refl
-  by_move _ ts found spot further nowhere = refl
+pub either : {A : Type 0} (b : Bool) (p q : Parser A) (i : Input) → (if b then p else q) i ≡ (if b then p i else q i)
+either true p q i = refl
+either false p q i = refl
 
-  -- a file goes on as the statement in it does
-  reads_on : (ts : List Lexeme) (found : List Statement) (p : Position) → is_inside p ≡ true → statements_from path ts found p ≡ followed (statement_from path ts p) (behind found)
-  unfolding statements_from statement_from
-  reads_on [] found p inside = finish_inside p found inside
-  reads_on (t ∷ ts) found p inside = by_move (step path p t) ts found (refused p t) (λ p inside. reads_on ts found p inside) (steps_stay p t)
+module _ {A : Type 0} (step : Parser (Option A)) where
+  pub repeat_turn : (n at : ℕ) (found : List A) (i : Input) → at < n
+      → repeat_from step (n - at) found i ≡ and_then (step i) (more_or_done found (repeat_from step (n - (at + 1))))
+  unfolding repeat_from
+  repeat_turn n at found i below = one_more (λ m. repeat_from step m found i) n at below
 
-  -- a file that is not empty begins with a statement, or is refused as one is
-  pub begins : (t : Lexeme) (ts : List Lexeme) (found : List Statement) → statements_from path (t ∷ ts) found between ≡ followed (statement_from path (t ∷ ts) between) (behind found)
-  unfolding statements_from statement_from
-  begins t ts found = by_move (step path between t) ts found (refused between t) (λ p inside. reads_on ts found p inside) (steps_stay between t)
+  pub repeat_none : (n at : ℕ) (found : List A) (i : Input) → n ≤ at → repeat_from step (n - at) found i ≡ Err (refusal i)
+  unfolding repeat_from
+  repeat_none n at found i done = no_more (λ m. repeat_from step m found i) n at done
 
-  -- the file behind a statement that was read
-  pub statement_read : (ts : List Lexeme) (found : List Statement) (s : Statement) (left : List Lexeme) → statement_from path ts between ≡ Ok (s, left) → statements_from path ts found between ≡ statements_from path left (found ++ s ∷ []) between
-  unfolding statement_from
-  statement_read [] found s left is = absurd (cc)
-  statement_read (t ∷ ts) found s left is = begins t ts found ∙ rw is refl
+module _ {A : Type 0} (ends : Option Kind → Bool) (separator : Kind) (item : Parser A) where
+  pub separated_turn : (n at : ℕ) (found : List A) (i : Input) → at < n
+      → separated_from ends separator item (n - at) found i
+      ≡ (if ends (kind i) then Ok (found, i) else and_then (item i) (λ x. eat separator >>= (λ more. if more then separated_from ends separator item (n - (at + 1)) (found ++ x ∷ []) else pure (found ++ x ∷ []))))
+  unfolding separated_from
+  separated_turn n at found i below =
+      one_more (λ m. separated_from ends separator item m found i) n at below ∙ either (ends (kind i)) (pure found) (item >>= (λ x. eat separator >>= (λ more. if more then separated_from ends separator item (n - (at + 1)) (found ++ x ∷ []) else pure (found ++ x ∷ [])))) i
 
-  -- a statement more
-  pub statement_more : (ts : List Lexeme) (found : List Statement) (s : Statement) (left : List Lexeme) → statement path ts ≡ Ok (s, left) → statements_from path left (found ++ s ∷ []) between ≡ statements_from path ts found between
-  statement_more ts found s left is = sym (statement_read ts found s left (statement_steps path ts ∙ is))
-
-  -- a fault in a statement
-  pub statement_fails : (ts : List Lexeme) (found : List Statement) (spot : Spot) → 0 < length ts → statement path ts ≡ Err spot → statements_from path ts found between ≡ Err spot
-  statement_fails [] found spot some is = absurd (omega arith)
-  statement_fails (t ∷ ts) found spot some is = begins t ts found ∙ rw (statement_steps path (t ∷ ts) ∙ is) refl
-
-  -- no token is left
-  pub statements_end : (ts : List Lexeme) (found : List Statement) → length ts ≡ 0 → statements_from path ts found between ≡ Ok found
-  unfolding statements_from
-  statements_end [] found none = refl
-  statements_end (t ∷ ts) found none = absurd (omega arith)
+  pub separated_none : (n at : ℕ) (found : List A) (i : Input) → n ≤ at → separated_from ends separator item (n - at) found i ≡ Err (refusal i)
+  unfolding separated_from
+  separated_none n at found i done = no_more (λ m. separated_from ends separator item m found i) n at done

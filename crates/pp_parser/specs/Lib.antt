@@ -1,7 +1,12 @@
-pub mod Grammar
-pub mod Laws
+pub mod Definitions
+pub mod Expressions
+pub mod Inner
+pub mod Input
+pub mod Keys
+pub mod Kinds
+pub mod Layers
+pub mod Levels
 pub mod Manifest
-pub mod Pieces
+pub mod Nests
+pub mod Params
 pub mod Statements
-pub mod Steps
-pub mod Tokens

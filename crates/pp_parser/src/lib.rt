@@ -1,13 +1,30 @@
-//! Reads a manifest: its text as a tree of statements, or the place of its first syntax fault.
+//! The grammar of manifests.
 #![tactic(auto)]
 
-pub mod law;
-mod lexer;
+pub mod argument;
+pub mod attributes;
+pub mod brackets;
+pub mod calls;
+pub mod collectors;
+pub mod conditions;
+pub mod cursor;
+pub mod definitions;
+pub mod files;
+pub mod found;
+pub mod functions;
+pub mod goal;
+pub mod grammar;
+pub mod item;
+pub mod keys;
+pub mod kinds;
+pub mod levels;
 pub mod manifest;
-mod quoted;
-mod refusal;
-#[cfg(test)]
-mod tests;
-mod token;
-mod tokens;
-pub mod tree;
+pub mod operands;
+pub mod operators;
+pub mod params;
+pub mod postfixes;
+pub mod refusal;
+pub mod resources;
+pub mod started;
+pub mod statements;
+pub mod texts;

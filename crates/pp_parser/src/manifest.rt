@@ -1,203 +1,129 @@
-//! The grammar of a manifest.
+//! A manifest: its tree, or its first fault.
 
-ghost use Rattle.std.specs.Prelude.{ℕ, List, ◌≡◌, ◌+◌, ◌<◌, ◌^◌, length, IfOk, IfErr, OnOk};
-ghost use Rattle.pp_parser.specs.Laws.{IsTree, IsSyntaxStop};
+ghost use Rattle.pp_parser.specs.Input.{Reads};
+ghost use Rattle.pp_parser.specs.Keys.{earlier_line};
 ghost use Rattle.pp_parser.specs.Manifest as manifest;
-ghost use Rattle.pp_parser.specs.Statements as spec;
-ghost use Rattle.pp_parser.specs.Tokens.{end_line};
-ghost use Rattle.pp_parser.specs.Steps.{Gives, Reads};
+ghost use Rattle.std.specs.Prelude.{◌≡◌, ◌+◌, ◌<◌, ◌^◌, length, Err, Some};
 
-use crate::lexer::{end_line, lex};
-use crate::quoted::unescaped;
-use crate::refusal::{Refusal, Spot};
-use crate::token::Kind;
-use crate::tokens::Tokens;
-use crate::tree::{Collector, File, Notify, Statement, Statements};
+use crate::cursor::Cursor;
+use crate::found::Found;
+use crate::levels::{main_manifest, module_file};
+use crate::refusal::Refusal;
+use pp_lexer::scan::{end_line, scan};
+use pp_lexer::token::Token;
+use pp_tree::file::File;
+use pp_tree::table::{TableStop, table_of};
 use pp_values::fault::{Fault, Stop, What};
-use pp_values::memory::Memory;
 use pp_values::place::Place;
 use pp_values::text::Text;
 use std::alloc::Global;
 
-/// What a text behind the mark says.
-#[tactic(auto, unfolding(crate::specs::Statements::marked_text))]
-fn marked_text(alloc: Global, tokens: &mut Tokens<'_>, mark: Kind) -> Result<Text, Refusal>
-    ensures { Reads (spec.marked_text mark tokens.old) result tokens.new }
+/// What the file at this path says.
+#[tactic(auto, unfolding(crate::specs::Manifest::read_file))]
+fn read_file(alloc: Global, file: &Text, tokens: &mut Cursor<'_>) -> Result<Found, Refusal>
+    ensures { Reads (manifest.read_file file.now tokens.old) result tokens.new }
 {
-    tokens.expect(mark)?;
-    let token = tokens.text()?;
-    Ok(unescaped(alloc, token.text())?)
-}
-
-/// `"message" "=>" TEXT | "tag" "=>" TEXT`, where the resource has none yet
-#[tactic(auto, unfolding(crate::specs::Statements::attribute))]
-fn attribute(alloc: Global, tokens: &mut Tokens<'_>, mut notify: Notify) -> Result<Notify, Refusal>
-    ensures { Reads (spec.attribute notify tokens.old) result tokens.new }
-{
-    if tokens.sees(Kind::Message) && notify.message.is_none() {
-        tokens.skip();
-        notify.message = Some(marked_text(alloc, tokens, Kind::Arrow)?);
-    } else if tokens.sees(Kind::Tag) && notify.tag.is_none() {
-        tokens.skip();
-        notify.tag = Some(marked_text(alloc, tokens, Kind::Arrow)?);
+    if file.is("manifests/site.pp") {
+        main_manifest(alloc, tokens)
     } else {
-        return Err(Refusal::Syntax(tokens.spot()));
+        module_file(alloc, tokens)
     }
-    Ok(notify)
 }
 
-/// `attributes "}"`, where `attributes = [ attribute [ "," attributes ] ]`
-fn attributes(
-    alloc: Global,
-    tokens: &mut Tokens<'_>,
-    mut notify: Notify,
-) -> Result<Statement, Refusal>
-    ensures { (path : List ℕ) → Reads (spec.attributes path notify tokens.old) result tokens.new }
+/// The fault at a line of the file.
+fn stop_at(alloc: Global, file: &Text, what: What, line: u32) -> Stop
+    ensures { manifest.Parses (Err (manifest.fault_at file.now what line)) (Err result) }
 {
-    while !tokens.eat(Kind::CloseBrace) {
-        notify = attribute(alloc, tokens, notify)?;
-        if !tokens.eat(Kind::Comma) {
-            tokens.expect(Kind::CloseBrace)?;
-            return Ok(Statement::Notify(notify));
+    match file.copy(alloc) {
+        Ok(file) => Stop::Fault(Fault {
+            at: Place { file, line },
+            what,
+        }),
+        Err(_) => Stop::Memory,
+    }
+}
+
+/// The line of the first token, or of the end of the file.
+#[tactic(auto, unfolding(crate::specs::Manifest::line_from))]
+fn line_from(end: u32, tokens: &[Token]) -> u32
+    ensures { result ≡ manifest.line_from end tokens.now }
+{
+    match tokens {
+        [] => end,
+        [token, ..] => token.line,
+    }
+}
+
+/// The line of the place from which so many tokens are left; that of none is the end of the file.
+fn line_of(end: u32, tokens: &[Token], left: usize) -> u32
+    ensures { result ≡ manifest.line_of end tokens.now left }
+{
+    let at = tokens.len().saturating_sub(left);
+    line_from(end, &tokens[at..])
+}
+
+/// The fault of a text that has no tree.
+fn refused(alloc: Global, file: &Text, end: u32, tokens: &[Token], refusal: Refusal) -> Stop
+    ensures { manifest.Parses (manifest.file_from file.now end tokens.now (Err refusal)) (Err result) }
+{
+    match refusal {
+        Refusal::Wrong(left) => stop_at(alloc, file, What::Syntax, line_of(end, tokens, left)),
+        Refusal::Deep(left) => stop_at(alloc, file, What::DepthLimit, line_of(end, tokens, left)),
+        Refusal::Memory => Stop::Memory,
+    }
+}
+
+/// The earlier of two lines, where the first is one.
+#[tactic(auto, unfolding(crate::specs::Keys::earlier_line))]
+fn earlier(key: Option<u32>, name: u32) -> u32
+    ensures { earlier_line key (Some name) ≡ Some result }
+{
+    match key {
+        None => name,
+        Some(key) => key.min(name),
+    }
+}
+
+/// The tree of what was found, or its fault where a key stands twice or a name is defined twice.
+#[tactic(auto, unfolding(crate::specs::Manifest::file_with, crate::specs::Keys::earlier_line))]
+fn file_with(alloc: Global, file: &Text, found: Found, key: Option<u32>) -> Result<File, Stop>
+    ensures { manifest.Parses (manifest.file_with file.now found key) result }
+{
+    let Found {
+        statements,
+        definitions,
+    } = found;
+    match (table_of(alloc, definitions), key) {
+        (Ok(definitions), None) => Ok(File {
+            statements,
+            definitions,
+        }),
+        (Ok(_), Some(line)) => Err(stop_at(alloc, file, What::Syntax, line)),
+        (Err(TableStop::Doubled(line)), _) => {
+            Err(stop_at(alloc, file, What::Syntax, earlier(key, line)))
         }
-    }
-    Ok(Statement::Notify(notify))
-}
-
-fn place(alloc: Global, file: &Text, line: u32) -> Result<Place, Memory>
-    ensures { IfOk result (λ place. place ≡ record { file = file.now; line = line }) }
-{
-    let file = file.copy(alloc)?;
-    Ok(Place { file, line })
-}
-
-/// `"notify" "{" TITLE ":" attributes "}"`
-#[tactic(auto, unfolding(crate::specs::Statements::notify))]
-fn notify(
-    alloc: Global,
-    file: &Text,
-    tokens: &mut Tokens<'_>,
-    exported: bool,
-) -> Result<Statement, Refusal>
-    ensures { Reads (spec.notify file.now exported tokens.old) result tokens.new }
-{
-    tokens.expect(Kind::Notify)?;
-    tokens.expect(Kind::OpenBrace)?;
-    let title = tokens.title()?;
-    tokens.expect(Kind::Colon)?;
-    let notify = Notify {
-        exported,
-        title: unescaped(alloc, title.text())?,
-        message: None,
-        tag: None,
-        at: place(alloc, file, title.line())?,
-    };
-    attributes(alloc, tokens, notify)
-}
-
-/// `[ "tag" "==" TEXT ]`
-#[tactic(auto, unfolding(crate::specs::Statements::query))]
-fn query(alloc: Global, tokens: &mut Tokens<'_>) -> Result<Option<Text>, Refusal>
-    ensures { Reads (spec.query tokens.old) result tokens.new }
-{
-    if !tokens.eat(Kind::Tag) {
-        return Ok(None);
-    }
-    let tag = marked_text(alloc, tokens, Kind::DoubleEquals)?;
-    Ok(Some(tag))
-}
-
-/// `"Notify" "<<|" [ "tag" "==" TEXT ] "|>>"`
-#[tactic(auto, unfolding(crate::specs::Statements::collector))]
-fn collector(alloc: Global, file: &Text, tokens: &mut Tokens<'_>) -> Result<Statement, Refusal>
-    ensures { Reads (spec.collector file.now tokens.old) result tokens.new }
-{
-    let name = tokens.expect(Kind::NotifyType)?;
-    tokens.expect(Kind::OpenCollector)?;
-    let tag = query(alloc, tokens)?;
-    tokens.expect(Kind::CloseCollector)?;
-    let at = place(alloc, file, name.line())?;
-    Ok(Statement::Collector(Collector { tag, at }))
-}
-
-/// `[ "@@" ] notify | collector`
-#[tactic(auto, unfolding(crate::specs::Statements::statement))]
-fn statement(alloc: Global, file: &Text, tokens: &mut Tokens<'_>) -> Result<Statement, Refusal>
-    ensures { Reads (spec.statement file.now tokens.old) result tokens.new }
-{
-    if tokens.sees(Kind::DoubleAt) {
-        tokens.skip();
-        notify(alloc, file, tokens, true)
-    } else if tokens.sees(Kind::NotifyType) {
-        collector(alloc, file, tokens)
-    } else {
-        notify(alloc, file, tokens, false)
+        (Err(TableStop::Memory), _) => Err(Stop::Memory),
     }
 }
 
-/// The statements of a file.
-#[tactic(auto, using(crate::proofs::Turns::statement_more, crate::proofs::Turns::statement_fails, crate::proofs::Turns::statements_end, crate::proofs::Sound::statement_shorter), unfolding(crate::specs::Manifest::statements_of))]
-fn statements(alloc: Global, file: &Text, text: &str) -> Result<Statements, Refusal>
-    requires { length text.now + 1 < 2 ^ 32 }
-    ensures { Gives (manifest.statements_of file.now text.now) result }
-{
-    let tokens = lex(alloc, text)?;
-    let mut left = Tokens::new(tokens.as_slice());
-    let mut found = Statements::new(alloc);
-    while !left.is_empty() {
-        found.push(statement(alloc, file, &mut left)?)?;
-    }
-    Ok(found)
-}
-
-/// Reads the manifest at the path `file`: its tree, or F1 at the first token with which no text of the grammar goes on,
-/// or at the end of the file where the text ends too early.
+/// Reads the manifest at the path `file`: its tree, or its first fault.
 ///
-/// The grammar is
-///
-/// ```text
-/// file       = { statement }
-/// statement  = notify | collector
-/// notify     = [ "@@" ] "notify" "{" TITLE ":" attributes "}"
-/// attributes = [ attribute [ "," attributes ] ]
-/// attribute  = "message" "=>" TEXT | "tag" "=>" TEXT
-/// collector  = "Notify" "<<|" [ "tag" "==" TEXT ] "|>>"
-/// ```
-///
-/// where a TEXT is in single quotes, a TITLE is a TEXT that is not empty, and a resource has each of the two attributes
-/// at most once.
-#[tactic(auto, using(crate::proofs::FileLaws::is_tree, crate::proofs::FileLaws::is_syntax_fault), unfolding(crate::specs::Manifest::file_of))]
+/// The fault is the language's fault of syntax at the first token with which no text of the grammar goes on (at the end of
+/// the file, where the text ends too early), or at a key or a name that stands a second time. It is the limit of depth at a
+/// token that opens a level where 200 are open.
+#[tactic(auto, unfolding(crate::specs::Manifest::file_of))]
 pub fn parse(alloc: Global, file: &Text, text: &Text) -> Result<File, Stop>
     // Places count lines in 32 bits.
     requires { length text.now + 1 < 2 ^ 32 }
     // Exactly what the text means, unless memory ran out.
     ensures answer { manifest.Parses (manifest.file_of file.now text.now) result }
-    // A tree is one of the grammar, for the tokens of the text.
-    ensures tree { IfOk result (IsTree file.now text.now) }
-    // A fault is F1, at the first token with which no text of the grammar goes on or at the end of the file.
-    ensures fault { IfErr result (IsSyntaxStop file.now text.now) }
 {
-    let text = text.as_str();
-    match statements(alloc, file, text) {
-        Ok(statements) => Ok(File { statements }),
+    let tokens = scan(alloc, text.as_str())?;
+    let end = end_line(text.as_str());
+    let mut left = Cursor::new(tokens.as_slice());
+    match read_file(alloc, file, &mut left) {
+        Ok(found) => file_with(alloc, file, found, left.doubled()),
         Err(Refusal::Memory) => Err(Stop::Memory),
-        Err(Refusal::Syntax(spot)) => {
-            let at = Place {
-                file: file.copy(alloc)?,
-                line: line_of(text, spot),
-            };
-            let what = What::Syntax;
-            Err(Stop::Fault(Fault { at, what }))
-        },
-    }
-}
-
-fn line_of(text: &str, spot: Spot) -> u32
-    requires { length text.now + 1 < 2 ^ 32 }
-    ensures { result ≡ manifest.line_of (end_line text.now) spot }
-{
-    match spot {
-        Spot::Line(line) => line,
-        Spot::End => end_line(text),
+        Err(refusal) => Err(refused(alloc, file, end, tokens.as_slice(), refusal)),
     }
 }

@@ -1,49 +1,22 @@
 use pp_values::memory::Memory;
-use std::alloc::AllocError;
 
-/// Where a text leaves the grammar: on the line of a token, or at the end of the file.
-#[derive(Clone, Copy, Debug, PartialEq, Eq)]
-pub enum Spot {
-    Line(u32),
-    End,
-}
-
-/// Why a text gave no tree.
+/// Why a text has no tree. A place is told by the number of tokens from it on, so that 0 is the end of the file.
 #[derive(Clone, Copy, Debug, PartialEq, Eq)]
 pub enum Refusal {
-    Syntax(Spot),
+    /// No text of the grammar goes on with the token there.
+    Wrong(usize),
+    /// The token there opens a level too many.
+    Deep(usize),
     Memory,
-}
-
-impl From<Spot> for Refusal {
-    ghost use Rattle.std.specs.Prelude.{◌≡◌};
-    ghost use Rattle.pp_parser.specs.declared.refusal.Refusal.TheVariants as refusals;
-
-    ghost from_gives = { λ spot refusal. refusal ≡ refusals.Syntax spot };
-
-    fn from(spot: Spot) -> Refusal {
-        Refusal::Syntax(spot)
-    }
 }
 
 impl From<Memory> for Refusal {
     ghost use Rattle.std.specs.Prelude.{◌≡◌};
     ghost use Rattle.pp_parser.specs.declared.refusal.Refusal.TheVariants as refusals;
 
-    ghost from_gives = { λ _ refusal. refusal ≡ refusals.Memory };
+    ghost from_gives = { λ _ e. e ≡ refusals.Memory };
 
-    fn from(_refused: Memory) -> Refusal {
-        Refusal::Memory
-    }
-}
-
-impl From<AllocError> for Refusal {
-    ghost use Rattle.std.specs.Prelude.{◌≡◌};
-    ghost use Rattle.pp_parser.specs.declared.refusal.Refusal.TheVariants as refusals;
-
-    ghost from_gives = { λ _ refusal. refusal ≡ refusals.Memory };
-
-    fn from(_refused: AllocError) -> Refusal {
+    fn from(_memory: Memory) -> Refusal {
         Refusal::Memory
     }
 }

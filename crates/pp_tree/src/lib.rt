@@ -14,5 +14,3 @@ pub mod resource;
 pub mod rows;
 pub mod statement;
 pub mod table;
-#[cfg(test)]
-mod tests;

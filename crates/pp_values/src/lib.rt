@@ -18,8 +18,6 @@ pub mod printing;
 pub mod ptype;
 pub mod reference;
 pub mod refs;
-#[cfg(test)]
-mod tests;
 pub mod text;
 pub mod text_pairs;
 pub mod texts;

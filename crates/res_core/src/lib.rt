@@ -8,8 +8,6 @@ pub mod copying;
 pub mod edge;
 pub mod edges;
 pub mod export_set;
-#[cfg(test)]
-mod export_tests;
 pub mod exported;
 pub mod exports;
 pub mod held;
@@ -22,5 +20,3 @@ pub mod requests;
 pub mod resource;
 pub mod tagging;
 pub mod tags;
-#[cfg(test)]
-mod tests;

@@ -12,8 +12,4 @@ pub mod reading;
 mod refusing;
 mod requests;
 pub mod site;
-#[cfg(test)]
-mod site_tests;
 pub mod stop_lines;
-#[cfg(test)]
-mod tests;

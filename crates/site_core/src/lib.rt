@@ -12,5 +12,3 @@ pub mod laws;
 pub mod reply;
 pub mod snapshot;
 pub mod state;
-#[cfg(test)]
-mod tests;

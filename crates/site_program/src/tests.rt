@@ -91,6 +91,7 @@ fn reports_faults(rt: HostRuntime) -> Result<(), Fail> {
         ("notify { 'a'", "F1 manifests/site.pp:1 Syntax\n"),
         ("notify {\n'a\n\n", "F1 manifests/site.pp:4 Syntax\n"),
         ("\nnotify { 'a': \0}", "F1 manifests/site.pp:2 Syntax\n"),
+        ("$x = 1", "F31 manifests/site.pp:1 NotBuilt\n"),
         ("\u{feff}notify { 'a': }", "F1 manifests/site.pp:1 Syntax\n"),
         (
             "notify { 'a': }\n/* open\n",
@@ -101,6 +102,35 @@ fn reports_faults(rt: HostRuntime) -> Result<(), Fail> {
         assert_eq!(rt; run.status, 1, "{manifest:?}");
         assert!(rt; run.out.is_empty(), "{manifest:?}");
         assert_eq!(rt; run.err.as_slice(), line.as_bytes(), "{manifest:?}");
+    }
+    Ok(())
+}
+
+/// A message of so many lists within one another.
+fn nested_message(alloc: Global, lists: usize) -> Result<String, AllocError> {
+    let mut manifest = String::from_str(alloc, "notify { 'a': message => ")?;
+    for _ in 0..lists {
+        manifest.push_str("[")?;
+    }
+    for _ in 0..lists {
+        manifest.push_str("]")?;
+    }
+    manifest.push_str(" }")?;
+    Ok(manifest)
+}
+
+#[test]
+fn bounds_nesting(rt: HostRuntime) -> Result<(), Fail> {
+    let alloc = rt.alloc();
+    for (lists, line) in [
+        (199, "F31 manifests/site.pp:1 NotBuilt\n"),
+        (200, "F29 manifests/site.pp:1 DepthLimit\n"),
+    ] {
+        let manifest = nested_message(alloc, lists)?;
+        let run = run(alloc, &["manifest", "n"], manifest.as_bytes(), NONE)?;
+        assert_eq!(rt; run.status, 1, "{lists}");
+        assert!(rt; run.out.is_empty(), "{lists}");
+        assert_eq!(rt; run.err.as_slice(), line.as_bytes(), "{lists}");
     }
     Ok(())
 }

@@ -1,7 +1,7 @@
 -- To go on with the statements from the index on gives the whole.
 use Rattle.std.proofs.Common.{◌≡◌, [], drop}
-use Rattle.compile_core.specs.Declarations.{declare, in_turn, locals}
+use Rattle.compile_core.specs.Declarations.{evaluate, in_turn}
 use Rattle.compile_core.proofs.declarations.declare_locals.Given as goal
 
-abbrev pub invariant-loop-statement : goal.invariant-loop-statement
-invariant-loop-statement l = in_turn declare l.declarations (locals (drop l.statement-index l.statements)) ≡ in_turn declare [] (locals l.statements)
+abbrev pub invariant-loop-form : goal.invariant-loop-form
+invariant-loop-form l = in_turn evaluate l.declarations (drop l.form-index l.forms) ≡ in_turn evaluate [] l.forms

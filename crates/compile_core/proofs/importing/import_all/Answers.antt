@@ -1,7 +1,7 @@
 use Rattle.std.proofs.Common.{sym, ap, ◌∙◌}
 use Rattle.std.proofs.lemmas.Result.{err_from_is_err_and}
 use Rattle.compile_core.specs.Declarations.{in_turn}
-use Rattle.compile_core.specs.Places.{import_by_title}
+use Rattle.compile_core.specs.ImportPlaces.{import_by_title}
 use Rattle.compile_core.proofs.Statements.{found_from, found_end}
 use Rattle.compile_core.proofs.Turns.{goes_on, stops, none}
 use Rattle.compile_core.proofs.importing.import_all.Goals as goal

@@ -3,7 +3,7 @@ use Rattle.std.proofs.Common.{◌≡◌, drop}
 use Rattle.compile_core.specs.Declarations.{in_turn}
 use Rattle.compile_core.specs.DeclarationViews.{collectors_at}
 use Rattle.compile_core.specs.Imports.{all_found}
-use Rattle.compile_core.specs.Places.{import_by_title}
+use Rattle.compile_core.specs.ImportPlaces.{import_by_title}
 use Rattle.compile_core.proofs.importing.import_all.Given as goal
 
 abbrev pub invariant-loop-collector : goal.invariant-loop-collector

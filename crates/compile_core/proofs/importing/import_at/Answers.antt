@@ -2,7 +2,7 @@ use Rattle.std.proofs.Common.{◌≡◌, [], Ok, option_map, subst}
 use Rattle.std.specs.List.{cons_option}
 use Rattle.compile_core.specs.Declarations.{in_turn}
 use Rattle.compile_core.specs.Meaning.{Answers}
-use Rattle.compile_core.specs.Places.{import_by_title}
+use Rattle.compile_core.specs.ImportPlaces.{import_by_title}
 use Rattle.compile_core.proofs.Turns.{once, none}
 use Rattle.compile_core.proofs.importing.import_at.Goals as goal
 

@@ -1,7 +1,7 @@
 use Rattle.std.proofs.Common.{length, sym, ap, ◌∙◌, arith}
 use Rattle.std.proofs.lemmas.Result.{err_from_is_err_and}
 use Rattle.compile_core.specs.Declarations.{in_turn}
-use Rattle.compile_core.specs.Places.{all_placed_at, import_by_title}
+use Rattle.compile_core.specs.ImportPlaces.{all_placed_at, import_by_title}
 use Rattle.compile_core.proofs.Lists.{nothing_left}
 use Rattle.compile_core.proofs.PlaceLemmas.{at_places}
 use Rattle.compile_core.proofs.Turns.{goes_on, stops, none}

@@ -2,7 +2,7 @@
 use Rattle.std.proofs.Common.{◌≡◌, length}
 use Rattle.std.specs.Vec.Iter.{into_iter_items, into_iter_len}
 use Rattle.compile_core.specs.Declarations.{in_turn}
-use Rattle.compile_core.specs.Places.{all_placed_at, import_by_title}
+use Rattle.compile_core.specs.ImportPlaces.{all_placed_at, import_by_title}
 use Rattle.compile_core.proofs.importing.import_places.Given as goal
 
 abbrev pub invariant-loop-place : goal.invariant-loop-place

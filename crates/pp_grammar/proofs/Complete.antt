@@ -1,0 +1,15 @@
+pub mod Begins
+pub mod Definitions
+pub mod ExpressionFalls
+pub mod Expressions
+pub mod Files
+pub mod Lists
+pub mod Operands
+pub mod Parts
+pub mod Resources
+pub mod StatementFalls
+pub mod Statements
+pub mod Steps
+pub mod Wholes
+pub mod Words
+pub mod Within

@@ -1,0 +1,7 @@
+pub mod Complete
+mod Examples
+pub mod Joined
+pub mod Local
+pub mod Sound
+pub mod Ways
+pub mod Whole

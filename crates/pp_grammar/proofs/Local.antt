@@ -1,0 +1,9 @@
+pub mod Ahead
+pub mod Expressions
+pub mod Files
+pub mod Inner
+pub mod Laws
+pub mod Levels
+pub mod Lists
+pub mod Statements
+pub mod Steps

@@ -1,0 +1,9 @@
+pub mod Ends
+pub mod Expressions
+pub mod Files
+pub mod Inner
+pub mod Levels
+pub mod Lists
+pub mod Resources
+pub mod Statements
+pub mod Steps

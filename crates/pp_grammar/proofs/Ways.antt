@@ -1,0 +1,13 @@
+pub mod Ahead
+pub mod Steps
+pub mod Lists
+pub mod Inner
+pub mod Expressions
+pub mod Resources
+pub mod Statements
+pub mod Turns
+pub mod Blocks
+pub mod Fresh
+pub mod Levels
+pub mod Files
+pub mod Laws

@@ -1,0 +1,4 @@
+pub mod Faults
+pub mod Goes
+pub mod Reads
+pub mod Trees

@@ -1,9 +1,0 @@
-use Rattle.std.proofs.Common.{◌≡◌, ◌+◌, ◌≤◌, ◌++◌, length, IsUtf8}
-use Rattle.pp_parser.specs.Tokens.{tokens, tokens_from}
-use Rattle.pp_parser.proofs.lexer.lex.Given as goal
-
-abbrev pub invariant-loop-rest : goal.invariant-loop-rest
-invariant-loop-rest l = record { read : l.found.items ++ tokens_from l.line 0 l.rest ≡ tokens l.text; fits : l.line + length l.rest ≤ 1 + length l.text; utf8 : IsUtf8 l.rest }
-
-abbrev pub decreases-loop-rest : goal.decreases-loop-rest
-decreases-loop-rest l = length l.rest

@@ -1,6 +1,0 @@
-use Rattle.std.proofs.Common.{◌≡◌, ◌+◌, ◌≤◌, drop}
-use Rattle.pp_parser.specs.Tokens.{line_at}
-use Rattle.pp_parser.proofs.lexer.line_at.Given as goal
-
-abbrev pub invariant-loop-b : goal.invariant-loop-b
-invariant-loop-b l = record { value : line_at l.line (drop l.b-index l.bytes) ≡ line_at l.fn.line l.bytes; fits : l.line ≤ l.fn.line + l.b-index }

@@ -1,0 +1,10 @@
+use pp_tree::definition::Name;
+use pp_tree::expr::Expr;
+
+/// What stands next behind a statement function that is called without parentheses.
+#[derive(Drop)]
+pub enum WordArgument {
+    Argument(Expr),
+    /// A name that `{` follows. It is no argument, and begins the resource that is the next statement.
+    Pending(Name),
+}

@@ -1,0 +1,35 @@
+use pp_tree::collector::Query;
+use pp_tree::conditions::CaseOption;
+use pp_tree::expr::Expr;
+use pp_tree::param::Param;
+use pp_tree::statement::Block;
+
+/// A part of a manifest that stands one level further in: within a bracket, or behind what opens a level without one.
+/// The flag says that it stands directly within the bars of a lambda's parameters, where a `|` that `{` follows ends them.
+#[derive(Clone, Copy, Debug, PartialEq, Eq)]
+pub enum Goal {
+    /// A whole expression.
+    Whole(bool),
+    /// The operand of a prefix operator.
+    Operand(bool),
+    /// What stands between `${` and `}`.
+    Interpolated,
+    /// A parameter.
+    Param(bool),
+    /// The statements of a block up to its end.
+    Statements,
+    /// An option of a `case`.
+    CaseOption,
+    /// The query of a collector, or one in parentheses.
+    Query,
+}
+
+/// What was read for a goal.
+#[derive(Drop)]
+pub enum Part {
+    Expr(Expr),
+    Param(Param),
+    Block(Block),
+    CaseOption(CaseOption),
+    Query(Query),
+}

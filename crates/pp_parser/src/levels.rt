@@ -1,0 +1,65 @@
+//! How the rules stand within one another, and where a file is begun.
+
+ghost use Rattle.pp_parser.specs.Definitions as definitions;
+ghost use Rattle.pp_parser.specs.Input.{Reads};
+ghost use Rattle.pp_parser.specs.Levels.{within, part_by, max_levels};
+
+use crate::cursor::Cursor;
+use crate::found::Found;
+use crate::goal::{Goal, Part};
+use crate::grammar::Grammar;
+use crate::refusal::Refusal;
+use std::alloc::Global;
+
+/// As many levels may be open.
+const MAX_LEVELS: usize = 200;
+
+/// What a goal reads, where this many levels may still be opened.
+#[tactic(auto, unfolding(crate::specs::Levels::part_by))]
+pub fn part(
+    alloc: Global,
+    tokens: &mut Cursor<'_>,
+    levels: usize,
+    goal: Goal,
+) -> Result<Part, Refusal>
+    ensures { Reads (part_by (within levels) goal tokens.old) result tokens.new }
+{
+    let rules = Grammar {
+        alloc,
+        levels,
+        inner: part,
+    };
+    match goal {
+        Goal::Whole(bars) => rules.whole(tokens, bars, bars).map(Part::Expr),
+        Goal::Operand(bars) => rules.operand(tokens, bars).map(Part::Expr),
+        Goal::Interpolated => rules.interpolated(tokens).map(Part::Expr),
+        Goal::Param(bars) => rules.param(tokens, bars).map(Part::Param),
+        Goal::Statements => rules.statements(tokens).map(Part::Block),
+        Goal::CaseOption => rules.case_option(tokens).map(Part::CaseOption),
+        Goal::Query => rules.query(tokens).map(Part::Query),
+    }
+}
+
+/// Statements and definitions up to the end of the file.
+pub fn main_manifest(alloc: Global, tokens: &mut Cursor<'_>) -> Result<Found, Refusal>
+    ensures { Reads (definitions.main_manifest (within max_levels) tokens.old) result tokens.new }
+{
+    Grammar {
+        alloc,
+        levels: MAX_LEVELS,
+        inner: part,
+    }
+    .main_manifest(tokens)
+}
+
+/// Classes and defines up to the end of the file.
+pub fn module_file(alloc: Global, tokens: &mut Cursor<'_>) -> Result<Found, Refusal>
+    ensures { Reads (definitions.module_file (within max_levels) tokens.old) result tokens.new }
+{
+    Grammar {
+        alloc,
+        levels: MAX_LEVELS,
+        inner: part,
+    }
+    .module_file(tokens)
+}

@@ -1,0 +1,9 @@
+use pp_tree::expr::{Expr, Postfix};
+use pp_tree::items::Items;
+
+/// What was read of an expression already: a value, and what followed it so far.
+#[derive(Drop)]
+pub struct Started {
+    pub base: Expr,
+    pub postfixes: Items<Postfix>,
+}

@@ -27,3 +27,5 @@ pub mod type_printing;
 pub mod types;
 pub mod value;
 pub mod values;
+
+pub use sqlite_items::{Boxed, Items};

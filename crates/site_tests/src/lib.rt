@@ -1,4 +1,4 @@
-//! The tests of what the libraries below offer to callers, and the toy language that the histories among them speak.
+//! The tests of what the crates of the site offer to callers, and the toy language that the histories among them speak.
 #![tactic(auto)]
 
 #[cfg(test)]
@@ -6,9 +6,13 @@ mod bundles;
 #[cfg(test)]
 mod catalogs;
 #[cfg(test)]
+mod collecting;
+#[cfg(test)]
 mod compiling;
 #[cfg(test)]
 mod exported;
+#[cfg(test)]
+mod faults;
 #[cfg(test)]
 mod history;
 #[cfg(test)]
@@ -16,7 +20,9 @@ mod journals;
 #[cfg(test)]
 mod json;
 #[cfg(test)]
-mod manifests;
+mod lines;
+#[cfg(test)]
+mod puppet;
 #[cfg(test)]
 mod replies;
 #[cfg(test)]
@@ -26,11 +32,5 @@ mod samples;
 #[cfg(test)]
 mod sites;
 #[cfg(test)]
-mod tokens;
-pub mod toy;
-#[cfg(test)]
-mod trees;
-#[cfg(test)]
-mod values;
-#[cfg(test)]
 mod versions;
+pub mod toy;

@@ -7,7 +7,8 @@ ghost use Rattle.site_core.specs.Events.{is_by, is_later, publication, deactivat
 ghost use Rattle.site_core.specs.EntryViews.{event_of};
 ghost use Rattle.site_core.specs.Sets.{sets_at, sets_after};
 ghost use Rattle.site_core.specs.Legal.{MayFollow};
-ghost use Rattle.site_core.specs.Core.{MOST_ENTRIES, opened, with_event, IsSound};
+ghost use Rattle.site_core.specs.Core.{opened, with_event, IsSound};
+ghost use Rattle.site_core.specs.declared.history.TheConstants.{MOST_ENTRIES};
 
 use crate::counts::Counts;
 use crate::done_stop::DoneStop;

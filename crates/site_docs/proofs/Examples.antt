@@ -13,8 +13,8 @@ use Rattle.res_core.specs.declared.catalog.Catalog.{Catalog}
 use Rattle.res_core.specs.declared.exported.Exported.{Exported}
 use Rattle.res_core.specs.Asked.{Asked, compile, deactivate}
 use Rattle.site_core.specs.Events.{Event, opens, publishes, deactivates}
-use Rattle.site_core.specs.declared.reply.Answer.{Answer}
-use Rattle.site_core.specs.declared.reply.Answer.TheVariants.{Served, Refused, HistoryFull, SeenAhead, UnknownNode, Deactivated, Memory}
+use Rattle.site_core.specs.declared.reply.ReplyOf.{ReplyOf}
+use Rattle.site_core.specs.declared.reply.ReplyOf.TheVariants.{Served, Refused, HistoryFull, SeenAhead, UnknownNode, Deactivated, Memory}
 use Rattle.site_bundle.specs.SiteView.{SiteView}
 use Rattle.site_docs.specs.CatalogText.{held_object, held_data, edge_data, catalog_object, catalog_data, catalog_text}
 use Rattle.site_docs.specs.FaultText.{plain_line, fault_text}
@@ -98,7 +98,7 @@ gone = refl
 abbrev asks : List ℕ → ℕ → Asked
 asks node seen = compile (record { node = node; facts = None; seen = seen })
 
-abbrev replies : ℕ → Asked → Answer Catalog Fault → List ℕ
+abbrev replies : ℕ → Asked → ReplyOf Catalog Fault → List ℕ
 replies = reply_line catalog_text fault_text
 
 -- one of each kind of reply

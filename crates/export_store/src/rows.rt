@@ -2,7 +2,7 @@
 ghost use Rattle.std.specs.Prelude.{◌≡◌, ◌≤◌, length, IfOk, IsTrue, option_copied};
 ghost use Rattle.std.specs.Arc.{arc_value};
 ghost use Rattle.std.specs.FinMap.{find, put, is_sorted};
-ghost use Rattle.res_core.specs.Rising.{text_cmp};
+ghost use Rattle.pp_values.specs.Rising.{text_cmp};
 ghost use Rattle.export_store.specs.Rows.{entries_of, others, count_below};
 
 use crate::row::Row;

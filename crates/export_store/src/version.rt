@@ -32,7 +32,7 @@ impl Model for Version {
 
     ghost use Rattle.std.specs.Prelude.{IsTrue};
     ghost use Rattle.std.specs.FinMap.{from_sorted, is_sorted};
-    ghost use Rattle.res_core.specs.Rising.{text_cmp};
+    ghost use Rattle.pp_values.specs.Rising.{text_cmp};
     ghost use Rattle.export_store.specs.Rows.{entries_of};
 
     ghost view = { λ v. from_sorted (entries_of v.rows.items) };

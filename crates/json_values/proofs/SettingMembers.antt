@@ -3,11 +3,11 @@ use Rattle.std.proofs.Common.{◌≡◌, ◌<◌, length, arith, true, List, [],
 use Rattle.std.proofs.lemmas.List.{map-append}
 use Rattle.std.specs.Cmp.{second_so}
 use Rattle.serde_json.specs.Data.{Members, no_members, member, put}
-use Rattle.res_core.specs.Rising.{is_rising}
+use Rattle.pp_values.specs.Rising.{is_rising}
 use Rattle.res_core.specs.declared.attribute.Attribute.{Attribute}
 use Rattle.res_core.specs.AttributeViews.{settings}
-use Rattle.res_core.specs.Settings.{Setting, setting_names}
-use Rattle.res_core.proofs.RisingLemmas.{above_first}
+use Rattle.pp_values.specs.Settings.{Setting, setting_names}
+use Rattle.pp_values.proofs.RisingLemmas.{above_first}
 use Rattle.json_values.specs.ValueForm.{form, setting_members, put_all}
 
 put_last : (done : List Setting) (s : Setting) (left : List Setting) → is_rising (setting_names (done ++ s ∷ left)) ≡ true → put s.0 (form s.1) (setting_members done) ≡ setting_members (done ++ s ∷ [])

@@ -4,7 +4,7 @@ ghost use Rattle.serde_json.specs.Data.{string, no_members};
 ghost use Rattle.serde_json.specs.View.{view as json_view, members_view};
 ghost use Rattle.pp_values.specs.Datum.{entries_of};
 ghost use Rattle.pp_values.specs.Views.{view, views, pair_views};
-ghost use Rattle.res_core.specs.Rising.{precedes as comes_before};
+ghost use Rattle.pp_values.specs.Rising.{precedes as comes_before};
 ghost use Rattle.json_values.specs.ValueForm.{is_plain_name as plain_name, first_key, is_plain as plain, plain_settings, put_all, reference_form as form_of_reference, long_form as form_of_long, form, pair_data};
 
 use pp_values::memory::Memory;

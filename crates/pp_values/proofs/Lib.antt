@@ -3,4 +3,6 @@ mod Examples
 pub mod Inner
 pub mod Letters
 pub mod Lists
+pub mod RisingLemmas
 pub mod SameLists
+pub mod Turns

@@ -2,9 +2,11 @@
 ghost use Rattle.std.specs.Prelude.{◌≡◌, IfOk};
 ghost use Rattle.pp_values.specs.PTypes.{sort};
 
+use crate::kind::Kind;
 use crate::memory::Memory;
 use crate::ptype::{EntryType, MemberType, PType, TypeBox};
 use crate::text::Text;
+use crate::texts::copy_texts;
 use crate::types::Types;
 use std::alloc::Global;
 
@@ -21,7 +23,7 @@ pub fn copy_type(alloc: Global, ptype: &PType) -> Result<PType, Memory>
         PType::Integer(bounds) => Ok(PType::Integer(*bounds)),
         PType::Numeric => Ok(PType::Numeric),
         PType::String(bounds) => Ok(PType::String(*bounds)),
-        PType::Enum(texts) => Ok(PType::Enum(texts.copy(alloc)?)),
+        PType::Enum(texts) => Ok(PType::Enum(copy_texts(alloc, texts)?)),
         PType::Scalar => Ok(PType::Scalar),
         PType::Data => Ok(PType::Data),
         PType::Array(members) => Ok(PType::Array(copy_members(alloc, members)?)),
@@ -51,13 +53,21 @@ pub fn copy_types(alloc: Global, types: &Types) -> Result<Types, Memory>
     Ok(copies)
 }
 
+/// A data type that says the same.
+#[cycle(copy_type)]
+pub fn copy_type_box(alloc: Global, inner: &TypeBox) -> Result<TypeBox, Memory>
+    ensures { IfOk result (λ t. t ≡ inner.now) }
+{
+    TypeBox::new(alloc, copy_type(alloc, inner.as_type())?)
+}
+
 #[cycle(copy_type)]
 fn copy_inner(alloc: Global, inner: &Option<TypeBox>) -> Result<Option<TypeBox>, Memory>
     ensures { IfOk result (λ t. t ≡ inner.now) }
 {
     match inner {
         None => Ok(None),
-        Some(inner) => Ok(Some(TypeBox::new(alloc, copy_type(alloc, inner.as_type())?)?)),
+        Some(inner) => Ok(Some(copy_type_box(alloc, inner)?)),
     }
 }
 
@@ -68,7 +78,7 @@ fn copy_members(alloc: Global, members: &Option<MemberType>) -> Result<Option<Me
     match members {
         None => Ok(None),
         Some(members) => Ok(Some(MemberType {
-            of: TypeBox::new(alloc, copy_type(alloc, members.of.as_type())?)?,
+            of: copy_type_box(alloc, &members.of)?,
             count: members.count,
         })),
     }
@@ -81,7 +91,7 @@ fn copy_entries(alloc: Global, entries: &Option<EntryType>) -> Result<Option<Ent
     match entries {
         None => Ok(None),
         Some(entries) => {
-            let key = TypeBox::new(alloc, copy_type(alloc, entries.key.as_type())?)?;
+            let key = copy_type_box(alloc, &entries.key)?;
             let value = copy_members(alloc, &entries.value)?;
             Ok(Some(EntryType { key, value }))
         }
@@ -97,7 +107,7 @@ fn copy_title(alloc: Global, title: &Option<Text>) -> Result<Option<Text>, Memor
     }
 }
 
-fn copy_resource_type(alloc: Global, kind: &Text, title: &Option<Text>) -> Result<PType, Memory>
+fn copy_resource_type(alloc: Global, kind: &Kind, title: &Option<Text>) -> Result<PType, Memory>
     ensures { IfOk result (λ t. t ≡ PType.Resource kind.now title.now) }
 {
     let title = copy_title(alloc, title)?;

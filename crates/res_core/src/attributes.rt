@@ -1,6 +1,6 @@
 ghost use Rattle.std.specs.Prelude.{◌≡◌, [], ◌↔◌, length, IsTrue};
-ghost use Rattle.res_core.specs.Rising.{is_rising};
-ghost use Rattle.res_core.specs.Settings.{setting_names};
+ghost use Rattle.pp_values.specs.Rising.{is_rising};
+ghost use Rattle.pp_values.specs.Settings.{setting_names};
 ghost use Rattle.res_core.specs.AttributeViews.{settings};
 
 use crate::attribute::Attribute;
@@ -17,15 +17,15 @@ pub struct Attributes {
 
 impl Model for Attributes {
     ghost use Rattle.std.specs.Prelude.{List};
-    ghost use Rattle.res_core.specs.Settings.{Setting, coded_settings};
+    ghost use Rattle.pp_values.specs.Settings.{Setting, coded_settings};
 
     ghost Value = { List Setting };
 
     ghost coded = { coded_settings };
 
     ghost use Rattle.std.specs.Prelude.{IsTrue};
-    ghost use Rattle.res_core.specs.Rising.{is_rising};
-    ghost use Rattle.res_core.specs.Settings.{setting_names};
+    ghost use Rattle.pp_values.specs.Rising.{is_rising};
+    ghost use Rattle.pp_values.specs.Settings.{setting_names};
     ghost use Rattle.res_core.specs.AttributeViews.{settings};
 
     ghost view = { λ a. settings a.items.items };

@@ -10,7 +10,7 @@ use Rattle.serde_json.specs.Data.{Data, null, boolean, number, string, array, ob
 use Rattle.serde_json.specs.Find.{get, as_array}
 use Rattle.serde_json.specs.declared.value.Value.{Value}
 use Rattle.serde_json.specs.View.{view, items_view}
-use Rattle.site_core.specs.Facts.{are_facts}
+use Rattle.pp_values.specs.Facts.{are_facts}
 use Rattle.site_bundle.specs.declared.bundle_stop.BundleStop.{BundleStop}
 use Rattle.site_bundle.specs.Refusals.{Refusal, too_large, bad_shape, Tells, Refuses, Reads, result_and_then}
 use Rattle.site_bundle.specs.GivenFacts.{given_facts}

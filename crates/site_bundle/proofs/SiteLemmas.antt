@@ -11,8 +11,8 @@ use Rattle.std.specs.FinMap.Entries.{by_order, is_sorted-put}
 use Rattle.pp_values.specs.declared.value.Value.{Value}
 use Rattle.pp_values.specs.Datum.{Datum}
 use Rattle.pp_values.specs.Views.{view}
-use Rattle.res_core.specs.Rising.{text_cmp}
-use Rattle.site_core.specs.Facts.{are_facts}
+use Rattle.pp_values.specs.Rising.{text_cmp}
+use Rattle.pp_values.specs.Facts.{are_facts}
 use Rattle.site_bundle.specs.SiteView.{Listed, IsSite, are_rising, have_facts}
 use Rattle.site_bundle.specs.Listing.{listed}
 

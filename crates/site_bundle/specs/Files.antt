@@ -2,7 +2,7 @@
 use Rattle.std.specs.Prelude.{ℕ, if◌then◌else◌, nat_le, codes, List, length, option_and_then, Result, Ok, Err}
 use Rattle.std.specs.Option.{ok_or}
 use Rattle.std.specs.Ordering.{match_ordering}
-use Rattle.res_core.specs.Rising.{text_cmp}
+use Rattle.pp_values.specs.Rising.{text_cmp}
 use Rattle.serde_json.specs.Data.{Data, Members, no_members, member}
 use Rattle.serde_json.specs.Find.{get, as_object, as_str}
 use Rattle.site_bundle.specs.Refusals.{Refusal, bad_shape, too_large, under, result_and_then}

@@ -5,8 +5,8 @@ use Rattle.std.specs.FinMap.{find, put, is_sorted}
 use Rattle.std.specs.List.{list_all}
 use Rattle.pp_values.specs.Datum.{Datum}
 use Rattle.pp_values.specs.Codes.{coded_text, coded_datum}
-use Rattle.res_core.specs.Rising.{text_cmp}
-use Rattle.site_core.specs.Facts.{are_facts}
+use Rattle.pp_values.specs.Rising.{text_cmp}
+use Rattle.pp_values.specs.Facts.{are_facts}
 
 -- a node's name, and what its facts say
 abbrev pub Listed : Type 0

@@ -1,8 +1,8 @@
 ghost use Rattle.std.specs.Prelude.{◌≡◌, ◌+◌, ◌^◌, ◌<◌, [], length, is_ok, if◌then◌else◌, IsTrue, IfSome, option_map};
 ghost use Rattle.std.specs.FinMap.{put};
 ghost use Rattle.pp_values.specs.Views.{view};
-ghost use Rattle.res_core.specs.Rising.{text_cmp};
-ghost use Rattle.site_core.specs.Facts.{are_facts};
+ghost use Rattle.pp_values.specs.Rising.{text_cmp};
+ghost use Rattle.pp_values.specs.Facts.{are_facts};
 ghost use Rattle.site_bundle.specs.SiteView.{facts_for, with_facts, are_rising, have_facts};
 ghost use Rattle.site_bundle.specs.Listing.{listed};
 

@@ -1,4 +1,5 @@
 pub mod Outputs
+pub mod Program
 pub mod Endings
 pub mod Limits
 pub mod Puppet

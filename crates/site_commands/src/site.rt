@@ -6,6 +6,7 @@ ghost use Rattle.site_commands.specs.Status.{IsStatus};
 ghost use Rattle.site_commands.specs.Outputs.{IsOutput};
 ghost use Rattle.site_commands.specs.Work.{Works, Delivers, GivesUp, too_long};
 ghost use Rattle.site_commands.specs.Limits.{limit_of};
+ghost use Rattle.site_commands.specs.Program.{HasEnded};
 ghost use Rattle.site_commands.specs.Endings.{Ends, IsComplaint, IsSettled};
 
 use crate::output::Output;
@@ -74,6 +75,9 @@ pub fn site_main<S: Source, K: Sink, E: Sink>(
     ensures words { (result ≡ 10) ↔ IsComplaint (asked_of (texts_of words.now)) }
     ensures settled { (input : List ℕ) → (S.stream source.old).left ≡ Some input → IsSettled result (asked_of (texts_of words.now)) input }
     ensures statuses { IsStatus result }
+    ensures ended { HasEnded result (texts_of words.now)
+        (world (S.stream source.old) (K.stream out.old) (E.stream err.old))
+        (world (S.stream source.new) (K.stream out.new) (E.stream err.new)) }
 
     // Faults of the outside are answered only where its counts rose.
     ensures source_rose { result ≡ 12 → Rose (S.stream source.old).faults (S.stream source.new).faults }

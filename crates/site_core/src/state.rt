@@ -1,7 +1,7 @@
 ghost use Rattle.std.specs.Prelude.{◌≡◌, ◌≤◌, ◌<◌, length, IfOk, OnOk, OnErr, IsTrue};
 ghost use Rattle.std.specs.Arc.{arc_value};
 ghost use Rattle.pp_values.specs.Views.{view};
-ghost use Rattle.site_core.specs.Facts.{are_facts};
+ghost use Rattle.pp_values.specs.Facts.{are_facts};
 ghost use Rattle.site_core.specs.Meaning.{HasExports};
 ghost use Rattle.site_core.specs.Events.{is_by, is_later, publication, deactivation};
 ghost use Rattle.site_core.specs.EntryViews.{event_of};

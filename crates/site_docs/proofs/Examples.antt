@@ -7,7 +7,7 @@ use Rattle.pp_values.specs.declared.fault.Fault.{Fault}
 use Rattle.pp_values.specs.declared.fault.What.{What}
 use Rattle.pp_values.specs.declared.fault.What.TheVariants.{Syntax, Failed, Cycle, AlreadySet, Duplicate}
 use Rattle.pp_values.specs.declared.fault.Subject.TheVariants as subject
-use Rattle.res_core.specs.Settings.{Setting}
+use Rattle.pp_values.specs.Settings.{Setting}
 use Rattle.res_core.specs.declared.held.Held.{Held}
 use Rattle.res_core.specs.declared.catalog.Catalog.{Catalog}
 use Rattle.res_core.specs.declared.exported.Exported.{Exported}

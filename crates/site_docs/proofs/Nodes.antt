@@ -4,8 +4,8 @@ use Rattle.std.specs.Cmp.{first_so, second_so}
 use Rattle.std.specs.Cmp.Derive.{both_true}
 use Rattle.std.specs.FinMap.{is_sorted}
 use Rattle.serde_json.specs.Data.{Data, Members, no_members, object}
-use Rattle.res_core.specs.Rising.{text_cmp, is_rising}
-use Rattle.res_core.specs.Settings.{Setting, setting_names}
+use Rattle.pp_values.specs.Rising.{text_cmp, is_rising}
+use Rattle.pp_values.specs.Settings.{Setting, setting_names}
 use Rattle.json_values.specs.ValueForm.{setting_members, put_all}
 use Rattle.json_values.proofs.SettingMembers.{put_all-settings}
 use Rattle.site_bundle.specs.SiteView.{SiteView}

@@ -4,7 +4,7 @@ ghost use Rattle.std.specs.Arc.{arc_value};
 ghost use Rattle.pp_values.specs.Views.{view};
 ghost use Rattle.res_core.specs.RequestViews.{asked, wanted};
 ghost use Rattle.res_core.specs.Asked.{compile as wants};
-ghost use Rattle.site_core.specs.Facts.{are_facts};
+ghost use Rattle.pp_values.specs.Facts.{are_facts};
 ghost use Rattle.site_core.specs.Meaning.{HasExports};
 ghost use Rattle.site_core.specs.Events.{opens};
 ghost use Rattle.site_core.specs.Legal.{Legal};

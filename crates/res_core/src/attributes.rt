@@ -10,9 +10,15 @@ use std::marker::Model;
 /// The attributes of a resource, whose names rise in byte order. No name stands twice.
 ///
 /// A contract sees each name with what its value says.
-#[derive(Drop)]
 pub struct Attributes {
     items: Vec<Attribute>,
+}
+
+// By hand, so that no crate above proves the drops of values again.
+impl Drop for Attributes {
+    fn drop(self) {
+        let Attributes { items: _items } = self;
+    }
 }
 
 impl Model for Attributes {
@@ -53,7 +59,8 @@ impl Attributes {
         ensures attributes { settings result.items ≡ self }
         ensures rising { IsTrue (is_rising (setting_names self)) }
     {
-        self.items
+        let Attributes { items } = self;
+        items
     }
 
     pub fn len(&self) -> usize

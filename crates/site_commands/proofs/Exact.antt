@@ -6,7 +6,8 @@ use Rattle.std.specs.List.{list_any}
 use Rattle.site_core.specs.declared.history.TheConstants.{MOST_ENTRIES}
 use Rattle.site_core.specs.Events.{opens}
 use Rattle.site_bundle.specs.Bundles.{bundle_in, bundle_of}
-use Rattle.site_bundle.specs.Documents.{json_of, most_bytes}
+use Rattle.site_bundle.specs.Documents.{json_of}
+use Rattle.site_bundle.specs.declared.limits.TheConstants.{MOST_BUNDLE_BYTES, MOST_FILE_BYTES}
 use Rattle.site_bundle.specs.Refusals.{Refusal, too_large, result_and_then}
 use Rattle.site_bundle.specs.declared.bundle.Bundle.{Bundle}
 use Rattle.site_io.specs.Stream.{Stream}
@@ -16,7 +17,7 @@ use Rattle.site_commands.specs.declared.ending.Ending.{Ending}
 use Rattle.site_commands.specs.declared.ending.Ending.TheVariants as e
 use Rattle.site_commands.specs.Outputs.{IsOutput, IsBundleOutput, HasRun, manifest_output, is_refusal, sequence_text}
 use Rattle.site_commands.specs.Endings.{Ends, IsComplaint, IsCommand, IsSettled, status_for, output_status, outcome_status, bundle_status}
-use Rattle.site_commands.specs.Limits.{limit_of, manifest_limit}
+use Rattle.site_commands.specs.Limits.{limit_of}
 use Rattle.site_commands.specs.Puppet.{puppet, listed}
 use Rattle.site_sequence.specs.SequenceLaws.{is_memory}
 use Rattle.site_commands.specs.Status.{status_of}
@@ -37,10 +38,10 @@ status_for-complaint (bad_word word) input h = refl
 status_for-long : (asked : CommandLine) (input : List ℕ) → IsCommand asked → limit_of asked < length input → status_for asked input ≡ 11
 unfolding bundle_of
 status_for-long (manifest node) input asked long =
-    ap (λ b. if b then output_status (manifest_output node input) else 11) (leb-false (length input) manifest_limit long)
+    ap (λ b. if b then output_status (manifest_output node input) else 11) (leb-false (length input) MOST_FILE_BYTES long)
 status_for-long sequence input asked long =
     ap (λ b. bundle_status (result_and_then bundle_in (if b then json_of input else Err (too_large (codes "bundle")))))
-    (leb-false (length input) most_bytes long)
+    (leb-false (length input) MOST_BUNDLE_BYTES long)
 status_for-long usage input asked long = absurd asked
 status_for-long (bad_word word) input asked long = absurd asked
 
@@ -65,7 +66,7 @@ status_of-output : (asked : CommandLine) (output : Output) (input : List ℕ) �
     (output_status output ≡ status_for asked input) ⊎ (output_status output ≡ 16)
 status_of-output (manifest node) output input is fits =
     inl (ap output_status is
-    ∙ sym (ap (λ b. if b then output_status (manifest_output node input) else 11) (le-leb (length input) manifest_limit fits)))
+    ∙ sym (ap (λ b. if b then output_status (manifest_output node input) else 11) (le-leb (length input) MOST_FILE_BYTES fits)))
 status_of-output sequence output input is fits = status_of-bundle output (bundle_of input) is
 status_of-output usage output input is fits = absurd is
 status_of-output (bad_word word) output input is fits = absurd is

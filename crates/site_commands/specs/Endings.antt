@@ -6,6 +6,7 @@ use Rattle.res_core.specs.Asked as requests
 use Rattle.site_core.specs.declared.history.TheConstants.{MOST_ENTRIES}
 use Rattle.site_core.specs.Events.{opens}
 use Rattle.site_bundle.specs.Bundles.{bundle_of}
+use Rattle.site_bundle.specs.declared.limits.TheConstants.{MOST_FILE_BYTES}
 use Rattle.site_bundle.specs.Refusals.{Refusal}
 use Rattle.site_bundle.specs.SiteView.{SiteView}
 use Rattle.site_bundle.specs.declared.bundle.Bundle.{Bundle}
@@ -16,7 +17,7 @@ use Rattle.site_commands.specs.declared.ending.Ending.TheVariants as e
 use Rattle.site_commands.specs.Outputs.{output_of, manifest_output, sequence_text}
 use Rattle.site_commands.specs.declared.output.Output.{Output}
 use Rattle.site_commands.specs.declared.output.Output.TheVariants as a
-use Rattle.site_commands.specs.Limits.{manifest_limit, limit_of}
+use Rattle.site_commands.specs.Limits.{limit_of}
 use Rattle.site_commands.specs.Puppet.{puppet, listed}
 use Rattle.site_sequence.specs.Sequence.{Outcome, outcome_of}
 use Rattle.site_commands.specs.Words.{CommandLine, manifest, sequence, usage, bad_word, asked_of}
@@ -97,7 +98,7 @@ bundle_status (Err refusal) = 11
 -- catalog, 1 where it is a fault, 11 where the input is too long or no text. For `sequence`: 0 where no request is refused,
 -- 1 where one is, 11 where the input is no bundle. 10 where the words are faulty.
 abbrev pub status_for : CommandLine → List ℕ → ℕ
-status_for (manifest node) input = if nat_le (length input) manifest_limit then output_status (manifest_output node input) else 11
+status_for (manifest node) input = if nat_le (length input) MOST_FILE_BYTES then output_status (manifest_output node input) else 11
 status_for sequence input = bundle_status (bundle_of input)
 status_for usage input = 10
 status_for (bad_word word) input = 10

@@ -2,7 +2,8 @@
 ghost use Rattle.std.specs.Prelude.{◌≡◌, ◌≤◌, ◌++◌, IfOk, OnOk, IsTrue, length, string_bytes};
 ghost use Rattle.std.specs.List.{list_any};
 ghost use Rattle.res_core.specs.RequestViews.{all_asked};
-ghost use Rattle.site_bundle.specs.RequestsOf.{give_facts, most_requests};
+ghost use Rattle.res_core.specs.AskedFacts.{give_facts};
+ghost use Rattle.site_bundle.specs.declared.limits.TheConstants.{MOST_REQUESTS};
 ghost use Rattle.site_bundle.specs.Bundles.{bundle_of};
 ghost use Rattle.site_commands.specs.Outputs.{HasRun, IsBundleOutput, is_refusal, output_of, sequence_text, reply_lines};
 ghost use Rattle.site_sequence.specs.SequenceLaws.{is_memory};
@@ -48,7 +49,7 @@ fn refuse_bundle(alloc: Global, stop: &BundleStop) -> Result<Output, Memory>
 
 fn run_bundle(alloc: Global, bundle: Bundle) -> Result<Output, Memory>
     requires facts { IsTrue (give_facts bundle.requests) }
-    requires few { length bundle.requests ≤ most_requests }
+    requires few { length bundle.requests ≤ MOST_REQUESTS }
     ensures { IfOk result (λ output. HasRun output bundle) }
 {
     let Bundle { site, requests } = bundle;
@@ -63,7 +64,7 @@ fn sequence_text(
     requests: &Requests,
     made: &SequenceResult<PuppetLanguage>,
 ) -> Result<Text, Memory>
-    requires { length requests.now ≤ most_requests }
+    requires { length requests.now ≤ MOST_REQUESTS }
     ensures { IfOk result (λ text. text ≡ sequence_text requests.now made.now.replies made.now.history.entries) }
 {
     let mut out = write_journal(alloc, &made.history)?.into_string();
@@ -83,7 +84,7 @@ fn write_replies(
     requests: &[Request],
     replies: &[Reply<PuppetLanguage>],
 ) -> Result<(), Memory>
-    requires { length requests.now ≤ most_requests }
+    requires { length requests.now ≤ MOST_REQUESTS }
     ensures { OnOk result (string_bytes out.new ≡ string_bytes out.old ++ reply_lines 0 (all_asked requests.now) replies.now) }
 {
     let mut number: u32 = 0;

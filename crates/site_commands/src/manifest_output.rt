@@ -4,7 +4,7 @@ ghost use Rattle.site_core.specs.Meaning.{Answers};
 ghost use Rattle.site_docs.specs.CatalogText.{catalog_text};
 ghost use Rattle.site_docs.specs.FaultText.{fault_text};
 ghost use Rattle.site_commands.specs.Outputs.{output_meant, manifest_output};
-ghost use Rattle.site_commands.specs.Limits.{manifest_limit};
+ghost use Rattle.site_bundle.specs.declared.limits.TheConstants.{MOST_FILE_BYTES};
 ghost use Rattle.site_commands.specs.Puppet.{manifest_meaning};
 ghost use Rattle.site_commands.specs.World.{line};
 
@@ -29,7 +29,7 @@ use std::alloc::Global;
 
 /// The output for a node under a manifest of these bytes.
 pub fn manifest_output(alloc: Global, node: &str, input: Bytes) -> Result<Output, Memory>
-    requires { length input ≤ manifest_limit }
+    requires { length input ≤ MOST_FILE_BYTES }
     ensures { IfOk result (λ output. output ≡ manifest_output node.now input) }
 {
     match String::from_utf8(input.into_vec()) {
@@ -39,7 +39,7 @@ pub fn manifest_output(alloc: Global, node: &str, input: Bytes) -> Result<Output
 }
 
 fn output_of_text(alloc: Global, node: &str, manifest: Text) -> Result<Output, Memory>
-    requires { length manifest ≤ manifest_limit }
+    requires { length manifest ≤ MOST_FILE_BYTES }
     ensures { IfOk result (λ output. output ≡ output_meant (manifest_meaning node.now manifest)) }
 {
     match compile_alone(alloc, node, manifest) {
@@ -55,7 +55,7 @@ fn compile_alone(
     node: &str,
     manifest: Text,
 ) -> Result<(Catalog, ExportSet), CompileStop<Fault>>
-    requires { length manifest ≤ manifest_limit }
+    requires { length manifest ≤ MOST_FILE_BYTES }
     ensures { Answers result (manifest_meaning node.now manifest) }
 {
     let node = Text::from_str(alloc, node)?;

@@ -16,14 +16,9 @@ use crate::manifest_output::manifest_output;
 use crate::say::{say, say_word};
 use crate::words::{Command, Complaint, read_words};
 use pp_values::memory::Memory;
+use site_bundle::limits::{MOST_BUNDLE_BYTES, MOST_FILE_BYTES};
 use site_io::{Bytes, ReadStop, Sink, Source, read_all, write_all};
 use std::alloc::Global;
-
-/// The most bytes that a manifest has: 4 MiB.
-const MANIFEST_LIMIT: usize = 4_194_304;
-
-/// The most bytes that a bundle has: 64 MiB.
-const BUNDLE_LIMIT: usize = 67_108_864;
 
 /// Runs the program on its words, which come without the program's name, and gives the exit status.
 ///
@@ -133,8 +128,8 @@ fn limit_of(command: Command<'_>) -> usize
     ensures { result ≡ limit_of (asked_by command.entry) }
 {
     match command {
-        Command::Manifest { .. } => MANIFEST_LIMIT,
-        Command::Sequence => BUNDLE_LIMIT,
+        Command::Manifest { .. } => MOST_FILE_BYTES,
+        Command::Sequence => MOST_BUNDLE_BYTES,
     }
 }
 

@@ -9,7 +9,7 @@ ghost use Rattle.site_core.specs.Meaning.{HasExports};
 ghost use Rattle.site_core.specs.Events.{opens};
 ghost use Rattle.site_core.specs.Legal.{Legal};
 ghost use Rattle.site_core.specs.Snapshots.{Of};
-ghost use Rattle.site_bundle.specs.RequestsOf.{has_facts, asks_with_facts, give_facts};
+ghost use Rattle.res_core.specs.AskedFacts.{has_facts, asks_with_facts, give_facts};
 ghost use Rattle.site_sequence.specs.Sequence.{facts_or, turn_meant, turn_known, turn_removed, turn_for, Takes, AnsweredInTurn};
 ghost use Rattle.site_sequence.specs.Attempts.{Gives};
 

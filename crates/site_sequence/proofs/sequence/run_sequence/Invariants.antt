@@ -4,7 +4,7 @@ use Rattle.std.specs.Prelude.{IsTrue}
 use Rattle.res_core.specs.RequestViews.{all_asked}
 use Rattle.site_core.specs.Events.{opens}
 use Rattle.site_core.specs.declared.history.TheConstants.{MOST_ENTRIES}
-use Rattle.site_bundle.specs.RequestsOf.{give_facts}
+use Rattle.res_core.specs.AskedFacts.{give_facts}
 use Rattle.site_sequence.proofs.GoingOn.{GoesOn}
 use Rattle.site_sequence.proofs.sequence.run_sequence.Given as goal
 

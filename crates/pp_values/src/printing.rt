@@ -1,7 +1,7 @@
 //! How kinds, titles and references are printed.
 ghost use Rattle.std.specs.Prelude.{◌≡◌, ◌==◌, ◌++◌, if◌then◌else◌, IfOk, OnOk, encode_utf8, string_bytes};
 ghost use Rattle.std.specs.Char.{to_ascii_uppercase};
-ghost use Rattle.pp_values.specs.Words.{before, is_quote_or_backslash, escaped, quoted, kind_text, reference_text, quoted_reference_text};
+ghost use Rattle.pp_values.specs.Words.{ArePrintedApart, before, is_quote_or_backslash, escaped, quoted, kind_text, reference_text, quoted_reference_text};
 
 use crate::kind::Kind;
 use crate::memory::Memory;
@@ -52,6 +52,11 @@ pub fn reference_text(alloc: Global, reference: &Reference) -> Result<Text, Memo
     write_reference(&mut out, reference)?;
     Ok(Text::new(out))
 }
+
+/// References are the same where documents and faults print them alike.
+pub fn references_print_apart()
+    ensures { ArePrintedApart }
+{}
 
 /// Appends a reference as an interpolated text shows it: `Web::Vhost['a']`.
 pub(crate) fn write_quoted_reference(out: &mut String, reference: &Reference) -> Result<(), Memory>

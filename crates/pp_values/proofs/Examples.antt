@@ -20,9 +20,8 @@ use Rattle.pp_values.specs.Kinds.{is_kind, kind_of}
 use Rattle.pp_values.specs.Rising.{is_rising, sorted}
 use Rattle.pp_values.specs.Facts.{are_facts}
 use Rattle.pp_values.specs.Faults.{fault}
-use Rattle.pp_values.specs.Answers.{Answers, and_then, in_turn}
+use Rattle.pp_values.specs.Answers.{Answers, in_turn}
 use Rattle.pp_values.specs.declared.fault.Fault.{Fault}
-use Rattle.pp_values.specs.declared.fault.Stop.{Stop}
 use Rattle.pp_values.specs.declared.fault.Stop.TheVariants as stop
 use Rattle.pp_values.specs.declared.fault.What.TheVariants.{Syntax, NotBuilt}
 use Rattle.pp_values.specs.declared.place.TheConstants.{MAIN_MANIFEST}
@@ -244,23 +243,26 @@ number_as_name : are_facts (hash ((one, a) ∷ [])) ≡ false
 number_as_name = refl
 
 -- the main manifest
-main_manifest : MAIN_MANIFEST ≡ codes "manifests/site.pp"
+main_manifest : MAIN_MANIFEST.now ≡ codes "manifests/site.pp"
 main_manifest = refl
 
 -- answers
 abbrev syntax : Fault
-syntax = fault (record { file = MAIN_MANIFEST; line = 3 }) Syntax
+syntax = fault (record { file = MAIN_MANIFEST.now; line = 3 }) Syntax
 
 abbrev not_built : Fault
-not_built = fault (record { file = MAIN_MANIFEST; line = 3 }) NotBuilt
+not_built = fault (record { file = MAIN_MANIFEST.now; line = 3 }) NotBuilt
 
-meant : Answers {T = ℕ} (Ok 2) (Ok 2) ≡ (Ok {T = ℕ} {E = Fault} 2 ≡ Ok 2)
-meant = refl
+meant_number : Result ℕ Fault
+meant_number = Ok 2
 
-meant_fault : Answers {T = ℕ} (Err (stop.Fault syntax)) (Err not_built) ≡ (Err {T = ℕ} not_built ≡ Err syntax)
-meant_fault = refl
+answered : Answers (Ok 2) meant_number ≡ (meant_number ≡ Ok 2)
+answered = refl
 
-no_memory : Answers {T = ℕ} (Err stop.Memory) (Ok 2) ≡ Unit {0}
+refused : Answers (Err (stop.Fault syntax)) meant_number ≡ (meant_number ≡ Err syntax)
+refused = refl
+
+no_memory : Answers (Err stop.Memory) meant_number ≡ Unit {0}
 no_memory = refl
 
 -- a number at most 2 behind the others

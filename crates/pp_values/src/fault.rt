@@ -154,7 +154,7 @@ pub enum Stop {
 
 impl From<Fault> for Stop {
     ghost use Rattle.std.specs.Prelude.{◌≡◌, IfOk};
-ghost use Rattle.pp_values.specs.Faults.{fault};
+    ghost use Rattle.pp_values.specs.Faults.{fault};
     ghost use Rattle.pp_values.specs.declared.fault.Stop.TheVariants as stop;
 
     ghost from_gives = { λ fault s. s ≡ stop.Fault fault };
@@ -166,7 +166,7 @@ ghost use Rattle.pp_values.specs.Faults.{fault};
 
 impl From<Memory> for Stop {
     ghost use Rattle.std.specs.Prelude.{◌≡◌, IfOk};
-ghost use Rattle.pp_values.specs.Faults.{fault};
+    ghost use Rattle.pp_values.specs.Faults.{fault};
     ghost use Rattle.pp_values.specs.declared.fault.Stop.TheVariants as stop;
 
     ghost from_gives = { λ _ s. s ≡ stop.Memory };
@@ -178,7 +178,7 @@ ghost use Rattle.pp_values.specs.Faults.{fault};
 
 impl From<AllocError> for Stop {
     ghost use Rattle.std.specs.Prelude.{◌≡◌, IfOk};
-ghost use Rattle.pp_values.specs.Faults.{fault};
+    ghost use Rattle.pp_values.specs.Faults.{fault};
     ghost use Rattle.pp_values.specs.declared.fault.Stop.TheVariants as stop;
 
     ghost from_gives = { λ _ s. s ≡ stop.Memory };
@@ -190,7 +190,7 @@ ghost use Rattle.pp_values.specs.Faults.{fault};
 
 impl<T: Drop> From<AllocFailed<T>> for Stop {
     ghost use Rattle.std.specs.Prelude.{◌≡◌, IfOk};
-ghost use Rattle.pp_values.specs.Faults.{fault};
+    ghost use Rattle.pp_values.specs.Faults.{fault};
     ghost use Rattle.pp_values.specs.declared.fault.Stop.TheVariants as stop;
 
     ghost from_gives = { λ _ s. s ≡ stop.Memory };

@@ -54,7 +54,6 @@ pub fn copy_types(alloc: Global, types: &Types) -> Result<Types, Memory>
 }
 
 /// A data type that says the same.
-#[cycle(copy_type)]
 pub fn copy_type_box(alloc: Global, inner: &TypeBox) -> Result<TypeBox, Memory>
     ensures { IfOk result (λ t. t ≡ inner.now) }
 {
@@ -67,7 +66,7 @@ fn copy_inner(alloc: Global, inner: &Option<TypeBox>) -> Result<Option<TypeBox>,
 {
     match inner {
         None => Ok(None),
-        Some(inner) => Ok(Some(copy_type_box(alloc, inner)?)),
+        Some(inner) => Ok(Some(TypeBox::new(alloc, copy_type(alloc, inner.as_type())?)?)),
     }
 }
 
@@ -78,7 +77,7 @@ fn copy_members(alloc: Global, members: &Option<MemberType>) -> Result<Option<Me
     match members {
         None => Ok(None),
         Some(members) => Ok(Some(MemberType {
-            of: copy_type_box(alloc, &members.of)?,
+            of: TypeBox::new(alloc, copy_type(alloc, members.of.as_type())?)?,
             count: members.count,
         })),
     }
@@ -91,7 +90,7 @@ fn copy_entries(alloc: Global, entries: &Option<EntryType>) -> Result<Option<Ent
     match entries {
         None => Ok(None),
         Some(entries) => {
-            let key = copy_type_box(alloc, &entries.key)?;
+            let key = TypeBox::new(alloc, copy_type(alloc, entries.key.as_type())?)?;
             let value = copy_members(alloc, &entries.value)?;
             Ok(Some(EntryType { key, value }))
         }

@@ -7,6 +7,7 @@ use Rattle.pp_values.specs.declared.fault.Fault.{Fault}
 use Rattle.pp_values.specs.declared.fault.What.{What}
 use Rattle.pp_values.specs.declared.fault.What.TheVariants.{Syntax, Failed, Cycle, AlreadySet, Duplicate}
 use Rattle.pp_values.specs.declared.fault.Subject.TheVariants as subject
+use Rattle.pp_values.specs.declared.place.TheConstants.{MAIN_MANIFEST}
 use Rattle.pp_values.specs.Settings.{Setting}
 use Rattle.res_core.specs.declared.held.Held.{Held}
 use Rattle.res_core.specs.declared.catalog.Catalog.{Catalog}
@@ -50,8 +51,8 @@ unfolding held_object held_data edge_data catalog_object catalog_data digits ser
 catalogs = (refl, refl)
 
 abbrev listing : List ℕ → List (List ℕ) → SiteView
-listing manifest [] = record { manifest = manifest; nodes = [] }
-listing manifest (n ∷ ns) = record { manifest = manifest; nodes = (n, d.hash d.no_entries) ∷ (listing manifest ns).nodes }
+listing manifest [] = record { files = (MAIN_MANIFEST.now, manifest) ∷ []; nodes = [] }
+listing manifest (n ∷ ns) = record { files = (MAIN_MANIFEST.now, manifest) ∷ []; nodes = (n, d.hash d.no_entries) ∷ (listing manifest ns).nodes }
 
 -- sites with no node, and with two of which one has a fact
 sites : (site_text (listing [] []) ≡ codes "{\"files\":{\"manifests/site.pp\":\"\"},\"nodes\":{}}")

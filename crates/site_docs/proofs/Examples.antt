@@ -56,8 +56,11 @@ listing manifest (n ∷ ns) = record { files = (MAIN_MANIFEST.now, manifest) ∷
 
 -- sites with no node, and with two of which one has a fact
 sites : (site_text (listing [] []) ≡ codes "{\"files\":{\"manifests/site.pp\":\"\"},\"nodes\":{}}")
-    × (site_text (record { manifest = codes "x"; nodes = (codes "a", d.hash d.no_entries) ∷ (codes "b.c", d.hash (d.entry (d.text (codes "os")) (d.flag true) d.no_entries)) ∷ [] })
-    ≡ codes "{\"files\":{\"manifests/site.pp\":\"x\"},\"nodes\":{\"a\":{},\"b.c\":{\"os\":true}}}")
+    × (site_text (record {
+      files = (MAIN_MANIFEST.now, codes "x") ∷ (codes "modules/a/init.pp", codes "y") ∷ [];
+      nodes = (codes "a", d.hash d.no_entries) ∷ (codes "b.c", d.hash (d.entry (d.text (codes "os")) (d.flag true) d.no_entries)) ∷ [];
+    })
+    ≡ codes "{\"files\":{\"manifests/site.pp\":\"x\",\"modules/a/init.pp\":\"y\"},\"nodes\":{\"a\":{},\"b.c\":{\"os\":true}}}")
 unfolding site_object site_data digits serde_json_on_literals
 sites = (refl, refl)
 

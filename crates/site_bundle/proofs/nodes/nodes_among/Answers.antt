@@ -1,7 +1,7 @@
 use Rattle.std.proofs.Common.{sym, ◌∙◌}
 use Rattle.site_bundle.proofs.Chains.{refuses_same, at_exit}
 use Rattle.site_bundle.proofs.NodeSteps.{node_listed, node_refused, no_nodes_left}
-use Rattle.site_bundle.proofs.nodes.with_nodes.Goals as goal
+use Rattle.site_bundle.proofs.nodes.nodes_among.Goals as goal
 
 pub loop-key-preserved : goal.loop-key-preserved
 loop-key-preserved c =

@@ -59,8 +59,7 @@ table_from done (r ∷ rs) =
 unfoldable pub table_of : List Definition → Result Entries TableStop
 table_of definitions = table_from [] (all_rows definitions)
 
--- a call answers what is meant, unless it has no memory
-abbrev pub Makes : Result Entries TableStop → Result Entries TableStop → Type 0
-Makes meant (Ok table) = meant ≡ Ok table
-Makes meant (Err (Doubled at)) = meant ≡ Err (Doubled at)
-Makes meant (Err Memory) = Unit {0}
+-- the fault that a stop tells, if it is none of memory
+abbrev pub doubled_told : TableStop → Option TableStop
+doubled_told (Doubled at) = Some (Doubled at)
+doubled_told Memory = None

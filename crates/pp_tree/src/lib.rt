@@ -12,3 +12,17 @@ pub mod resource;
 pub mod rows;
 pub mod statement;
 pub mod table;
+
+pub use collector::{Collector, Comparison, Conjunction, Query, Test};
+pub use conditions::{Case, CaseOption, Elsif, If, Unless};
+pub use definition::{Class, Define, Definition, Name, Node, NodeName};
+pub use expr::{Args, Call, Expr, Form, Lambda, Operation, Pair, Piece, Postfix};
+pub use file::File;
+pub use operators::{BinaryOperator, PrefixOperator};
+pub use param::{Param, Params};
+pub use resource::{
+    Attribute, Attributes, Body, Defaults, Override, Reference, Resource, ResourceForm, Setting,
+    Splat,
+};
+pub use statement::{Arrow, Block, Chain, Link, Operand, Statement, Words};
+pub use table::{DefinitionName, Table, TableStop, table_of};

@@ -82,22 +82,25 @@ fn put_node(alloc: Global, rows: &mut Vec<Row>, node: Node) -> Result<(), Memory
     };
     let name = copy_name(alloc, &first.name)?;
     let at = first.at;
-    let mut further = further_rows(alloc, &first.name, more)?;
+    let further = further_rows(alloc, &first.name, more)?;
     rows.push(Row {
         name: DefinitionName::Node(name),
         definition: Definition::Node(node),
         at,
     })?;
-    rows.append(&mut further)?;
+    put_all(rows, further)
+}
+
+/// Appends these rows.
+fn put_all(rows: &mut Vec<Row>, mut more: Vec<Row>) -> Result<(), Memory>
+    ensures { OnOk result (rows.new.items ≡ rows.old.items ++ more.items) }
+{
+    rows.append(&mut more)?;
     Ok(())
 }
 
 /// The rows of the names after the first.
-fn further_rows(
-    alloc: Global,
-    first: &Option<Text>,
-    names: &[NodeName],
-) -> Result<Vec<Row>, Memory>
+fn further_rows(alloc: Global, first: &Option<Text>, names: &[NodeName]) -> Result<Vec<Row>, Memory>
     ensures { IfOk result (λ rows. rows.items ≡ map (further_row first.now) names.now) }
 {
     let mut rows = Vec::new(alloc);

@@ -5,7 +5,8 @@ ghost use Rattle.std.specs.Map.{lookup};
 ghost use Rattle.std.specs.Map.Iter.{deref_pair};
 ghost use Rattle.pp_tree.specs.declared.table.DefinitionName.TheVariants.{Code};
 ghost use Rattle.pp_tree.specs.Names.{normal, same_name, without_front_colons};
-ghost use Rattle.pp_tree.specs.Tables.{table_of, table_from, Makes};
+ghost use Rattle.pp_tree.specs.Tables.{table_of, table_from, doubled_told};
+ghost use Rattle.pp_values.specs.Answers.{AnswersBy};
 
 use crate::definition::Definition;
 use crate::rows::{Row, all_rows};
@@ -189,13 +190,16 @@ impl Table {
     }
 
     /// What stands under a name.
-    #[tactic(auto, using(crate::proofs::TableLemmas::looked_up))]
     pub fn get(&self, name: &DefinitionName) -> Option<&Definition>
         ensures { option_copied result ≡ lookup (same_name name.now) self.now }
     {
-        let place = self.places.get(name)?;
-        let entry = self.entries.get(*place)?;
-        Some(&entry.1)
+        match self.places.get(name) {
+            Some(place) => match self.entries.get(*place) {
+                Some(entry) => Some(&entry.1),
+                None => None,
+            },
+            None => None,
+        }
     }
 
     /// The name and the definition at a place, counted from 0.
@@ -221,7 +225,6 @@ impl Table {
     }
 
     /// With a definition behind the others, under a name that is not there yet.
-    #[tactic(auto, using(crate::proofs::TableLemmas::one_place_more))]
     fn with(
         self,
         alloc: Global,
@@ -247,7 +250,7 @@ impl Table {
 /// `Doubled` where a name comes a second time. Classes and defines share their names, and nodes have their own.
 #[tactic(auto, unfolding(crate::specs::Tables::table_of, crate::specs::Tables::table_from), using(crate::proofs::TableLemmas::row_doubled, crate::proofs::TableLemmas::row_put))]
 pub fn table_of(alloc: Global, definitions: Items<Definition>) -> Result<Table, TableStop>
-    ensures { Makes (table_of definitions) result }
+    ensures { AnswersBy doubled_told result (table_of definitions) }
 {
     let rows = all_rows(alloc, definitions)?;
     let mut table = Table::new(alloc);

@@ -2,8 +2,8 @@
 use Rattle.std.proofs.Common.{◌≡◌, ◌++◌, length, reverse}
 use Rattle.pp_tree.proofs.rows.reversed.Given as goal
 
-abbrev pub invariant-loop-items : goal.invariant-loop-items
-invariant-loop-items g l = reverse l.fn.items ≡ l.back ++ reverse l.items
+abbrev pub invariant-loop-item : goal.invariant-loop-item
+invariant-loop-item g l = reverse l.fn.items ≡ l.back ++ reverse l.items
 
-abbrev pub decreases-loop-items : goal.decreases-loop-items
-decreases-loop-items g l = length l.items
+abbrev pub decreases-loop-item : goal.decreases-loop-item
+decreases-loop-item g l = length l.items

@@ -37,10 +37,7 @@ fn syntax_fault(alloc: Global, file: &Text, line: u32) -> Result<Fault, Memory>
     ensures { IfOk result (λ fault. fault ≡ spec.syntax_fault file.now line) }
 {
     let file = file.copy(alloc)?;
-    Ok(Fault {
-        at: Place { file, line },
-        what: What::Syntax,
-    })
+    Fault::new(alloc, Place { file, line }, What::Syntax)
 }
 
 /// The tokens of the file at a path. Where no token can be read, or the end of the file cuts off a text or a comment, it is

@@ -3,7 +3,7 @@
 ghost use Rattle.pp_parser.specs.Input.{Reads};
 ghost use Rattle.pp_parser.specs.Keys.{earlier_line};
 ghost use Rattle.pp_parser.specs.Manifest as manifest;
-ghost use Rattle.std.specs.Prelude.{◌≡◌, ◌+◌, ◌<◌, ◌^◌, length, Err, Some};
+ghost use Rattle.std.specs.Prelude.{◌≡◌, ◌+◌, ◌<◌, ◌^◌, length, Err, Some, IfOk};
 
 use crate::cursor::Cursor;
 use crate::found::Found;
@@ -13,9 +13,7 @@ use pp_lexer::scan::{end_line, scan};
 use pp_lexer::token::Token;
 use pp_tree::file::File;
 use pp_tree::table::{TableStop, table_of};
-use pp_values::fault::{Fault, Stop, What};
-use pp_values::place::Place;
-use pp_values::text::Text;
+use pp_values::{Fault, Memory, Place, Stop, Text, What};
 use std::alloc::Global;
 
 /// What the file at this path says.
@@ -30,16 +28,20 @@ fn read_file(alloc: Global, file: &Text, tokens: &mut Cursor<'_>) -> Result<Foun
     }
 }
 
+fn fault_at(alloc: Global, file: &Text, what: What, line: u32) -> Result<Fault, Memory>
+    ensures { IfOk result (λ fault. fault ≡ manifest.fault_at file.now what line) }
+{
+    let file = file.copy(alloc)?;
+    Fault::new(alloc, Place { file, line }, what)
+}
+
 /// The fault at a line of the file.
 fn stop_at(alloc: Global, file: &Text, what: What, line: u32) -> Stop
     ensures { manifest.Parses (Err (manifest.fault_at file.now what line)) (Err result) }
 {
-    match file.copy(alloc) {
-        Ok(file) => Stop::Fault(Fault {
-            at: Place { file, line },
-            what,
-        }),
-        Err(_) => Stop::Memory,
+    match fault_at(alloc, file, what, line) {
+        Ok(fault) => Stop::Fault(fault),
+        Err(Memory) => Stop::Memory,
     }
 }
 

@@ -1,13 +1,14 @@
 ghost use Rattle.std.specs.Prelude.{◌≡◌, IfOk};
 
+use crate::kind::Kind;
 use crate::memory::Memory;
 use crate::text::Text;
 use std::alloc::Global;
 
-/// The name of a resource: its kind in lower case, such as `web::vhost`, and its title.
+/// The name of a resource: its kind, such as `web::vhost`, and its title.
 #[derive(Debug, Drop)]
 pub struct Reference {
-    pub kind: Text,
+    pub kind: Kind,
     pub title: Text,
 }
 

@@ -1,9 +1,8 @@
-pub mod Rising
 pub mod TagNames
-pub mod Settings
 pub mod AttributeViews
 pub mod ResourceCodes
 pub mod ExportedCodes
 pub mod ExportSetCodes
 pub mod Asked
+pub mod AskedFacts
 pub mod RequestViews

@@ -5,7 +5,7 @@ use Rattle.pp_lexer.specs.declared.kind.Kind.TheVariants as k
 use Rattle.pp_parser.specs.Input.{Parser}
 use Rattle.pp_parser.specs.Inner.{Inner}
 use Rattle.pp_parser.specs.Kinds.{is_name}
-use Rattle.pp_parser.specs.Layers.{FormLayer}
+use Rattle.pp_tree.specs.Layers.{FormLayer}
 use Rattle.pp_parser.specs.Params.{is_simple, param_by_form, param_from}
 use Rattle.pp_parser.specs.declared.started.Started.{Started}
 use Rattle.pp_tree.specs.declared.operators.BinaryOperator.{BinaryOperator}

@@ -7,7 +7,7 @@ use Rattle.pp_parser.specs.Input.{Input, Parser, and_then, ◌>>=◌, pure, refu
 use Rattle.pp_parser.specs.Inner.{Inner}
 use Rattle.pp_parser.specs.Kinds.{is_kind, same_kind, is_name, is_bar}
 use Rattle.pp_parser.specs.Levels.{within}
-use Rattle.pp_parser.specs.Layers.{FormLayer}
+use Rattle.pp_tree.specs.Layers.{FormLayer}
 use Rattle.pp_parser.specs.Params.{is_simple, param_by_form, param_from}
 use Rattle.pp_parser.specs.declared.started.Started.{Started}
 use Rattle.pp_tree.specs.declared.operators.BinaryOperator.{BinaryOperator}

@@ -2,12 +2,12 @@ use crate::samples::reference;
 use pp_values::fact_pairs::FactPairs;
 use pp_values::memory::Memory;
 use pp_values::place::Place;
-use pp_values::places::Places;
+use pp_values::places::{Places, copy_places};
 use pp_values::reference::Reference;
-use pp_values::refs::Refs;
+use pp_values::refs::{Refs, copy_refs};
 use pp_values::text::Text;
-use pp_values::text_pairs::TextPairs;
-use pp_values::texts::Texts;
+use pp_values::text_pairs::{TextPairs, copy_text_pairs};
+use pp_values::texts::{Texts, copy_texts};
 use pp_values::value::Value;
 use std::alloc::Global;
 use std::test::Fail;
@@ -20,7 +20,7 @@ fn references(alloc: Global) -> Result<Refs, Memory> {
     let mut list = Refs::new(alloc);
     list.push(reference(alloc, "file", "/a")?)?;
     list.push(reference(alloc, "notify", "b")?)?;
-    list.copy(alloc)
+    copy_refs(alloc, &list)
 }
 
 fn copies_references(alloc: Global) -> Result<bool, Memory> {
@@ -35,7 +35,7 @@ fn places(alloc: Global) -> Result<Places, Memory> {
     let file = Text::from_str(alloc, "site.pp")?;
     let mut list = Places::new(alloc);
     list.push(Place { file, line: 3 })?;
-    list.copy(alloc)
+    copy_places(alloc, &list)
 }
 
 fn copies_places(alloc: Global) -> Result<bool, Memory> {
@@ -50,7 +50,7 @@ fn texts(alloc: Global) -> Result<Texts, Memory> {
     let mut list = Texts::new(alloc);
     list.push(Text::from_str(alloc, "a")?)?;
     list.push(Text::from_str(alloc, "")?)?;
-    list.copy(alloc)
+    copy_texts(alloc, &list)
 }
 
 fn copies_texts(alloc: Global) -> Result<bool, Memory> {
@@ -65,8 +65,8 @@ fn files(alloc: Global) -> Result<TextPairs, Memory> {
     let path = Text::from_str(alloc, "site.pp")?;
     let text = Text::from_str(alloc, "$x = 1")?;
     let mut list = TextPairs::new(alloc);
-    list.push(path, text)?;
-    list.copy(alloc)
+    list.push((path, text))?;
+    copy_text_pairs(alloc, &list)
 }
 
 fn copies_files(alloc: Global) -> Result<bool, Memory> {

@@ -9,7 +9,7 @@ use std::test::Fail;
 
 // An expression as its form, with what it says or how many parts it has.
 fn form_text(alloc: Global, x: &Expr) -> Result<String, AllocError> {
-    match &x.form {
+    match x.form.get() {
         Form::Undef => format!(in alloc; "undef"),
         Form::Flag(flag) => format!(in alloc; "flag {flag}"),
         Form::Default => format!(in alloc; "default"),

@@ -27,7 +27,7 @@ fn number_of(what: &What) -> &'static str {
 
 /// The number of the fault and its line, such as `F1 2`.
 pub fn fault_text(alloc: Global, fault: &Fault) -> Result<String, AllocError> {
-    let number = number_of(&fault.what);
+    let number = number_of(fault.what.get());
     let line = fault.at.line;
     format!(in alloc; "{number} {line}")
 }

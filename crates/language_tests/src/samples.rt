@@ -5,9 +5,10 @@ ghost use Rattle.pp_values.specs.Views.{view};
 
 use pp_values::bounds::{Bound, Bounds};
 use pp_values::interpolating::text_of;
+use pp_values::kind::Kind;
 use pp_values::memory::Memory;
 use pp_values::pairs::Pairs;
-use pp_values::ptype::PType;
+use pp_values::ptype::{PType, TypeBox};
 use pp_values::reference::Reference;
 use pp_values::text::Text;
 use pp_values::value::Value;
@@ -20,9 +21,9 @@ pub fn text(alloc: Global, text: &str) -> Result<Value, Memory>
     Ok(Value::Text(Text::from_str(alloc, text)?))
 }
 
-/// The name of a kind of resource.
-pub fn kind(alloc: Global, name: &str) -> Result<Text, Memory> {
-    Text::from_str(alloc, name)
+/// The kind of resource of this name. A text that is none is told as want of memory.
+pub fn kind(alloc: Global, name: &str) -> Result<Kind, Memory> {
+    Kind::from_text(Text::from_str(alloc, name)?).ok_or(Memory)
 }
 
 pub fn reference(alloc: Global, name: &str, title: &str) -> Result<Reference, Memory> {
@@ -32,8 +33,8 @@ pub fn reference(alloc: Global, name: &str, title: &str) -> Result<Reference, Me
 }
 
 /// A data type as a value.
-pub fn type_value(_alloc: Global, of: PType) -> Result<Value, Memory> {
-    Ok(Value::Kind(of))
+pub fn type_value(alloc: Global, of: PType) -> Result<Value, Memory> {
+    Ok(Value::Kind(TypeBox::new(alloc, of)?))
 }
 
 /// The list of 1 and a text.

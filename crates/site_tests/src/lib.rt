@@ -8,6 +8,8 @@ mod catalogs;
 #[cfg(test)]
 mod collecting;
 #[cfg(test)]
+mod commands;
+#[cfg(test)]
 mod compiling;
 #[cfg(test)]
 mod exported;
@@ -16,11 +18,15 @@ mod faults;
 #[cfg(test)]
 mod history;
 #[cfg(test)]
+mod jobs;
+#[cfg(test)]
 mod journals;
 #[cfg(test)]
 mod json;
 #[cfg(test)]
 mod lines;
+#[cfg(test)]
+mod locks;
 #[cfg(test)]
 mod puppet;
 #[cfg(test)]
@@ -30,7 +36,11 @@ mod resources;
 #[cfg(test)]
 mod samples;
 #[cfg(test)]
+mod sequences;
+#[cfg(test)]
 mod sites;
 #[cfg(test)]
-mod versions;
+mod streams;
 pub mod toy;
+#[cfg(test)]
+mod versions;

@@ -260,23 +260,16 @@ fn a_manifest_has_at_most_4_mib(rt: HostRuntime) -> Result<(), Fail> {
     Ok(())
 }
 
-// A million requests, and then this.
+// 1,048,576 requests, and then this.
 fn reads_requests(alloc: Global, back: &str, want: &str) -> Result<bool, Memory> {
     let front = with_files(alloc, "{\"bundle\":1,M,\"requests\":[")?;
     let piece = "0,0,0,0,0,0,0,0,0,0,0,0,0,0,0,0,";
-    let text = repeated(alloc, front.as_str(), piece, 65_535, back)?;
+    let text = repeated(alloc, front.as_str(), piece, 65_536, back)?;
     reads_as(alloc, text.as_str().as_bytes(), want)
 }
 
-const REQUESTS: [(&str, &str); 2] = [
-    ("0,0,0,0,0,0,0,0,0,0,0,0,0,0,0,0]}", "B2 requests.0"),
-    ("0,0,0,0,0,0,0,0,0,0,0,0,0,0,0,0,0]}", "B3 requests"),
-];
-
 #[test]
 fn a_bundle_has_at_most_a_million_requests(rt: HostRuntime) -> Result<(), Fail> {
-    for (back, want) in REQUESTS.iter() {
-        assert!(rt; reads_requests(rt.alloc(), back, want)?, "{want}");
-    }
+    assert!(rt; reads_requests(rt.alloc(), "0]}", "B3 requests")?);
     Ok(())
 }

@@ -1,5 +1,5 @@
 ghost use Rattle.std.specs.Prelude.{◌≤◌};
-ghost use Rattle.site_core.specs.Core.{MOST_ENTRIES};
+ghost use Rattle.site_core.specs.declared.history.TheConstants.{MOST_ENTRIES};
 ghost use Rattle.site_core.specs.Snapshots.{Of};
 
 use crate::lines::{write_entries, write_reply};
@@ -163,16 +163,16 @@ fn histories_grow_by_events(rt: HostRuntime) -> Result<(), Fail> {
 }
 
 /// Whether a compile that began before another entry came ends behind it.
-fn older_compile_ends_last(alloc: Global) -> Result<bool, Memory> {
+fn older_compile_ends_last(alloc: Global) -> Result<bool, Fail> {
     let mut core = opened(alloc, 5)?;
     let snapshot = core.snap(alloc)?;
     let gone = Text::from_str(alloc, "a")?;
-    let is_first = matches!(core.deactivate(alloc, 1, gone), Ok(1));
+    let entry = core.deactivate(alloc, 1, gone)?;
     let node = Text::from_str(alloc, "b")?;
     let reply = finish(alloc, &Toy, &mut core, 0, node, snapshot)?;
     let mut out = String::new(alloc);
     write_reply(&mut out, &reply)?;
-    Ok(is_first && out.as_str() == "served 2 1 false;")
+    Ok(entry == 1 && out.as_str() == "served 2 1 false;")
 }
 
 #[test]

@@ -44,7 +44,8 @@ rejoined : (k t : List ℕ) → k ++ codes "[" ++ t ++ codes "]" ≡ k ++ 91 ∷
 rejoined [] t = refl
 rejoined (b ∷ bs) t = ap (λ xs. b ∷ xs) (rejoined bs t)
 
-pub printed_apart : (r s : Reference) → IsTrue (is_kind r.kind) → IsTrue (is_kind s.kind) → reference_text r ≡ reference_text s → r ≡ s
+pub printed_apart : (r s : Reference) →
+    IsTrue (is_kind r.kind) → IsTrue (is_kind s.kind) → reference_text r ≡ reference_text s → r ≡ s
 printed_apart r s h k e =
     let parts : (r.kind ≡ s.kind) × (r.title ++ codes "]" ≡ s.title ++ codes "]") =
     apart 58 r.kind s.kind (r.title ++ codes "]") (s.title ++ codes "]") (kind_bytes r.kind h) (kind_bytes s.kind k)

@@ -8,3 +8,8 @@ mod queries;
 mod row;
 mod rows;
 pub mod version;
+
+pub use export_place::ExportPlace;
+pub use export_places::ExportPlaces;
+pub use laws::{empty_has_none, with_replaces_one_set, without_removes_one_set};
+pub use version::Version;

@@ -8,9 +8,8 @@ ghost use Rattle.export_store.specs.Rows.{entries_of};
 
 use crate::export_place::ExportPlace;
 use crate::row::Row;
-use pp_values::memory::Memory;
-use pp_values::text::Text;
-use res_core::exported::Exported;
+use pp_values::{Memory, Text};
+use res_core::Exported;
 use std::alloc::Global;
 use std::sync::Arc;
 
@@ -67,7 +66,7 @@ fn place_of(alloc: Global, node: &Text, index: usize) -> Result<ExportPlace, Mem
 fn matches(exported: &Exported, kind: &Text, tag: Option<&Text>) -> bool
     ensures { result ≡ matches kind.now (option_copied tag.entry) exported.now }
 {
-    exported.item.kind == *kind && has_tag(exported.item.tags.as_slice(), tag)
+    exported.item.kind.as_text() == kind && has_tag(exported.item.tags.as_slice(), tag)
 }
 
 fn has_tag(tags: &[Text], tag: Option<&Text>) -> bool

@@ -6,7 +6,7 @@ use Rattle.serde_json.specs.Find.{of_integer}
 use Rattle.serde_json.specs.Written.{has_float, items_have_float, members_have_float}
 use Rattle.pp_values.specs.Datum as d
 use Rattle.pp_values.specs.Datum.{Datum, Entries, no_entries, entry}
-use Rattle.res_core.specs.Settings.{Setting}
+use Rattle.pp_values.specs.Settings.{Setting}
 use Rattle.json_values.specs.ValueForm.{form, list_form, pair_forms, member_forms, is_plain, reference_form, long_form, setting_members}
 
 pub either : (a b : Bool) → a ≡ false → b ≡ false → (a || b) ≡ false

@@ -6,8 +6,8 @@ use Rattle.serde_json.specs.Data.{item, no_members, member, array, object}
 use Rattle.serde_json.specs.View.{items_of}
 use Rattle.pp_values.specs.Datum as d
 use Rattle.pp_values.specs.Datum.{Datum, Pair, Entries, no_entries, entry, data_of, entries_of}
-use Rattle.res_core.specs.Rising.{precedes, is_rising}
-use Rattle.res_core.specs.Settings.{setting_names}
+use Rattle.pp_values.specs.Rising.{precedes, is_rising}
+use Rattle.pp_values.specs.Settings.{setting_names}
 use Rattle.json_values.specs.ValueForm.{form, list_form, pair_forms, member_forms, first_key, is_plain_name, is_plain, long_form, pair_data, plain_settings, setting_members, put_all}
 use Rattle.json_values.proofs.SettingMembers.{put_all-settings}
 

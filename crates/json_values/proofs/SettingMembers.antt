@@ -1,13 +1,11 @@
 -- Settings put into an object one after another stand in it in their order, where their names rise.
-use Rattle.std.proofs.Common.{◌≡◌, ◌<◌, length, arith, true, List, [], ◌∷◌, ◌++◌, refl, ap, sym, subst, append-nil, ◌∙◌}
+use Rattle.std.proofs.Common.{◌≡◌, ◌<◌, length, arith, true, List, [], ◌∷◌, ◌++◌, map, refl, ap, sym, subst, append-nil, ◌∙◌}
 use Rattle.std.proofs.lemmas.List.{map-append}
 use Rattle.std.specs.Cmp.{second_so}
 use Rattle.serde_json.specs.Data.{Members, no_members, member, put}
-use Rattle.res_core.specs.Rising.{is_rising}
-use Rattle.res_core.specs.declared.attribute.Attribute.{Attribute}
-use Rattle.res_core.specs.AttributeViews.{settings}
-use Rattle.res_core.specs.Settings.{Setting, setting_names}
-use Rattle.res_core.proofs.RisingLemmas.{above_first}
+use Rattle.pp_values.specs.Rising.{is_rising}
+use Rattle.pp_values.specs.Settings.{Setting, setting_names}
+use Rattle.pp_values.proofs.RisingLemmas.{above_first}
 use Rattle.json_values.specs.ValueForm.{form, setting_members, put_all}
 
 put_last : (done : List Setting) (s : Setting) (left : List Setting) → is_rising (setting_names (done ++ s ∷ left)) ≡ true → put s.0 (form s.1) (setting_members done) ≡ setting_members (done ++ s ∷ [])
@@ -30,7 +28,8 @@ put_all-rising (s ∷ left) done h =
 pub put_all-settings : (ss : List Setting) → is_rising (setting_names ss) ≡ true → put_all ss no_members ≡ setting_members ss
 put_all-settings ss h = put_all-rising ss [] h
 
--- at the end of the loop nothing is left to put
-pub put_all-end : (left : List Attribute) (ms all : Members) → length left < 1 → put_all (settings left) ms ≡ all → ms ≡ all
-put_all-end [] ms all few h = h
-put_all-end (a ∷ left) ms all few h = absurd (omega arith)
+-- at the end of a loop over what says settings nothing is left to put
+pub put_all-end : {X : Type 0} (said : X → Setting) (left : List X) (ms all : Members) →
+    length left < 1 → put_all (map said left) ms ≡ all → ms ≡ all
+put_all-end said [] ms all few h = h
+put_all-end said (x ∷ left) ms all few h = absurd (omega arith)

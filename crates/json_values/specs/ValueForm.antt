@@ -5,8 +5,8 @@ use Rattle.serde_json.specs.Data.{Data, null, boolean, number, string, array, ob
 use Rattle.serde_json.specs.Find.{of_integer}
 use Rattle.pp_values.specs.Datum as d
 use Rattle.pp_values.specs.Datum.{Datum, Pair, Entries, no_entries, entry}
-use Rattle.res_core.specs.Rising.{precedes}
-use Rattle.res_core.specs.Settings.{Setting}
+use Rattle.pp_values.specs.Rising.{precedes}
+use Rattle.pp_values.specs.Settings.{Setting}
 
 -- the text is a key of a short form: it does not begin with `__p`
 abbrev pub is_plain_name : List ℕ → Bool

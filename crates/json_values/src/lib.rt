@@ -2,3 +2,5 @@
 #![tactic(auto)]
 
 pub mod value_forms;
+
+pub use value_forms::value_form;

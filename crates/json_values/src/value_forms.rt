@@ -4,13 +4,10 @@ ghost use Rattle.serde_json.specs.Data.{string, no_members};
 ghost use Rattle.serde_json.specs.View.{view as json_view, members_view};
 ghost use Rattle.pp_values.specs.Datum.{entries_of};
 ghost use Rattle.pp_values.specs.Views.{view, views, pair_views};
-ghost use Rattle.res_core.specs.Rising.{precedes as comes_before};
+ghost use Rattle.pp_values.specs.Rising.{precedes as comes_before};
 ghost use Rattle.json_values.specs.ValueForm.{is_plain_name as plain_name, first_key, is_plain as plain, plain_settings, put_all, reference_form as form_of_reference, long_form as form_of_long, form, pair_data};
 
-use pp_values::memory::Memory;
-use pp_values::reference::Reference;
-use pp_values::text::Text;
-use pp_values::value::Value;
+use pp_values::{Memory, Reference, Text, Value};
 use serde_json::{Map, Value as Json, json};
 use std::alloc::{AllocError, Global};
 
@@ -20,7 +17,7 @@ pub fn value_form(alloc: Global, value: &Value) -> Result<Json, Memory>
     ensures { IfOk result (λ j. json_view j ≡ form (view value.now)) }
 {
     match value {
-        Value::Undef | Value::Kind(_) | Value::Default => Ok(Json::Null),
+        Value::Undef => Ok(Json::Null),
         Value::Flag(flag) => Ok(Json::Bool(*flag)),
         Value::Int(number) => Ok(Json::from(*number)),
         Value::Text(text) => text_form(alloc, text),
@@ -34,6 +31,8 @@ pub fn value_form(alloc: Global, value: &Value) -> Result<Json, Memory>
             }
         }
         Value::Ref(reference) => Ok(reference_form(alloc, reference)?),
+        Value::Kind(_) => Ok(Json::Null),
+        Value::Default => Ok(Json::Null),
     }
 }
 

@@ -1,5 +1,5 @@
 -- The definitions at worked examples. Each line holds by computing.
-use Rattle.std.proofs.Common.{◌≡◌, ℕ, true, false, List, [], ◌∷◌, pos, negsuc, refl, codes, None, Some}
+use Rattle.std.proofs.Common.{◌≡◌, ℕ, true, false, List, [], ◌∷◌, ◌++◌, nat_lt, if◌then◌else◌, pos, negsuc, refl, codes, None, Some, Result, Ok, Err}
 use Rattle.std.specs.Fmt.{digits}
 use Rattle.std.specs.declared.cmp.Ordering.TheVariants.{Less, Equal, Greater}
 use Rattle.pp_values.specs.declared.bounds.Bound.TheVariants.{Default, Number}
@@ -16,6 +16,15 @@ use Rattle.pp_values.specs.Keys.{are_distinct, value_at, with_pair, without_key}
 use Rattle.pp_values.specs.Equal.{equal}
 use Rattle.pp_values.specs.Order.{order}
 use Rattle.pp_values.specs.TextOf.{text_of}
+use Rattle.pp_values.specs.Kinds.{is_kind, kind_of}
+use Rattle.pp_values.specs.Rising.{is_rising, sorted}
+use Rattle.pp_values.specs.Facts.{are_facts}
+use Rattle.pp_values.specs.Faults.{fault}
+use Rattle.pp_values.specs.Answers.{Answers, in_turn}
+use Rattle.pp_values.specs.declared.fault.Fault.{Fault}
+use Rattle.pp_values.specs.declared.fault.Stop.TheVariants as stop
+use Rattle.pp_values.specs.declared.fault.What.TheVariants.{Syntax, NotBuilt}
+use Rattle.pp_values.specs.declared.place.TheConstants.{MAIN_MANIFEST}
 
 abbrev a : Datum
 a = d.text (codes "a")
@@ -197,3 +206,73 @@ taken_out = refl
 
 looked_up : value_at b ((a, one) ∷ (b, two) ∷ []) ≡ Some two
 looked_up = refl
+
+-- kinds
+a_kind : kind_of (codes "web::vhost") ≡ Some (codes "web::vhost")
+a_kind = refl
+
+a_capital : is_kind (codes "File") ≡ false
+a_capital = refl
+
+a_bracket : is_kind (codes "a[b") ≡ false
+a_bracket = refl
+
+no_letter : kind_of [] ≡ None
+no_letter = refl
+
+other_letters : is_kind (codes "größe 2") ≡ true
+other_letters = refl
+
+-- the order of texts, and facts
+in_order : sorted (codes "b" ∷ codes "B" ∷ codes "ab" ∷ codes "b" ∷ []) ≡ codes "B" ∷ codes "ab" ∷ codes "b" ∷ []
+in_order = refl
+
+stands_twice : is_rising (codes "a" ∷ codes "a" ∷ []) ≡ false
+stands_twice = refl
+
+facts : are_facts (hash ((a, list (one ∷ hash [] ∷ [])) ∷ (b, d.undef) ∷ [])) ≡ true
+facts = refl
+
+facts_out_of_order : are_facts (hash ((b, one) ∷ (a, one) ∷ [])) ≡ false
+facts_out_of_order = refl
+
+reference_in_facts : are_facts (hash ((a, list (file (codes "/a") ∷ [])) ∷ [])) ≡ false
+reference_in_facts = refl
+
+number_as_name : are_facts (hash ((one, a) ∷ [])) ≡ false
+number_as_name = refl
+
+-- the main manifest
+main_manifest : MAIN_MANIFEST.now ≡ codes "manifests/site.pp"
+main_manifest = refl
+
+-- answers
+abbrev syntax : Fault
+syntax = fault (record { file = MAIN_MANIFEST.now; line = 3 }) Syntax
+
+abbrev not_built : Fault
+not_built = fault (record { file = MAIN_MANIFEST.now; line = 3 }) NotBuilt
+
+meant_number : Result ℕ Fault
+meant_number = Ok 2
+
+answered : Answers (Ok 2) meant_number ≡ (meant_number ≡ Ok 2)
+answered = refl
+
+refused : Answers (Err (stop.Fault syntax)) meant_number ≡ (meant_number ≡ Err syntax)
+refused = refl
+
+no_memory : Answers (Err stop.Memory) meant_number ≡ Unit {0}
+no_memory = refl
+
+-- a number at most 2 behind the others
+abbrev with_small : List ℕ → ℕ → Result (List ℕ) ℕ
+with_small ns n = if nat_lt n 3 then Ok (ns ++ n ∷ []) else Err n
+
+all_small : in_turn with_small [] (1 ∷ 2 ∷ []) ≡ Ok (1 ∷ 2 ∷ [])
+unfolding in_turn
+all_small = refl
+
+first_large : in_turn with_small [] (1 ∷ 7 ∷ 2 ∷ 8 ∷ []) ≡ Err 7
+unfolding in_turn
+first_large = refl

@@ -1,4 +1,5 @@
 pub mod References
+pub mod Kinds
 pub mod Sort
 pub mod SortCodes
 pub mod SortFalls
@@ -9,8 +10,13 @@ pub mod Datum
 pub mod Codes
 pub mod Sizes
 pub mod Keys
+pub mod Rising
+pub mod Facts
+pub mod Settings
 pub mod Places
 pub mod Views
+pub mod Faults
+pub mod Answers
 pub mod Falls
 pub mod PairLists
 pub mod Equal

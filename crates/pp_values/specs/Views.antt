@@ -2,7 +2,6 @@
 use Rattle.std.specs.Prelude.{List, map}
 use Rattle.pp_values.specs.declared.value.Value.{Value}
 use Rattle.pp_values.specs.declared.value.Value.TheVariants as v
-use Rattle.pp_values.specs.PTypes.{sort}
 use Rattle.pp_values.specs.Datum as d
 use Rattle.pp_values.specs.Datum.{Datum, Pair, data_of, entries_of}
 
@@ -14,7 +13,7 @@ view (v.Text t) = d.text t
 view (v.List ds) = d.list (data_of ds)
 view (v.Hash ps) = d.hash (entries_of ps)
 view (v.Ref r) = d.reference r
-view (v.Kind t) = d.kind (sort t)
+view (v.Kind t) = d.kind t
 view v.Default = d.default
 
 abbrev pub views : List Value → List Datum

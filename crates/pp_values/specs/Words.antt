@@ -1,7 +1,8 @@
 -- How kinds, titles and references are printed.
-use Rattle.std.specs.Prelude.{ℕ, ◌==◌, Bool, ◌||◌, if◌then◌else◌, List, [], ◌∷◌, ◌++◌, codes}
+use Rattle.std.specs.Prelude.{◌≡◌, ℕ, ◌==◌, Bool, IsTrue, ◌||◌, if◌then◌else◌, List, [], ◌∷◌, ◌++◌, codes}
 use Rattle.std.specs.Char.{to_ascii_uppercase}
 use Rattle.pp_values.specs.declared.reference.Reference.{Reference}
+use Rattle.pp_values.specs.Kinds.{is_kind}
 
 -- `'` and `\\`
 abbrev pub is_quote_or_backslash : ℕ → Bool
@@ -35,3 +36,8 @@ quoted_reference_text r = kind_text r.kind ++ codes "[" ++ quoted r.title ++ cod
 -- what stands before item `n` of a list
 abbrev pub before : ℕ → List ℕ
 before n = if n == 0 then [] else codes ", "
+
+-- References to resources are printed apart.
+abbrev pub ArePrintedApart : Type 0
+ArePrintedApart =
+    (r s : Reference) → IsTrue (is_kind r.kind) → IsTrue (is_kind s.kind) → reference_text r ≡ reference_text s → r ≡ s

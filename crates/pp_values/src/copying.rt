@@ -4,7 +4,7 @@ ghost use Rattle.pp_values.specs.Views.{view};
 
 use crate::memory::Memory;
 use crate::pairs::Pairs;
-use crate::type_copying::copy_type;
+use crate::type_copying::copy_type_box;
 use crate::value::Value;
 use crate::values::Values;
 use std::alloc::Global;
@@ -22,7 +22,7 @@ pub fn copy(alloc: Global, value: &Value) -> Result<Value, Memory>
         Value::List(items) => Ok(Value::List(copy_values(alloc, items)?)),
         Value::Hash(pairs) => Ok(Value::Hash(copy_pairs(alloc, pairs)?)),
         Value::Ref(reference) => Ok(Value::Ref(reference.copy(alloc)?)),
-        Value::Kind(ptype) => Ok(Value::Kind(copy_type(alloc, ptype)?)),
+        Value::Kind(ptype) => Ok(Value::Kind(copy_type_box(alloc, ptype)?)),
         Value::Default => Ok(Value::Default),
     }
 }

@@ -25,7 +25,7 @@ pub fn equal(a: &Value, b: &Value) -> bool
         (Value::List(a), Value::List(b)) => equal_items(a.as_slice(), b.as_slice()),
         (Value::Hash(a), Value::Hash(b)) => a.len() == b.len() && is_within(a.as_slice(), b),
         (Value::Ref(a), Value::Ref(b)) => a == b,
-        (Value::Kind(a), Value::Kind(b)) => same_type(a, b),
+        (Value::Kind(a), Value::Kind(b)) => same_type(a.as_type(), b.as_type()),
         (Value::Default, Value::Default) => true,
         _ => false,
     }

@@ -1,21 +1,43 @@
-ghost use Rattle.std.specs.Prelude.{◌≡◌};
+ghost use Rattle.std.specs.Prelude.{◌≡◌, IfOk};
+ghost use Rattle.pp_values.specs.Faults.{fault};
 
+use crate::kind::Kind;
 use crate::memory::Memory;
 use crate::place::Place;
 use crate::reference::Reference;
 use crate::refs::Refs;
 use crate::text::Text;
-use std::alloc::{AllocError, AllocFailed};
+use sqlite_items::Boxed;
+use std::alloc::{AllocError, AllocFailed, Global};
 
 /// Why a manifest has no catalog, and where.
-#[derive(Debug, Drop, PartialEq, Eq)]
+#[derive(Debug)]
 pub struct Fault {
     pub at: Place,
-    pub what: What,
+    pub what: Boxed<What>,
+}
+
+// By hand, so that no crate above proves the drops of the details again.
+impl Drop for Fault {
+    fn drop(self) {
+        let Fault {
+            at: _at,
+            what: _what,
+        } = self;
+    }
+}
+
+impl Fault {
+    pub fn new(alloc: Global, at: Place, what: What) -> Result<Fault, Memory>
+        ensures { IfOk result (λ f. f ≡ fault at what) }
+    {
+        let what = Boxed::new(alloc, what)?;
+        Ok(Fault { at, what })
+    }
 }
 
 /// A fault of the language, with its details. The faults are numbered from 1 in this order.
-#[derive(Debug, Drop, PartialEq, Eq)]
+#[derive(Debug, Drop)]
 pub enum What {
     /// The text follows no rule of the grammar.
     Syntax,
@@ -126,22 +148,23 @@ pub enum What {
     NotBuilt,
 }
 
-/// What a fault is about: one resource, or a kind of resource, in lower case.
-#[derive(Debug, Drop, PartialEq, Eq)]
+/// What a fault is about: one resource, or a kind of resource.
+#[derive(Debug, Drop)]
 pub enum Subject {
     Reference(Reference),
-    Kind(Text),
+    Kind(Kind),
 }
 
 /// Why a call of the language gave no value.
-#[derive(Debug, Drop, PartialEq, Eq)]
+#[derive(Debug, Drop)]
 pub enum Stop {
     Fault(Fault),
     Memory,
 }
 
 impl From<Fault> for Stop {
-    ghost use Rattle.std.specs.Prelude.{◌≡◌};
+    ghost use Rattle.std.specs.Prelude.{◌≡◌, IfOk};
+    ghost use Rattle.pp_values.specs.Faults.{fault};
     ghost use Rattle.pp_values.specs.declared.fault.Stop.TheVariants as stop;
 
     ghost from_gives = { λ fault s. s ≡ stop.Fault fault };
@@ -152,7 +175,8 @@ impl From<Fault> for Stop {
 }
 
 impl From<Memory> for Stop {
-    ghost use Rattle.std.specs.Prelude.{◌≡◌};
+    ghost use Rattle.std.specs.Prelude.{◌≡◌, IfOk};
+    ghost use Rattle.pp_values.specs.Faults.{fault};
     ghost use Rattle.pp_values.specs.declared.fault.Stop.TheVariants as stop;
 
     ghost from_gives = { λ _ s. s ≡ stop.Memory };
@@ -163,7 +187,8 @@ impl From<Memory> for Stop {
 }
 
 impl From<AllocError> for Stop {
-    ghost use Rattle.std.specs.Prelude.{◌≡◌};
+    ghost use Rattle.std.specs.Prelude.{◌≡◌, IfOk};
+    ghost use Rattle.pp_values.specs.Faults.{fault};
     ghost use Rattle.pp_values.specs.declared.fault.Stop.TheVariants as stop;
 
     ghost from_gives = { λ _ s. s ≡ stop.Memory };
@@ -174,7 +199,8 @@ impl From<AllocError> for Stop {
 }
 
 impl<T: Drop> From<AllocFailed<T>> for Stop {
-    ghost use Rattle.std.specs.Prelude.{◌≡◌};
+    ghost use Rattle.std.specs.Prelude.{◌≡◌, IfOk};
+    ghost use Rattle.pp_values.specs.Faults.{fault};
     ghost use Rattle.pp_values.specs.declared.fault.Stop.TheVariants as stop;
 
     ghost from_gives = { λ _ s. s ≡ stop.Memory };

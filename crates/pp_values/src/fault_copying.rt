@@ -3,6 +3,7 @@ ghost use Rattle.std.specs.Prelude.{◌≡◌, IfOk};
 
 use crate::fault::{Fault, Subject, What};
 use crate::memory::Memory;
+use crate::refs::copy_refs;
 use std::alloc::Global;
 
 impl Fault {
@@ -10,8 +11,8 @@ impl Fault {
         ensures { IfOk result (λ f. f ≡ self.now) }
     {
         let at = self.at.copy(alloc)?;
-        let what = self.what.copy(alloc)?;
-        Ok(Fault { at, what })
+        let what = self.what.get().copy(alloc)?;
+        Fault::new(alloc, at, what)
     }
 }
 
@@ -64,7 +65,7 @@ impl What {
             }
             What::NoOverrideTarget(reference) => Ok(What::NoOverrideTarget(reference.copy(alloc)?)),
             What::NoRelationTarget(reference) => Ok(What::NoRelationTarget(reference.copy(alloc)?)),
-            What::Cycle(references) => Ok(What::Cycle(references.copy(alloc)?)),
+            What::Cycle(references) => Ok(What::Cycle(copy_refs(alloc, references)?)),
             What::NoNode(node) => Ok(What::NoNode(node.copy(alloc)?)),
             What::LookupMissing(key) => Ok(What::LookupMissing(key.copy(alloc)?)),
             What::LookupLoop(key) => Ok(What::LookupLoop(key.copy(alloc)?)),

@@ -44,7 +44,7 @@ pub fn write_value(out: &mut String, value: &Value) -> Result<(), Memory>
             write_text(out, "}")
         }
         Value::Ref(reference) => write_quoted_reference(out, reference),
-        Value::Kind(ptype) => write_type(out, ptype),
+        Value::Kind(ptype) => write_type(out, ptype.as_type()),
         Value::Default => write_text(out, "default"),
     }
 }

@@ -4,6 +4,9 @@ use crate::memory::Memory;
 use crate::text::Text;
 use std::alloc::Global;
 
+/// The path of the main manifest in a site.
+pub const MAIN_MANIFEST: &str = "manifests/site.pp";
+
 /// A line of a file. Lines count from 1.
 #[derive(Debug, Drop, PartialEq, Eq)]
 pub struct Place {

@@ -1,8 +1,9 @@
 //! How kinds, titles and references are printed.
 ghost use Rattle.std.specs.Prelude.{◌≡◌, ◌==◌, ◌++◌, if◌then◌else◌, IfOk, OnOk, encode_utf8, string_bytes};
 ghost use Rattle.std.specs.Char.{to_ascii_uppercase};
-ghost use Rattle.pp_values.specs.Words.{before, is_quote_or_backslash, escaped, quoted, kind_text, reference_text, quoted_reference_text};
+ghost use Rattle.pp_values.specs.Words.{ArePrintedApart, before, is_quote_or_backslash, escaped, quoted, kind_text, reference_text, quoted_reference_text};
 
+use crate::kind::Kind;
 use crate::memory::Memory;
 use crate::reference::Reference;
 use crate::text::Text;
@@ -12,7 +13,7 @@ use std::alloc::Global;
 ///
 /// Where there is no memory, the beginning of what was to be appended may stand in `out`. So it is with the
 /// other calls that append.
-pub fn write_kind(out: &mut String, kind: &Text) -> Result<(), Memory>
+pub fn write_kind(out: &mut String, kind: &Kind) -> Result<(), Memory>
     ensures { OnOk result (string_bytes out.new ≡ string_bytes out.old ++ kind_text kind.now) }
 {
     let mut last = ':';
@@ -35,7 +36,7 @@ pub fn write_reference(out: &mut String, reference: &Reference) -> Result<(), Me
 }
 
 /// A kind of resource as it is printed: `Web::Vhost` for `web::vhost`.
-pub fn kind_text(alloc: Global, kind: &Text) -> Result<Text, Memory>
+pub fn kind_text(alloc: Global, kind: &Kind) -> Result<Text, Memory>
     ensures { IfOk result (λ t. t ≡ kind_text kind.now) }
 {
     let mut out = String::new(alloc);
@@ -51,6 +52,11 @@ pub fn reference_text(alloc: Global, reference: &Reference) -> Result<Text, Memo
     write_reference(&mut out, reference)?;
     Ok(Text::new(out))
 }
+
+/// References are the same where documents and faults print them alike.
+pub fn references_print_apart()
+    ensures { ArePrintedApart }
+{}
 
 /// Appends a reference as an interpolated text shows it: `Web::Vhost['a']`.
 pub(crate) fn write_quoted_reference(out: &mut String, reference: &Reference) -> Result<(), Memory>

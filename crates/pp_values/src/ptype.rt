@@ -1,6 +1,7 @@
 ghost use Rattle.std.specs.Prelude.{◌≡◌, IfOk};
 
 use crate::bounds::Bounds;
+use crate::kind::Kind;
 use crate::memory::Memory;
 use crate::text::Text;
 use crate::texts::Texts;
@@ -39,8 +40,8 @@ pub enum PType {
     Class(Option<Text>),
     /// `Resource`: all kinds of resource.
     ResourceKind,
-    /// A kind of resource in lower case, of a title or bare.
-    Resource { kind: Text, title: Option<Text> },
+    /// A kind of resource, of a title or bare.
+    Resource { kind: Kind, title: Option<Text> },
 }
 
 /// The type of members and the bounds on their count: `T, min, max` in `Array[T, min, max]`.

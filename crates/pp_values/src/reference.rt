@@ -1,14 +1,25 @@
 ghost use Rattle.std.specs.Prelude.{◌≡◌, IfOk};
 
+use crate::kind::Kind;
 use crate::memory::Memory;
 use crate::text::Text;
 use std::alloc::Global;
 
-/// The name of a resource: its kind in lower case, such as `web::vhost`, and its title.
-#[derive(Debug, Drop)]
+/// The name of a resource: its kind, such as `web::vhost`, and its title.
+#[derive(Debug)]
 pub struct Reference {
-    pub kind: Text,
+    pub kind: Kind,
     pub title: Text,
+}
+
+// By hand, so that a value is dropped by one call where it is a reference.
+impl Drop for Reference {
+    fn drop(self) {
+        let Reference {
+            kind: _kind,
+            title: _title,
+        } = self;
+    }
 }
 
 impl Reference {

@@ -2,9 +2,11 @@
 ghost use Rattle.std.specs.Prelude.{◌≡◌, IfOk};
 ghost use Rattle.pp_values.specs.PTypes.{sort};
 
+use crate::kind::Kind;
 use crate::memory::Memory;
 use crate::ptype::{EntryType, MemberType, PType, TypeBox};
 use crate::text::Text;
+use crate::texts::copy_texts;
 use crate::types::Types;
 use std::alloc::Global;
 
@@ -21,7 +23,7 @@ pub fn copy_type(alloc: Global, ptype: &PType) -> Result<PType, Memory>
         PType::Integer(bounds) => Ok(PType::Integer(*bounds)),
         PType::Numeric => Ok(PType::Numeric),
         PType::String(bounds) => Ok(PType::String(*bounds)),
-        PType::Enum(texts) => Ok(PType::Enum(texts.copy(alloc)?)),
+        PType::Enum(texts) => Ok(PType::Enum(copy_texts(alloc, texts)?)),
         PType::Scalar => Ok(PType::Scalar),
         PType::Data => Ok(PType::Data),
         PType::Array(members) => Ok(PType::Array(copy_members(alloc, members)?)),
@@ -49,6 +51,13 @@ pub fn copy_types(alloc: Global, types: &Types) -> Result<Types, Memory>
         copies.push(copy_type(alloc, item)?)?;
     }
     Ok(copies)
+}
+
+/// A data type that says the same.
+pub fn copy_type_box(alloc: Global, inner: &TypeBox) -> Result<TypeBox, Memory>
+    ensures { IfOk result (λ t. t ≡ inner.now) }
+{
+    TypeBox::new(alloc, copy_type(alloc, inner.as_type())?)
 }
 
 #[cycle(copy_type)]
@@ -97,7 +106,7 @@ fn copy_title(alloc: Global, title: &Option<Text>) -> Result<Option<Text>, Memor
     }
 }
 
-fn copy_resource_type(alloc: Global, kind: &Text, title: &Option<Text>) -> Result<PType, Memory>
+fn copy_resource_type(alloc: Global, kind: &Kind, title: &Option<Text>) -> Result<PType, Memory>
     ensures { IfOk result (λ t. t ≡ PType.Resource kind.now title.now) }
 {
     let title = copy_title(alloc, title)?;

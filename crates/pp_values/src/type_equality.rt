@@ -110,7 +110,7 @@ fn same_title(a: &Option<Text>, b: &Option<Text>) -> bool
 fn same_texts(a: &Texts, b: &Texts) -> bool
     ensures { result ≡ same_arguments (texts_arguments a.now) (texts_arguments b.now) }
 {
-    a == b
+    a.as_slice() == b.as_slice()
 }
 
 #[cycle(same_type)]

@@ -1,5 +1,5 @@
 use crate::pairs::Pairs;
-use crate::ptype::PType;
+use crate::ptype::TypeBox;
 use crate::reference::Reference;
 use crate::text::Text;
 use crate::values::Values;
@@ -17,7 +17,7 @@ pub enum Value {
     /// A reference to a resource, such as `File['/tmp']`.
     Ref(Reference),
     /// A data type as a value.
-    Kind(PType),
+    Kind(TypeBox),
     /// The literal `default`.
     Default,
 }

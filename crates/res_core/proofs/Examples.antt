@@ -1,6 +1,6 @@
 -- What the definitions give on worked examples.
 use Rattle.std.proofs.Common.{◌≡◌, false, [], ◌∷◌, refl, codes}
-use Rattle.res_core.specs.Rising.{sorted, is_rising}
+use Rattle.pp_values.specs.Rising.{sorted, is_rising}
 use Rattle.res_core.specs.TagNames.{segments, is_word_byte, is_tag_byte, is_taggable, tags}
 
 each_once : sorted (codes "b" ∷ codes "a" ∷ codes "b" ∷ []) ≡ codes "a" ∷ codes "b" ∷ []

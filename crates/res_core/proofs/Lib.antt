@@ -1,4 +1,3 @@
-pub mod RisingLemmas
 pub mod SegmentLemmas
 pub mod NameLemmas
 mod Examples

@@ -2,9 +2,9 @@
 use Rattle.std.proofs.Common.{◌≡◌, ℕ, Bool, true, false, ◌||◌, IsTrue, List, [], ◌∷◌, ◌++◌, map, filter, refl, ap, sym, ◌∙◌, if◌then◌else◌}
 use Rattle.std.proofs.lemmas.List.{map-append}
 use Rattle.std.specs.BTreeSet.{insert_key}
-use Rattle.res_core.specs.Rising.{text_cmp, with_texts, sorted, is_rising, has_text}
+use Rattle.pp_values.specs.Rising.{text_cmp, with_texts, sorted, is_rising, has_text}
 use Rattle.res_core.specs.TagNames.{segments, is_filled, is_taggable, with_segments, names, lowered, tags, TagsAreTheSet}
-use Rattle.res_core.proofs.RisingLemmas.{is_rising-with_texts, has_text-with_texts, same_rising}
+use Rattle.pp_values.proofs.RisingLemmas.{is_rising-with_texts, has_text-with_texts, same_rising}
 
 pub with_texts-append : (ts us held : List (List ℕ)) → with_texts held (ts ++ us) ≡ with_texts (with_texts held ts) us
 with_texts-append [] us held = refl

@@ -1,6 +1,4 @@
-pub mod Rising
 pub mod TagNames
-pub mod Settings
 pub mod AttributeViews
 pub mod ResourceCodes
 pub mod ExportedCodes

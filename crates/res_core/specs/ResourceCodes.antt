@@ -2,7 +2,7 @@
 use Rattle.std.specs.Prelude.{ℕ, List, refl}
 use Rattle.std.specs.Coded.{Coded, code_by, coded×, coded_ℕ, coded_list}
 use Rattle.pp_values.specs.Codes.{coded_text}
-use Rattle.res_core.specs.Settings.{Setting, coded_settings}
+use Rattle.pp_values.specs.Settings.{Setting, coded_settings}
 use Rattle.res_core.specs.declared.resource.Resource.{Resource}
 use Rattle.res_core.specs.declared.held.Held.{Held}
 

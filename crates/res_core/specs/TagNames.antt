@@ -2,7 +2,7 @@
 use Rattle.std.specs.Prelude.{◌≡◌, ◌↔◌, ℕ, Bool, true, false, IsTrue, ◌&&◌, ◌||◌, ◌==◌, if◌then◌else◌, List, [], ◌∷◌, ◌++◌, map, filter}
 use Rattle.std.specs.List.{list_all, onto_first}
 use Rattle.std.specs.Char.{to_ascii_lowercase, is_ascii_alphanumeric}
-use Rattle.res_core.specs.Rising.{is_rising, has_text, sorted}
+use Rattle.pp_values.specs.Rising.{is_rising, has_text, sorted}
 
 -- the parts of a name between its `::`, which are found from the left; empty parts too
 unfoldable pub segments : List ℕ → List (List ℕ)

@@ -1,6 +1,6 @@
 ghost use Rattle.std.specs.Prelude.{◌≡◌, [], ◌↔◌, length, IsTrue};
-ghost use Rattle.res_core.specs.Rising.{is_rising};
-ghost use Rattle.res_core.specs.Settings.{setting_names};
+ghost use Rattle.pp_values.specs.Rising.{is_rising};
+ghost use Rattle.pp_values.specs.Settings.{setting_names};
 ghost use Rattle.res_core.specs.AttributeViews.{settings};
 
 use crate::attribute::Attribute;
@@ -10,22 +10,28 @@ use std::marker::Model;
 /// The attributes of a resource, whose names rise in byte order. No name stands twice.
 ///
 /// A contract sees each name with what its value says.
-#[derive(Drop)]
 pub struct Attributes {
     items: Vec<Attribute>,
 }
 
+// By hand, so that no crate above proves the drops of values again.
+impl Drop for Attributes {
+    fn drop(self) {
+        let Attributes { items: _items } = self;
+    }
+}
+
 impl Model for Attributes {
     ghost use Rattle.std.specs.Prelude.{List};
-    ghost use Rattle.res_core.specs.Settings.{Setting, coded_settings};
+    ghost use Rattle.pp_values.specs.Settings.{Setting, coded_settings};
 
     ghost Value = { List Setting };
 
     ghost coded = { coded_settings };
 
     ghost use Rattle.std.specs.Prelude.{IsTrue};
-    ghost use Rattle.res_core.specs.Rising.{is_rising};
-    ghost use Rattle.res_core.specs.Settings.{setting_names};
+    ghost use Rattle.pp_values.specs.Rising.{is_rising};
+    ghost use Rattle.pp_values.specs.Settings.{setting_names};
     ghost use Rattle.res_core.specs.AttributeViews.{settings};
 
     ghost view = { λ a. settings a.items.items };
@@ -53,7 +59,8 @@ impl Attributes {
         ensures attributes { settings result.items ≡ self }
         ensures rising { IsTrue (is_rising (setting_names self)) }
     {
-        self.items
+        let Attributes { items } = self;
+        items
     }
 
     pub fn len(&self) -> usize

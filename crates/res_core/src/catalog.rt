@@ -1,7 +1,7 @@
 use crate::edges::EdgeList;
 use crate::held_list::HeldList;
 use crate::log_lines::LogLines;
-use pp_values::text::Text;
+use pp_values::Text;
 
 /// What a node is to be: its resources and their order.
 ///

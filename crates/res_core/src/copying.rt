@@ -5,8 +5,7 @@ ghost use Rattle.res_core.specs.AttributeViews.{setting};
 use crate::attribute::Attribute;
 use crate::attributes::Attributes;
 use crate::resource::Resource;
-use pp_values::copying::copy;
-use pp_values::memory::Memory;
+use pp_values::{Memory, copy};
 use std::alloc::Global;
 
 /// An attribute of the same name, whose value says the same.

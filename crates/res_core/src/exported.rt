@@ -1,5 +1,5 @@
 use crate::resource::Resource;
-use pp_values::place::Place;
+use pp_values::Place;
 
 /// A resource that a node exports.
 #[derive(Drop)]

@@ -1,4 +1,4 @@
-use pp_values::text::Text;
+use pp_values::Text;
 
 /// What a log function of the language wrote.
 #[derive(Debug, Drop)]

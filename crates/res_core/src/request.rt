@@ -1,5 +1,4 @@
-use pp_values::text::Text;
-use pp_values::value::Value;
+use pp_values::{Text, Value};
 
 /// A node asks for its catalog.
 #[derive(Drop)]

@@ -1,12 +1,10 @@
 ghost use Rattle.std.specs.Prelude.{◌≡◌, ◌∷◌, [], map, filter, if◌then◌else◌, IfOk, OnOk, IsTrue};
 ghost use Rattle.std.specs.List.{list_all};
-ghost use Rattle.res_core.specs.Rising.{is_rising, with_texts};
+ghost use Rattle.pp_values.specs.Rising.{is_rising, with_texts};
 ghost use Rattle.res_core.specs.TagNames.{is_word_byte as word_byte, is_tag_byte as tag_byte, is_taggable as taggable, is_filled, segments, with_segments, lowered, tags, TagsAreTheSet};
 
 use crate::tags::Tags;
-use pp_values::memory::Memory;
-use pp_values::text::Text;
-use pp_values::texts::Texts;
+use pp_values::{Memory, Text, Texts};
 use std::alloc::Global;
 use std::collections::BTreeSet;
 

@@ -1,8 +1,7 @@
 ghost use Rattle.std.specs.Prelude.{◌≡◌, [], ◌↔◌, length, IfOk, IsTrue};
-ghost use Rattle.res_core.specs.Rising.{is_rising};
+ghost use Rattle.pp_values.specs.Rising.{is_rising};
 
-use pp_values::memory::Memory;
-use pp_values::text::Text;
+use pp_values::{Memory, Text};
 use std::alloc::Global;
 use std::marker::Model;
 
@@ -18,7 +17,7 @@ impl Model for Tags {
     ghost Value = { List (List ℕ) };
 
     ghost use Rattle.std.specs.Prelude.{IsTrue};
-    ghost use Rattle.res_core.specs.Rising.{is_rising};
+    ghost use Rattle.pp_values.specs.Rising.{is_rising};
 
     ghost view = { λ t. t.items.items };
 

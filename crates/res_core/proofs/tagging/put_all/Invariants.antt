@@ -1,5 +1,5 @@
 use Rattle.std.proofs.Common.{◌≡◌, map, length}
-use Rattle.res_core.specs.Rising.{with_texts}
+use Rattle.pp_values.specs.Rising.{with_texts}
 use Rattle.res_core.specs.TagNames.{lowered}
 use Rattle.res_core.proofs.tagging.put_all.Given as goal
 

@@ -1,5 +1,5 @@
 use Rattle.std.proofs.Common.{sym, ap, ◌∙◌, map, filter, rules}
-use Rattle.res_core.specs.Rising.{with_texts}
+use Rattle.pp_values.specs.Rising.{with_texts}
 use Rattle.res_core.specs.TagNames.{lowered, is_filled}
 use Rattle.res_core.proofs.SegmentLemmas.{segments_split, segments_whole}
 use Rattle.res_core.proofs.NameLemmas.{segment_more}

@@ -1,7 +1,7 @@
 use Rattle.std.proofs.Common.{◌≡◌, map, filter, length}
 use denote.Shadow.{shadow}
 use denote.Text.{Utf8}
-use Rattle.res_core.specs.Rising.{with_texts}
+use Rattle.pp_values.specs.Rising.{with_texts}
 use Rattle.res_core.specs.TagNames.{lowered, is_filled, segments}
 use Rattle.res_core.proofs.tagging.put_segments.Given as goal
 

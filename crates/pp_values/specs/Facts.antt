@@ -3,7 +3,7 @@
 use Rattle.std.specs.Prelude.{ℕ, Bool, true, false, ◌&&◌, List}
 use Rattle.std.specs.Ordering.{is_lt}
 use Rattle.pp_values.specs.Datum.{Datum, undef, flag, int, text, list, hash, Data, no_data, datum, Entries, no_entries, entry}
-use Rattle.res_core.specs.Rising.{text_cmp}
+use Rattle.pp_values.specs.Rising.{text_cmp}
 
 -- the first of the keys, if there is one, is a text above this one
 abbrev pub is_next_above : List ℕ → Entries → Bool

@@ -1,6 +1,6 @@
 -- The items copied so far are those before the index.
 use Rattle.std.proofs.Common.{◌≡◌, take}
-use Rattle.pp_values.proofs.refs.Refs.copy.Given as goal
+use Rattle.pp_values.proofs.texts.copy_texts.Given as goal
 
 abbrev pub invariant-loop-item : goal.invariant-loop-item
 invariant-loop-item l = l.items.items ≡ take l.item-index l.item-items

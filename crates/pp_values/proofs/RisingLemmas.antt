@@ -9,7 +9,7 @@ use Rattle.std.proofs.lemmas.Cmp.{nat_list_cmp_total}
 use Rattle.std.proofs.lemmas.Map.Text.{is_eq-slice_cmp}
 use Rattle.std.specs.BTreeSet.{insert_key}
 use Rattle.std.specs.Str.{bytes_eq}
-use Rattle.res_core.specs.Rising.{text_cmp, precedes, is_rising, has_text, with_texts}
+use Rattle.pp_values.specs.Rising.{text_cmp, precedes, is_rising, has_text, with_texts}
 
 less : (o : Ordering) → is_lt o ≡ true → o ≡ Less
 less Less e = refl

@@ -80,15 +80,16 @@ module _ {K : Type 0} (order : K → K → Ordering) (test : K → Bool) (k : K)
   turned false true = refl
   turned false false = refl
 
+  at_place : (x : K) (xs : List K) → (list_any (is_at (order k)) xs ≡ false → list_any test (insert_key order xs k) ≡ (list_any test xs || test k))
+      → (o : Ordering) → (is_eq o || list_any (is_at (order k)) xs) ≡ false
+      → list_any test (match_ordering o (k ∷ x ∷ xs) (x ∷ xs) (x ∷ insert_key order xs k)) ≡ ((test x || list_any test xs) || test k)
+  at_place x xs rest Less h = turned (test k) (test x || list_any test xs)
+  at_place x xs rest Equal h = absurd (true≢false h)
+  at_place x xs rest Greater h = ap (λ b. test x || b) (rest h) ∙ sym (or_assoc (test x) (list_any test xs) (test k))
+
   list_any-insert_key : (xs : List K) → list_any (is_at (order k)) xs ≡ false → list_any test (insert_key order xs k) ≡ (list_any test xs || test k)
   list_any-insert_key [] absent = turned (test k) false
-  list_any-insert_key (x ∷ xs) absent = by (order k x) absent
-    where
-      by : (o : Ordering) → (is_eq o || list_any (is_at (order k)) xs) ≡ false
-          → list_any test (match_ordering o (k ∷ x ∷ xs) (x ∷ xs) (x ∷ insert_key order xs k)) ≡ ((test x || list_any test xs) || test k)
-      by Less h = turned (test k) (test x || list_any test xs)
-      by Equal h = absurd (true≢false h)
-      by Greater h = ap (λ b. test x || b) (list_any-insert_key xs h) ∙ sym (or_assoc (test x) (list_any test xs) (test k))
+  list_any-insert_key (x ∷ xs) absent = at_place x xs (list_any-insert_key xs) (order k x) absent
 
 -- one more text, and one more number
 same_text : (u t : List ℕ) → is_eq (slice_cmp nat_cmp u t) ≡ bytes_eq t u

@@ -8,7 +8,7 @@ use Rattle.pp_tree.specs.declared.expr.Operation.{Operation}
 use Rattle.pp_parser.specs.declared.started.Started.{Started}
 use Rattle.pp_parser.specs.Input.{Input, Parser, Outcome, and_then, ◌>>=◌, ◌>>◌, pure, expect, turns, more_or_done, repeat, repeat_from}
 use Rattle.pp_parser.specs.Inner.{Inner}
-use Rattle.pp_parser.specs.Expressions.{piece_rule, pieces, postfix_rule, postfixes, postfixed, operation_rule, operand_from, chain, chained}
+use Rattle.pp_parser.specs.Expressions.{piece_rule, pieces, postfix_rule, postfixes, postfixed, operation_rule, operand, operand_from, chain, chained, climb}
 use Rattle.pp_parser.proofs.Turns.{one_more, no_more}
 
 module _ {A : Type 0} (step : Parser (Option A)) where
@@ -50,11 +50,6 @@ module _ (inner : Inner) where
   unfolding postfixes
   postfixes_behind bars s i = repeat_then (postfix_rule inner bars) s.postfixes (λ all. pure (postfixed s.base all)) i
 
-  -- what `n` strengths from this one on add behind what is read already
-  unfoldable pub climb : Bool → (n strength : ℕ) → Expr → Parser Expr
-  climb bars zero strength x = pure x
-  climb bars (suc n) strength x = repeat (operation_rule inner (chain inner bars (strength - 1) None) strength) >>= (λ more. climb bars n (strength + 1) (chained x more))
-
   passes : (o : Outcome Expr) → o ≡ and_then o pure
   passes (Ok p) = refl
   passes (Err e) = refl
@@ -69,8 +64,8 @@ module _ (inner : Inner) where
   chained_then (Err e) more g = refl
 
   one_strength : (bars : Bool) (n tighter : ℕ) (o : Outcome Expr)
-      → and_then o (λ x. repeat (operation_rule inner (chain inner bars tighter None) (suc tighter)) >>= (λ all. climb bars n (suc (suc tighter)) (chained x all)))
-      ≡ and_then o (climb bars (suc n) (suc tighter))
+      → and_then o (λ x. repeat (operation_rule inner (chain inner bars tighter None) (suc tighter)) >>= (λ all. climb inner bars n (suc (suc tighter)) (chained x all)))
+      ≡ and_then o (climb inner bars (suc n) (suc tighter))
   unfolding climb
   one_strength bars n tighter (Ok p) =
       let one : suc tighter + 1 ≡ suc (suc tighter) = omega arith in
@@ -79,30 +74,34 @@ module _ (inner : Inner) where
   one_strength bars n tighter (Err e) = refl
 
   climbs : (bars : Bool) (n tighter : ℕ) (start : Option Started) (i : Input)
-      → chain inner bars (n + tighter) start i ≡ and_then (chain inner bars tighter start i) (climb bars n (suc tighter))
+      → chain inner bars (n + tighter) start i ≡ and_then (chain inner bars tighter start i) (climb inner bars n (suc tighter))
   unfolding chain climb
   climbs bars zero tighter start i = let none : 0 + tighter ≡ tighter = omega arith in rw none (passes (chain inner bars tighter start i))
   climbs bars (suc n) tighter start i =
       let next : suc n + tighter ≡ n + suc tighter = omega arith in
       ap (λ m. chain inner bars m start i) next
       ∙ climbs bars n (suc tighter) start i
-      ∙ chained_then (chain inner bars tighter start i) (repeat (operation_rule inner (chain inner bars tighter None) (suc tighter))) (climb bars n (suc (suc tighter)))
+      ∙ chained_then (chain inner bars tighter start i) (repeat (operation_rule inner (chain inner bars tighter None) (suc tighter))) (climb inner bars n (suc (suc tighter)))
       ∙ one_strength bars n tighter (chain inner bars tighter start i)
 
   pub chain_climbs : (bars : Bool) (loosest : ℕ) (start : Option Started) (i : Input)
-      → chain inner bars loosest start i ≡ and_then (operand_from inner bars start i) (climb bars (loosest + 1 - 1) 1)
+      → chain inner bars loosest start i ≡ and_then (operand_from inner bars start i) (climb inner bars loosest 1)
   unfolding chain
   chain_climbs bars loosest start i =
       let all : loosest ≡ loosest + 0 = omega arith in
-      let same : loosest + 1 - 1 ≡ loosest = omega arith in
-      rw same (ap (λ n. chain inner bars n start i) all ∙ climbs bars loosest 0 start i)
+      ap (λ n. chain inner bars n start i) all ∙ climbs bars loosest 0 start i
+
+  -- an operand and what tighter operators add behind it
+  pub chain_behind : (bars : Bool) (strength : ℕ) (i : Input)
+      → chain inner bars strength None i ≡ and_then (operand inner bars i) (climb inner bars strength 1)
+  chain_behind bars strength i = chain_climbs bars strength None i
 
   pub climb_on : (bars : Bool) (end strength : ℕ) (x : Expr) (i : Input) → strength < end
-      → climb bars (end - strength) strength x i
-      ≡ and_then (repeat (operation_rule inner (chain inner bars (strength - 1) None) strength) i) (λ more. climb bars (end - (strength + 1)) (strength + 1) (chained x more))
+      → climb inner bars (end - strength) strength x i
+      ≡ and_then (repeat (operation_rule inner (chain inner bars (strength - 1) None) strength) i) (λ more. climb inner bars (end - (strength + 1)) (strength + 1) (chained x more))
   unfolding climb
-  climb_on bars end strength x i below = one_more (λ n. climb bars n strength x i) end strength below
+  climb_on bars end strength x i below = one_more (λ n. climb inner bars n strength x i) end strength below
 
-  pub climb_done : (bars : Bool) (end strength : ℕ) (x : Expr) (i : Input) → end ≤ strength → climb bars (end - strength) strength x i ≡ Ok (x, i)
+  pub climb_done : (bars : Bool) (end strength : ℕ) (x : Expr) (i : Input) → end ≤ strength → climb inner bars (end - strength) strength x i ≡ Ok (x, i)
   unfolding climb
-  climb_done bars end strength x i done = no_more (λ n. climb bars n strength x i) end strength done
+  climb_done bars end strength x i done = no_more (λ n. climb inner bars n strength x i) end strength done

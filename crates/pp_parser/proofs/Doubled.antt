@@ -3,13 +3,15 @@ use Rattle.std.proofs.Common.{◌≡◌, ℕ, ℤ, suc, ◌+◌, ◌<◌, ◌≤
 use Rattle.std.proofs.Math.Bool.{or-false, or_assoc}
 use Rattle.std.proofs.Math.Seq.{drop-cons, take-suc}
 use Rattle.std.proofs.Math.ListN.{drop_of_length-le}
-use Rattle.std.proofs.lemmas.List.Folds.{list_any-append}
 use Rattle.std.specs.Cmp.{int_eq_equiv}
-use Rattle.std.specs.Cmp.Lexicographic.{nat_list_eq_equiv}
+use Rattle.std.specs.Cmp.Lexicographic.{slice_cmp, nat_list_eq_equiv, texts_ties}
 use Rattle.std.specs.List.{list_any}
-use Rattle.std.specs.Ordering.{int_eq}
+use Rattle.std.specs.BTreeMap.{is_at}
+use Rattle.std.specs.BTreeSet.{insert_key}
+use Rattle.std.specs.Ordering.{nat_cmp, int_cmp, is_eq, match_ordering}
+use Rattle.std.specs.declared.cmp.Ordering.{Ordering}
+use Rattle.std.specs.declared.cmp.Ordering.TheVariants.{Less, Equal, Greater}
 use Rattle.std.specs.Str.{bytes_eq}
-use Rattle.indexmap.specs.IndexSet.{insert_key}
 use Rattle.pp_tree.specs.declared.expr.Expr.{Expr}
 use Rattle.pp_tree.specs.declared.expr.Pair.{Pair}
 use Rattle.pp_tree.specs.declared.collector.Test.TheOpen.{Form-F}
@@ -17,13 +19,22 @@ use Rattle.pp_tree.specs.declared.expr.Form.{out-Form, roll-Form, roll-out-Form}
 use Rattle.pp_tree.specs.declared.expr.Form as forms
 use Rattle.pp_tree.specs.declared.expr.Form.TheVariants as Form
 use Rattle.pp_tree.specs.Building.{form_of, line_of}
-use Rattle.pp_parser.specs.Layers.{FormLayer}
+use Rattle.pp_tree.specs.Layers.{FormLayer}
 use Rattle.pp_parser.specs.Keys.{Written, text, number, written, written_by, same_written, is_key, doubled_from, doubled_key}
 
 -- whether what a key says is among these texts or numbers
+abbrev pub text_order : Bor (List ℕ) → Bor (List ℕ) → Ordering
+text_order x y = slice_cmp nat_cmp x.now y.now
+
+abbrev is_text : List ℕ → Bor (List ℕ) → Bool
+is_text t x = is_eq (slice_cmp nat_cmp t x.now)
+
+abbrev is_number : ℤ → ℤ → Bool
+is_number n m = is_eq (int_cmp n m)
+
 unfoldable pub is_among : List (Bor (List ℕ)) → List ℤ → Option Written → Bool
-is_among texts numbers (Some (text t)) = list_any (λ x. bytes_eq t x.now) texts
-is_among texts numbers (Some (number n)) = list_any (int_eq n) numbers
+is_among texts numbers (Some (text t)) = list_any (is_text t) texts
+is_among texts numbers (Some (number n)) = list_any (is_number n) numbers
 is_among texts numbers None = false
 
 -- the texts and numbers are what the pairs before the place say, and no key of these stands twice
@@ -61,22 +72,44 @@ is_key_push key [] p = or-false (same_written (written p.key) (written key))
 is_key_push key (e ∷ es) p = ap (λ b. same_written (written e.key) (written key) || b) (is_key_push key es p)
     ∙ sym (or_assoc (same_written (written e.key) (written key)) (is_key key es) (same_written (written p.key) (written key)))
 
--- one more text, and one more number
-text_push : (texts : List (Bor (List ℕ))) (numbers : List ℤ) (t : Bor (List ℕ)) (w : Option Written)
-    → is_among (texts ++ t ∷ []) numbers w ≡ (is_among texts numbers w || same_written (Some (text t.now)) w)
-unfolding is_among same_written
-text_push texts numbers t (Some (text u)) = list_any-append (λ x. bytes_eq u x.now) texts (t ∷ [])
-    ∙ ap (λ b. list_any (λ x. bytes_eq u x.now) texts || b) (or-false (bytes_eq u t.now) ∙ nat_list_eq_equiv.symm u t.now)
-text_push texts numbers t (Some (number n)) = sym (or-false (list_any (int_eq n) numbers))
-text_push texts numbers t None = refl
+-- what passes a test among the keys of a set, when a key comes that was not there
+module _ {K : Type 0} (order : K → K → Ordering) (test : K → Bool) (k : K) where
+  turned : (b : Bool) (bs : Bool) → (b || bs) ≡ (bs || b)
+  turned true true = refl
+  turned true false = refl
+  turned false true = refl
+  turned false false = refl
 
-number_push : (texts : List (Bor (List ℕ))) (numbers : List ℤ) (n : ℤ) (w : Option Written)
-    → is_among texts (numbers ++ n ∷ []) w ≡ (is_among texts numbers w || same_written (Some (number n)) w)
+  at_place : (x : K) (xs : List K) → (list_any (is_at (order k)) xs ≡ false → list_any test (insert_key order xs k) ≡ (list_any test xs || test k))
+      → (o : Ordering) → (is_eq o || list_any (is_at (order k)) xs) ≡ false
+      → list_any test (match_ordering o (k ∷ x ∷ xs) (x ∷ xs) (x ∷ insert_key order xs k)) ≡ ((test x || list_any test xs) || test k)
+  at_place x xs rest Less h = turned (test k) (test x || list_any test xs)
+  at_place x xs rest Equal h = absurd (true≢false h)
+  at_place x xs rest Greater h = ap (λ b. test x || b) (rest h) ∙ sym (or_assoc (test x) (list_any test xs) (test k))
+
+  list_any-insert_key : (xs : List K) → list_any (is_at (order k)) xs ≡ false → list_any test (insert_key order xs k) ≡ (list_any test xs || test k)
+  list_any-insert_key [] absent = turned (test k) false
+  list_any-insert_key (x ∷ xs) absent = at_place x xs (list_any-insert_key xs) (order k x) absent
+
+-- one more text, and one more number
+same_text : (u t : List ℕ) → is_eq (slice_cmp nat_cmp u t) ≡ bytes_eq t u
+same_text u t = sym (texts_ties u t) ∙ nat_list_eq_equiv.symm u t
+
+text_push : (texts : List (Bor (List ℕ))) (numbers : List ℤ) (t : Bor (List ℕ)) → list_any (is_text t.now) texts ≡ false → (w : Option Written)
+    → is_among (insert_key text_order texts t) numbers w ≡ (is_among texts numbers w || same_written (Some (text t.now)) w)
 unfolding is_among same_written
-number_push texts numbers n (Some (number m)) = list_any-append (int_eq m) numbers (n ∷ [])
-    ∙ ap (λ b. list_any (int_eq m) numbers || b) (or-false (int_eq m n) ∙ int_eq_equiv.symm m n)
-number_push texts numbers n (Some (text u)) = sym (or-false (list_any (λ x. bytes_eq u x.now) texts))
-number_push texts numbers n None = refl
+text_push texts numbers t new (Some (text u)) = list_any-insert_key text_order (is_text u) t texts new
+    ∙ ap (λ b. list_any (is_text u) texts || b) (same_text u t.now)
+text_push texts numbers t new (Some (number n)) = sym (or-false (list_any (is_number n) numbers))
+text_push texts numbers t new None = refl
+
+number_push : (texts : List (Bor (List ℕ))) (numbers : List ℤ) (n : ℤ) → list_any (is_number n) numbers ≡ false → (w : Option Written)
+    → is_among texts (insert_key int_cmp numbers n) w ≡ (is_among texts numbers w || same_written (Some (number n)) w)
+unfolding is_among same_written
+number_push texts numbers n new (Some (number m)) = list_any-insert_key int_cmp (is_number m) n numbers new
+    ∙ ap (λ b. list_any (is_number m) numbers || b) (int_eq_equiv.symm m n)
+number_push texts numbers n new (Some (text u)) = sym (or-false (list_any (is_text u) texts))
+number_push texts numbers n new None = refl
 
 -- a key that says nothing is the same as none
 none_push : (texts : List (Bor (List ℕ))) (numbers : List ℤ) (w : Option Written) → is_among texts numbers w ≡ (is_among texts numbers w || same_written None w)
@@ -124,30 +157,30 @@ module _ (pairs : List (Pair Expr)) (at : ℕ) (d : Pair Expr) (texts : List (Bo
   abbrev pub Turns : Type 0
   Turns = (is_new ≡ false → Some (line_of (get_or pairs at d).key) ≡ doubled_key pairs) × (is_new ≡ true → Walked pairs (at + 1) texts-new numbers-new)
 
-  pub text_turns : (t : Bor (List ℕ)) → written (get_or pairs at d).key ≡ Some (text t.now) → is_new ≡ not (list_any (λ x. bytes_eq t.now x.now) texts)
-      → texts-new ≡ insert_key (λ x y. bytes_eq x.now y.now) texts t → numbers-new ≡ numbers → Turns
+  pub text_turns : (t : Bor (List ℕ)) → written (get_or pairs at d).key ≡ Some (text t.now) → is_new ≡ not (list_any (is_text t.now) texts)
+      → texts-new ≡ insert_key text_order texts t → numbers-new ≡ numbers → Turns
   unfolding is_among
-  text_turns t says tells inserted kept = by (list_any (λ x. bytes_eq t.now x.now) texts) refl
+  text_turns t says tells inserted kept = by (list_any (is_text t.now) texts) refl
     where
-      by : (b : Bool) → list_any (λ x. bytes_eq t.now x.now) texts ≡ b → Turns
+      by : (b : Bool) → list_any (is_text t.now) texts ≡ b → Turns
       by true old = (λ no. found pairs at d texts numbers below so_far (rw (says) old), λ yes. absurd (true≢false (sym yes ∙ tells ∙ ap not old)))
       by false new = (
         λ no. absurd (true≢false (sym (tells ∙ ap not new) ∙ no)),
-        λ yes. rw (inserted, kept, new)
-            (turn pairs at d texts numbers below so_far (texts ++ t ∷ []) numbers (rw (says) new) (λ w. rw (says) (text_push texts numbers t w))),
+        λ yes. rw (inserted, kept)
+            (turn pairs at d texts numbers below so_far (insert_key text_order texts t) numbers (rw (says) new) (λ w. rw (says) (text_push texts numbers t new w))),
       )
 
-  pub number_turns : (n : ℤ) → written (get_or pairs at d).key ≡ Some (number n) → is_new ≡ not (list_any (int_eq n) numbers)
-      → texts-new ≡ texts → numbers-new ≡ insert_key int_eq numbers n → Turns
+  pub number_turns : (n : ℤ) → written (get_or pairs at d).key ≡ Some (number n) → is_new ≡ not (list_any (is_number n) numbers)
+      → texts-new ≡ texts → numbers-new ≡ insert_key int_cmp numbers n → Turns
   unfolding is_among
-  number_turns n says tells kept inserted = by (list_any (int_eq n) numbers) refl
+  number_turns n says tells kept inserted = by (list_any (is_number n) numbers) refl
     where
-      by : (b : Bool) → list_any (int_eq n) numbers ≡ b → Turns
+      by : (b : Bool) → list_any (is_number n) numbers ≡ b → Turns
       by true old = (λ no. found pairs at d texts numbers below so_far (rw (says) old), λ yes. absurd (true≢false (sym yes ∙ tells ∙ ap not old)))
       by false new = (
         λ no. absurd (true≢false (sym (tells ∙ ap not new) ∙ no)),
-        λ yes. rw (kept, inserted, new)
-            (turn pairs at d texts numbers below so_far texts (numbers ++ n ∷ []) (rw (says) new) (λ w. rw (says) (number_push texts numbers n w))),
+        λ yes. rw (kept, inserted)
+            (turn pairs at d texts numbers below so_far texts (insert_key int_cmp numbers n) (rw (says) new) (λ w. rw (says) (number_push texts numbers n new w))),
       )
 
   pub other_turns : written (get_or pairs at d).key ≡ None → is_new ≡ true → texts-new ≡ texts → numbers-new ≡ numbers → Turns

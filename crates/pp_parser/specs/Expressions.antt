@@ -1,5 +1,5 @@
 -- Expressions. A rule stands on some level; what stands one level further in is asked of `inner`.
-use Rattle.std.specs.Prelude.{ℕ, zero, suc, Bool, true, false, if◌then◌else◌, ◌==◌, List, [], ◌∷◌, ◌++◌, Option, Some, None}
+use Rattle.std.specs.Prelude.{ℕ, zero, suc, ◌+◌, ◌-◌, Bool, true, false, if◌then◌else◌, ◌==◌, List, [], ◌∷◌, ◌++◌, Option, Some, None}
 use Rattle.pp_lexer.specs.declared.kind.Kind.{Kind}
 use Rattle.pp_lexer.specs.declared.kind.Kind.TheVariants as k
 use Rattle.pp_tree.specs.declared.operators.BinaryOperator.{BinaryOperator}
@@ -415,6 +415,13 @@ module _ (inner : Inner) where
     more ← repeat (operation_rule (chain bars tighter None) (suc tighter))
     pure (chained first more)
 
+  -- what `n` strengths from this one on add behind what was read
+  unfoldable pub climb : Bool → (n strength : ℕ) → Expr → Parser Expr
+  climb bars zero strength x = pure x
+  climb bars (suc n) strength x = do
+    more ← repeat (operation_rule (chain bars (strength - 1) None) strength)
+    climb bars n (strength + 1) (chained x more)
+
   abbrev pub assigned_by : Bool → Bool → ℕ → List ℕ → Option Kind → Parser Expr
   assigned_by bars behind at name (Some k.Assign) = do
     opening inner k.Assign
@@ -471,14 +478,15 @@ module _ (inner : Inner) where
   unfoldable pub default_rule : Bool → Parser (Option Expr)
   default_rule bars = peek >>= default_by bars
 
-  unfoldable pub typed_param : Bool → ℕ → Expr → Parser (Param Expr)
-  typed_param bars at type = do
+  -- A parameter's line is that of its variable, also where a type stands before it.
+  unfoldable pub typed_param : Bool → Expr → Parser (Param Expr)
+  typed_param bars type = do
     t ← expect k.Variable
     default ← default_rule bars
-    pure (param (Some type) t.text default at)
+    pure (param (Some type) t.text default t.line)
 
   abbrev pub param_by : Bool → ℕ → Expr → Option Kind → Parser (Param Expr)
-  param_by bars at x (Some k.Variable) = typed_param bars at x
+  param_by bars at x (Some k.Variable) = typed_param bars x
   param_by bars at x _ = param_from at x
 
   -- An expression and a variable, or an expression that is a variable or its assignment. Within bars, only what stands behind

@@ -8,7 +8,7 @@ use Rattle.pp_tree.specs.declared.expr.Form.{out-Form}
 use Rattle.pp_tree.specs.declared.expr.Pair.{Pair}
 use Rattle.pp_tree.specs.Building.{form_of, line_of}
 use Rattle.pp_parser.specs.Input.{Parser}
-use Rattle.pp_parser.specs.Layers.{FormLayer}
+use Rattle.pp_tree.specs.Layers.{FormLayer}
 
 -- what a written key says
 pub data Written : Type 0 where

@@ -4,7 +4,6 @@ pub mod Inner
 pub mod Input
 pub mod Keys
 pub mod Kinds
-pub mod Layers
 pub mod Levels
 pub mod Manifest
 pub mod Nests

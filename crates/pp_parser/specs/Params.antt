@@ -6,7 +6,7 @@ use Rattle.pp_tree.specs.declared.expr.Form.{out-Form}
 use Rattle.pp_tree.specs.declared.param.Param.{Param}
 use Rattle.pp_tree.specs.Building.{form_of, param}
 use Rattle.pp_parser.specs.Input.{Parser, pure, refuse}
-use Rattle.pp_parser.specs.Layers.{FormLayer}
+use Rattle.pp_tree.specs.Layers.{FormLayer}
 
 -- A parameter's name has one segment and no leading `::`, so no colon.
 unfoldable pub is_simple : List ℕ → Bool

@@ -9,14 +9,14 @@ ghost use Rattle.pp_parser.specs.Statements as spec;
 
 use crate::cursor::Cursor;
 use crate::goal::{Goal, Part};
-use crate::grammar::Grammar;
+use crate::rules::Rules;
 use crate::refusal::Refusal;
 use pp_lexer::kind::Kind;
-use pp_tree::items::Items;
+use pp_values::Items;
 use pp_tree::resource::{Attribute, Attributes, Setting, Splat};
 use std::alloc::Global;
 
-impl<F: Fn(Global, &mut Cursor<'_>, usize, Goal) -> Result<Part, Refusal>> Grammar<F> {
+impl<F: Fn(Global, &mut Cursor<'_>, usize, Goal) -> Result<Part, Refusal>> Rules<F> {
     /// `=>`, or `+>` where it may stand: whether it appends.
     #[tactic(auto, unfolding(crate::specs::Statements::assigns))]
     fn assigns(&self, tokens: &mut Cursor<'_>, may_append: bool) -> Result<bool, Refusal>

@@ -12,19 +12,18 @@ ghost use Rattle.pp_parser.specs.Nests.{Nests};
 
 use crate::cursor::Cursor;
 use crate::goal::{Goal, Part};
-use crate::grammar::Grammar;
+use crate::rules::Rules;
 use crate::keys::doubled_key;
 use crate::kinds::is_bar;
 use crate::refusal::Refusal;
 use pp_lexer::kind::Kind;
-use pp_tree::boxed::Boxed;
 use pp_tree::expr::{Expr, Form, Lambda, Pair};
-use pp_tree::items::Items;
+use pp_values::{Boxed, Items};
 use pp_tree::param::Param;
 use pp_tree::statement::Block;
 use std::alloc::Global;
 
-impl<F: Fn(Global, &mut Cursor<'_>, usize, Goal) -> Result<Part, Refusal>> Grammar<F> {
+impl<F: Fn(Global, &mut Cursor<'_>, usize, Goal) -> Result<Part, Refusal>> Rules<F> {
     /// `{ statements }`
     #[tactic(auto, unfolding(crate::specs::Expressions::block))]
     pub fn block(&self, tokens: &mut Cursor<'_>) -> Result<Block, Refusal>

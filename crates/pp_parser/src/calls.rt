@@ -7,14 +7,14 @@ ghost use Rattle.pp_parser.specs.Nests.{Nests};
 
 use crate::cursor::Cursor;
 use crate::goal::{Goal, Part};
-use crate::grammar::Grammar;
+use crate::rules::Rules;
 use crate::refusal::Refusal;
 use pp_lexer::kind::Kind;
 use pp_tree::expr::{Call, Form};
 use pp_values::text::Text;
 use std::alloc::Global;
 
-impl<F: Fn(Global, &mut Cursor<'_>, usize, Goal) -> Result<Part, Refusal>> Grammar<F> {
+impl<F: Fn(Global, &mut Cursor<'_>, usize, Goal) -> Result<Part, Refusal>> Rules<F> {
     /// Behind a name: `name(args) lambda`, or the name alone.
     #[tactic(auto, unfolding(crate::specs::Expressions::call_or_name))]
     pub fn call_or_name(

@@ -8,17 +8,17 @@ ghost use Rattle.pp_parser.specs.Statements as spec;
 
 use crate::cursor::Cursor;
 use crate::goal::{Goal, Part};
-use crate::grammar::Grammar;
+use crate::rules::Rules;
 use crate::refusal::Refusal;
 use pp_lexer::kind::Kind;
 use pp_tree::collector::{Collector, Comparison, Conjunction, Query, Test};
-use pp_tree::items::Items;
+use pp_values::Items;
 use pp_tree::resource::Attributes;
 use pp_tree::statement::Operand;
 use pp_values::text::Text;
 use std::alloc::Global;
 
-impl<F: Fn(Global, &mut Cursor<'_>, usize, Goal) -> Result<Part, Refusal>> Grammar<F> {
+impl<F: Fn(Global, &mut Cursor<'_>, usize, Goal) -> Result<Part, Refusal>> Rules<F> {
     /// `==` or `!=`: whether it is `==`.
     #[tactic(auto, unfolding(crate::specs::Statements::compares))]
     fn compares(&self, tokens: &mut Cursor<'_>) -> Result<bool, Refusal>

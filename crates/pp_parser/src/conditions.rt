@@ -10,17 +10,16 @@ ghost use Rattle.pp_parser.specs.Nests.{Nests};
 
 use crate::cursor::Cursor;
 use crate::goal::{Goal, Part};
-use crate::grammar::Grammar;
+use crate::rules::Rules;
 use crate::refusal::Refusal;
 use pp_lexer::kind::Kind;
-use pp_tree::boxed::Boxed;
 use pp_tree::conditions::{Case, CaseOption, Elsif, If, Unless};
 use pp_tree::expr::{Expr, Form};
-use pp_tree::items::Items;
+use pp_values::{Boxed, Items};
 use pp_tree::statement::Block;
 use std::alloc::Global;
 
-impl<F: Fn(Global, &mut Cursor<'_>, usize, Goal) -> Result<Part, Refusal>> Grammar<F> {
+impl<F: Fn(Global, &mut Cursor<'_>, usize, Goal) -> Result<Part, Refusal>> Rules<F> {
     /// `else` and its block, or nothing.
     #[tactic(auto, unfolding(crate::specs::Expressions::otherwise))]
     fn otherwise(&self, tokens: &mut Cursor<'_>) -> Result<Option<Block>, Refusal>

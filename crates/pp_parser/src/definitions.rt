@@ -11,12 +11,12 @@ ghost use Rattle.std.specs.Prelude.{◌≡◌, false};
 
 use crate::cursor::Cursor;
 use crate::goal::{Goal, Part};
-use crate::grammar::Grammar;
+use crate::rules::Rules;
 use crate::operands::{name_of, taken_name};
 use crate::refusal::Refusal;
 use pp_lexer::kind::Kind;
 use pp_tree::definition::{Class, Define, Definition, Name, Node, NodeName};
-use pp_tree::items::Items;
+use pp_values::Items;
 use pp_tree::param::Params;
 use pp_values::text::Text;
 use std::alloc::Global;
@@ -28,7 +28,7 @@ fn node_name(text: Text) -> Option<Text>
     if text.is("default") { None } else { Some(text) }
 }
 
-impl<F: Fn(Global, &mut Cursor<'_>, usize, Goal) -> Result<Part, Refusal>> Grammar<F> {
+impl<F: Fn(Global, &mut Cursor<'_>, usize, Goal) -> Result<Part, Refusal>> Rules<F> {
     /// The name of a class or a define.
     #[tactic(auto, unfolding(crate::specs::Definitions::name_rule))]
     fn definition_name(&self, tokens: &mut Cursor<'_>) -> Result<Name, Refusal>

@@ -9,7 +9,7 @@ ghost use Rattle.std.specs.Prelude.{◌≡◌, None};
 use crate::cursor::Cursor;
 use crate::found::Found;
 use crate::goal::{Goal, Part};
-use crate::grammar::Grammar;
+use crate::rules::Rules;
 use crate::item::Item;
 use crate::operands::taken_name;
 use crate::refusal::Refusal;
@@ -28,7 +28,7 @@ fn ends_file(pending: &Option<Name>, next: Option<Kind>) -> bool
     }
 }
 
-impl<F: Fn(Global, &mut Cursor<'_>, usize, Goal) -> Result<Part, Refusal>> Grammar<F> {
+impl<F: Fn(Global, &mut Cursor<'_>, usize, Goal) -> Result<Part, Refusal>> Rules<F> {
     /// Behind the word `class`: its braces, and the chain that begins with this resource.
     fn class_chain(&self, tokens: &mut Cursor<'_>, word: Name) -> Result<Item, Refusal>
         requires { Nests self.now.levels (F.pre self.now.inner) (F.post self.now.inner) }
@@ -112,8 +112,8 @@ impl<F: Fn(Global, &mut Cursor<'_>, usize, Goal) -> Result<Part, Refusal>> Gramm
                 return Ok(found);
             }
             let item = self.item(tokens, pending)?;
-            tokens.eat(Kind::Semicolon)?;
             pending = found.put(item)?;
+            tokens.eat(Kind::Semicolon)?;
         }
         Err(tokens.refusal())
     }
@@ -149,8 +149,8 @@ impl<F: Fn(Global, &mut Cursor<'_>, usize, Goal) -> Result<Part, Refusal>> Gramm
                 return Ok(found);
             }
             let definition = self.module_item(tokens)?;
-            tokens.eat(Kind::Semicolon)?;
             found.put_definition(definition)?;
+            tokens.eat(Kind::Semicolon)?;
         }
         Err(tokens.refusal())
     }

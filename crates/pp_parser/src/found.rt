@@ -5,7 +5,7 @@ ghost use Rattle.pp_parser.specs.Definitions.{nothing_yet, found_with, pending_o
 
 use crate::item::Item;
 use pp_tree::definition::{Definition, Name};
-use pp_tree::items::Items;
+use pp_values::Items;
 use pp_tree::statement::Block;
 use pp_values::memory::Memory;
 use std::alloc::Global;
@@ -47,6 +47,7 @@ impl Found {
     pub fn put_definition(&mut self, definition: Definition) -> Result<(), Memory>
         ensures { OnOk result (self.new ≡ with_definition self.old definition) }
     {
-        self.definitions.push(definition)
+        self.definitions.push(definition)?;
+        Ok(())
     }
 }

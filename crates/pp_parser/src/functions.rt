@@ -9,7 +9,7 @@ ghost use Rattle.std.specs.Prelude.{[]};
 use crate::argument::WordArgument;
 use crate::cursor::Cursor;
 use crate::goal::{Goal, Part};
-use crate::grammar::Grammar;
+use crate::rules::Rules;
 use crate::kinds::{begins_expression, is_name};
 use crate::operands::{Read, taken_name};
 use crate::operators::LOOSEST;
@@ -18,14 +18,14 @@ use crate::started::Started;
 use pp_lexer::kind::Kind;
 use pp_tree::definition::Name;
 use pp_tree::expr::{Args, Expr};
-use pp_tree::items::Items;
+use pp_values::Items;
 use pp_tree::statement::{Statement, Words};
 use std::alloc::Global;
 
 /// Arguments, and a name behind them that begins the next statement.
 pub type WordArguments = (Args, Option<Name>);
 
-impl<F: Fn(Global, &mut Cursor<'_>, usize, Goal) -> Result<Part, Refusal>> Grammar<F> {
+impl<F: Fn(Global, &mut Cursor<'_>, usize, Goal) -> Result<Part, Refusal>> Rules<F> {
     /// Behind a name: the rest of an argument, or nothing where the name is none.
     #[tactic(auto, unfolding(crate::specs::Statements::argument_from))]
     fn argument_from(&self, tokens: &mut Cursor<'_>, name: Name) -> Result<WordArgument, Refusal>
@@ -46,7 +46,7 @@ impl<F: Fn(Global, &mut Cursor<'_>, usize, Goal) -> Result<Part, Refusal>> Gramm
         let Name { text, at } = name;
         let form = self.call_or_name(tokens, false, text)?;
         let start = Some(Started {
-            base: Expr { at, form },
+            base: Expr::new(self.alloc, at, form)?,
             postfixes: Items::new(self.alloc),
         });
         Ok(WordArgument::Argument(self.chain(tokens, false, LOOSEST, start)?))

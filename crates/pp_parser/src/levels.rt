@@ -7,7 +7,7 @@ ghost use Rattle.pp_parser.specs.Levels.{within, part_by, max_levels};
 use crate::cursor::Cursor;
 use crate::found::Found;
 use crate::goal::{Goal, Part};
-use crate::grammar::Grammar;
+use crate::rules::Rules;
 use crate::refusal::Refusal;
 use std::alloc::Global;
 
@@ -24,7 +24,7 @@ pub fn part(
 ) -> Result<Part, Refusal>
     ensures { Reads (part_by (within levels) goal tokens.old) result tokens.new }
 {
-    let rules = Grammar {
+    let rules = Rules {
         alloc,
         levels,
         inner: part,
@@ -44,7 +44,7 @@ pub fn part(
 pub fn main_manifest(alloc: Global, tokens: &mut Cursor<'_>) -> Result<Found, Refusal>
     ensures { Reads (definitions.main_manifest (within max_levels) tokens.old) result tokens.new }
 {
-    Grammar {
+    Rules {
         alloc,
         levels: MAX_LEVELS,
         inner: part,
@@ -56,7 +56,7 @@ pub fn main_manifest(alloc: Global, tokens: &mut Cursor<'_>) -> Result<Found, Re
 pub fn module_file(alloc: Global, tokens: &mut Cursor<'_>) -> Result<Found, Refusal>
     ensures { Reads (definitions.module_file (within max_levels) tokens.old) result tokens.new }
 {
-    Grammar {
+    Rules {
         alloc,
         levels: MAX_LEVELS,
         inner: part,

@@ -13,7 +13,7 @@ pub mod files;
 pub mod found;
 pub mod functions;
 pub mod goal;
-pub mod grammar;
+pub mod rules;
 pub mod item;
 pub mod keys;
 pub mod kinds;
@@ -28,3 +28,5 @@ pub mod resources;
 pub mod started;
 pub mod statements;
 pub mod texts;
+
+pub use manifest::parse;

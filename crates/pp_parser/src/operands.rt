@@ -8,7 +8,7 @@ ghost use Rattle.std.specs.Prelude.{◌≡◌, IfOk};
 
 use crate::cursor::Cursor;
 use crate::goal::{Goal, Part};
-use crate::grammar::Grammar;
+use crate::rules::Rules;
 use crate::operators::LOOSEST;
 use crate::refusal::Refusal;
 use crate::started::Started;
@@ -16,7 +16,7 @@ use pp_lexer::kind::Kind;
 use pp_lexer::token::Token;
 use pp_tree::definition::Name;
 use pp_tree::expr::{Expr, Form, Postfix};
-use pp_tree::items::Items;
+use pp_values::Items;
 use pp_tree::resource::ResourceForm;
 use pp_tree::statement::{Arrow, Chain, Link, Operand, Statement};
 use pp_values::memory::Memory;
@@ -56,7 +56,7 @@ pub fn taken_name(alloc: Global, tokens: &mut Cursor<'_>) -> Result<Name, Refusa
     Ok(name_of(alloc, token)?)
 }
 
-impl<F: Fn(Global, &mut Cursor<'_>, usize, Goal) -> Result<Part, Refusal>> Grammar<F> {
+impl<F: Fn(Global, &mut Cursor<'_>, usize, Goal) -> Result<Part, Refusal>> Rules<F> {
     /// An expression whose value was begun already.
     #[tactic(auto, unfolding(crate::specs::Statements::expression_from))]
     pub fn expression_from(
@@ -83,7 +83,8 @@ impl<F: Fn(Global, &mut Cursor<'_>, usize, Goal) -> Result<Part, Refusal>> Gramm
             Some(Kind::OpenBrace) => self.resource(tokens, ResourceForm::Plain, text, at),
             _ => {
                 let form = self.call_or_name(tokens, false, text)?;
-                self.expression_from(tokens, Expr { at, form }, Items::new(self.alloc))
+                let first = Expr::new(self.alloc, at, form)?;
+                self.expression_from(tokens, first, Items::new(self.alloc))
             }
         }
     }
@@ -118,7 +119,8 @@ impl<F: Fn(Global, &mut Cursor<'_>, usize, Goal) -> Result<Part, Refusal>> Gramm
             }
             _ => {
                 let form = Form::Type(text);
-                self.expression_from(tokens, Expr { at, form }, Items::new(self.alloc))
+                let first = Expr::new(self.alloc, at, form)?;
+                self.expression_from(tokens, first, Items::new(self.alloc))
             }
         }
     }

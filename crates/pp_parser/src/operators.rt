@@ -8,13 +8,12 @@ ghost use Rattle.pp_parser.specs.Nests.{Nests};
 
 use crate::cursor::Cursor;
 use crate::goal::{Goal, Part};
-use crate::grammar::Grammar;
+use crate::rules::Rules;
 use crate::refusal::Refusal;
 use crate::started::Started;
 use pp_lexer::kind::Kind;
-use pp_tree::boxed::Boxed;
 use pp_tree::expr::{Expr, Form, Operation};
-use pp_tree::items::Items;
+use pp_values::{Boxed, Items};
 use pp_tree::operators::{BinaryOperator, PrefixOperator};
 use pp_values::memory::Memory;
 use pp_values::text::Text;
@@ -87,10 +86,10 @@ fn chained(alloc: Global, first: Expr, operations: Items<Operation>) -> Result<E
     }
     let at = first.at;
     let form = Form::Binary(Boxed::new(alloc, first)?, operations);
-    Ok(Expr { at, form })
+    Expr::new(alloc, at, form)
 }
 
-impl<F: Fn(Global, &mut Cursor<'_>, usize, Goal) -> Result<Part, Refusal>> Grammar<F> {
+impl<F: Fn(Global, &mut Cursor<'_>, usize, Goal) -> Result<Part, Refusal>> Rules<F> {
     /// A prefix operator and its operand.
     #[tactic(auto, unfolding(crate::specs::Expressions::prefixed))]
     fn prefixed(
@@ -107,7 +106,7 @@ impl<F: Fn(Global, &mut Cursor<'_>, usize, Goal) -> Result<Part, Refusal>> Gramm
         self.open(tokens, mark)?;
         let x = self.operand_in(tokens, bars)?;
         let form = Form::Prefix(operator, Boxed::new(self.alloc, x)?);
-        Ok(Expr { at, form })
+        Ok(Expr::new(self.alloc, at, form)?)
     }
 
     /// Prefix operators, in any order, and a value.
@@ -124,32 +123,9 @@ impl<F: Fn(Global, &mut Cursor<'_>, usize, Goal) -> Result<Part, Refusal>> Gramm
         }
     }
 
-    /// An operator of this strength and its right operand, or nothing.
-    #[cycle(chain)]
-    #[tactic(auto, unfolding(crate::specs::Expressions::operation_rule))]
-    fn operation(
-        &self,
-        tokens: &mut Cursor<'_>,
-        bars: bool,
-        strength: u8,
-    ) -> Result<Option<Operation>, Refusal>
-        requires nests { Nests self.now.levels (F.pre self.now.inner) (F.post self.now.inner) }
-        requires some { 0 < strength }
-        ensures { Reads (spec.operation_rule (within self.now.levels) (spec.chain (within self.now.levels) bars (strength - 1) None) strength tokens.old) result tokens.new }
-    {
-        match operator_at(strength, tokens.peek()) {
-            None => Ok(None),
-            Some(operator) => {
-                tokens.take()?;
-                let right = self.chain(tokens, bars, strength - 1, None)?;
-                Ok(Some(Operation { operator, right }))
-            }
-        }
-    }
-
     /// Operators of this strength and their right operands.
-    #[cycle(chain)]
-    #[tactic(auto, unfolding(crate::specs::Input::repeat), using(crate::proofs::Turns::repeat_turn, crate::proofs::Turns::repeat_none))]
+    #[cycle(climb)]
+    #[tactic(auto, unfolding(crate::specs::Input::repeat, crate::specs::Expressions::operation_rule), using(crate::proofs::Turns::repeat_turn, crate::proofs::Turns::repeat_none, crate::proofs::Behind::chain_behind))]
     fn operations(
         &self,
         tokens: &mut Cursor<'_>,
@@ -162,17 +138,42 @@ impl<F: Fn(Global, &mut Cursor<'_>, usize, Goal) -> Result<Part, Refusal>> Gramm
     {
         let mut found = Items::new(self.alloc);
         for _turn in 0..tokens.turns() {
-            match self.operation(tokens, bars, strength)? {
-                None => return Ok(found),
-                Some(operation) => found.push(operation)?,
-            }
+            let Some(operator) = operator_at(strength, tokens.peek()) else {
+                return Ok(found);
+            };
+            tokens.take()?;
+            let first = self.operand(tokens, bars)?;
+            let right = self.climb(tokens, bars, strength - 1, first)?;
+            found.push(Operation { operator, right })?;
         }
         Err(tokens.refusal())
     }
 
+    /// Behind an operand: operators of this strength and tighter, and their operands.
+    ///
+    /// A loop over the strengths, where the rule recurs: only an operand within an operand of a looser operator is a call within a call.
+    #[cycle(climb)]
+    #[tactic(auto, using(crate::proofs::Behind::climb_on, crate::proofs::Behind::climb_done))]
+    fn climb(
+        &self,
+        tokens: &mut Cursor<'_>,
+        bars: bool,
+        loosest: u8,
+        first: Expr,
+    ) -> Result<Expr, Refusal>
+        requires { Nests self.now.levels (F.pre self.now.inner) (F.post self.now.inner) }
+        ensures { Reads (spec.climb (within self.now.levels) bars loosest 1 first tokens.old) result tokens.new }
+    {
+        let mut x = first;
+        for strength in 1..=loosest {
+            let more = self.operations(tokens, bars, strength)?;
+            x = chained(self.alloc, x, more)?;
+        }
+        Ok(x)
+    }
+
     /// Operands and operators of this strength and tighter, from left to right. The first operand may be begun already.
-    #[cycle(chain)]
-    #[tactic(auto, using(crate::proofs::Behind::chain_climbs, crate::proofs::Behind::climb_on, crate::proofs::Behind::climb_done))]
+    #[tactic(auto, using(crate::proofs::Behind::chain_climbs))]
     pub fn chain(
         &self,
         tokens: &mut Cursor<'_>,
@@ -183,16 +184,11 @@ impl<F: Fn(Global, &mut Cursor<'_>, usize, Goal) -> Result<Part, Refusal>> Gramm
         requires { Nests self.now.levels (F.pre self.now.inner) (F.post self.now.inner) }
         ensures { Reads (spec.chain (within self.now.levels) bars loosest start tokens.old) result tokens.new }
     {
-        // a loop over the strengths, where the rule recurs: nine calls within one another at each level take too much stack
-        let mut x = match start {
+        let first = match start {
             None => self.operand(tokens, bars)?,
             Some(start) => self.postfixes(tokens, bars, start)?,
         };
-        for strength in 1..=loosest {
-            let more = self.operations(tokens, bars, strength)?;
-            x = chained(self.alloc, x, more)?;
-        }
-        Ok(x)
+        self.climb(tokens, bars, loosest, first)
     }
 
     /// Behind a variable of one segment at the beginning of an expression.
@@ -213,14 +209,11 @@ impl<F: Fn(Global, &mut Cursor<'_>, usize, Goal) -> Result<Part, Refusal>> Gramm
                 self.open(tokens, Kind::Assign)?;
                 let x = self.whole_in(tokens, behind)?;
                 let form = Form::Assign(name, Boxed::new(self.alloc, x)?);
-                Ok(Expr { at, form })
+                Ok(Expr::new(self.alloc, at, form)?)
             }
             _ => {
                 let start = Started {
-                    base: Expr {
-                        at,
-                        form: Form::Variable(name),
-                    },
+                    base: Expr::new(self.alloc, at, Form::Variable(name))?,
                     postfixes: Items::new(self.alloc),
                 };
                 self.chain(tokens, bars, LOOSEST, Some(start))

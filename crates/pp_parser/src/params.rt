@@ -9,7 +9,7 @@ ghost use Rattle.pp_parser.specs.Params as spec;
 
 use crate::cursor::Cursor;
 use crate::goal::{Goal, Part};
-use crate::grammar::Grammar;
+use crate::rules::Rules;
 use crate::refusal::Refusal;
 use pp_lexer::kind::Kind;
 use pp_tree::expr::{Expr, Form};
@@ -37,7 +37,7 @@ fn is_simple(name: &Text) -> bool
 fn param_from(tokens: &mut Cursor<'_>, at: u32, x: Expr) -> Result<Param, Refusal>
     ensures { Reads (spec.param_from at x tokens.old) result tokens.new }
 {
-    match x.form {
+    match x.form.into_inner() {
         Form::Variable(name) => {
             if !is_simple(&name) {
                 return Err(tokens.refusal());
@@ -59,7 +59,7 @@ fn param_from(tokens: &mut Cursor<'_>, at: u32, x: Expr) -> Result<Param, Refusa
     }
 }
 
-impl<F: Fn(Global, &mut Cursor<'_>, usize, Goal) -> Result<Part, Refusal>> Grammar<F> {
+impl<F: Fn(Global, &mut Cursor<'_>, usize, Goal) -> Result<Part, Refusal>> Rules<F> {
     /// `= default`, or nothing.
     #[tactic(auto, unfolding(crate::specs::Expressions::default_rule))]
     fn default(&self, tokens: &mut Cursor<'_>, bars: bool) -> Result<Option<Expr>, Refusal>
@@ -81,11 +81,10 @@ impl<F: Fn(Global, &mut Cursor<'_>, usize, Goal) -> Result<Part, Refusal>> Gramm
         &self,
         tokens: &mut Cursor<'_>,
         bars: bool,
-        at: u32,
         kind: Expr,
     ) -> Result<Param, Refusal>
         requires { Nests self.now.levels (F.pre self.now.inner) (F.post self.now.inner) }
-        ensures { Reads (rules.typed_param (within self.now.levels) bars at kind tokens.old) result tokens.new }
+        ensures { Reads (rules.typed_param (within self.now.levels) bars kind tokens.old) result tokens.new }
     {
         let token = tokens.expect(Kind::Variable)?;
         let default = self.default(tokens, bars)?;
@@ -93,7 +92,7 @@ impl<F: Fn(Global, &mut Cursor<'_>, usize, Goal) -> Result<Part, Refusal>> Gramm
             kind: Some(kind),
             name: token.text.copy(self.alloc)?,
             default,
-            at,
+            at: token.line,
         })
     }
 
@@ -106,7 +105,7 @@ impl<F: Fn(Global, &mut Cursor<'_>, usize, Goal) -> Result<Part, Refusal>> Gramm
         let at = tokens.line();
         let x = self.whole(tokens, false, bars)?;
         match tokens.peek() {
-            Some(Kind::Variable) => self.typed_param(tokens, bars, at, x),
+            Some(Kind::Variable) => self.typed_param(tokens, bars, x),
             _ => param_from(tokens, at, x),
         }
     }

@@ -8,13 +8,12 @@ ghost use Rattle.pp_parser.specs.Nests.{Nests};
 
 use crate::cursor::Cursor;
 use crate::goal::{Goal, Part};
-use crate::grammar::Grammar;
+use crate::rules::Rules;
 use crate::refusal::Refusal;
 use crate::started::Started;
 use pp_lexer::kind::Kind;
-use pp_tree::boxed::Boxed;
 use pp_tree::expr::{Call, Expr, Form, Postfix};
-use pp_tree::items::Items;
+use pp_values::{Boxed, Items};
 use pp_values::memory::Memory;
 use std::alloc::Global;
 
@@ -27,10 +26,10 @@ fn postfixed(alloc: Global, base: Expr, postfixes: Items<Postfix>) -> Result<Exp
     }
     let at = base.at;
     let form = Form::Postfix(Boxed::new(alloc, base)?, postfixes);
-    Ok(Expr { at, form })
+    Expr::new(alloc, at, form)
 }
 
-impl<F: Fn(Global, &mut Cursor<'_>, usize, Goal) -> Result<Part, Refusal>> Grammar<F> {
+impl<F: Fn(Global, &mut Cursor<'_>, usize, Goal) -> Result<Part, Refusal>> Rules<F> {
     /// What a value is, by the token that begins it.
     fn form(&self, tokens: &mut Cursor<'_>, bars: bool) -> Result<Form, Refusal>
         requires { Nests self.now.levels (F.pre self.now.inner) (F.post self.now.inner) }
@@ -164,7 +163,7 @@ impl<F: Fn(Global, &mut Cursor<'_>, usize, Goal) -> Result<Part, Refusal>> Gramm
         let at = tokens.line();
         let form = self.form(tokens, bars)?;
         let start = Started {
-            base: Expr { at, form },
+            base: Expr::new(self.alloc, at, form)?,
             postfixes: Items::new(self.alloc),
         };
         self.postfixes(tokens, bars, start)

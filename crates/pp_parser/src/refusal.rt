@@ -1,4 +1,5 @@
 use pp_values::memory::Memory;
+use std::alloc::AllocError;
 
 /// Why a text has no tree. A place is told by the number of tokens from it on, so that 0 is the end of the file.
 #[derive(Clone, Copy, Debug, PartialEq, Eq)]
@@ -17,6 +18,17 @@ impl From<Memory> for Refusal {
     ghost from_gives = { λ _ e. e ≡ refusals.Memory };
 
     fn from(_memory: Memory) -> Refusal {
+        Refusal::Memory
+    }
+}
+
+impl From<AllocError> for Refusal {
+    ghost use Rattle.std.specs.Prelude.{◌≡◌};
+    ghost use Rattle.pp_parser.specs.declared.refusal.Refusal.TheVariants as refusals;
+
+    ghost from_gives = { λ _ e. e ≡ refusals.Memory };
+
+    fn from(_refused: AllocError) -> Refusal {
         Refusal::Memory
     }
 }

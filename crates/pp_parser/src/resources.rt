@@ -11,13 +11,13 @@ ghost use Rattle.std.specs.Prelude.{◌≡◌, false};
 
 use crate::cursor::Cursor;
 use crate::goal::{Goal, Part};
-use crate::grammar::Grammar;
+use crate::rules::Rules;
 use crate::kinds::ends_body;
 use crate::refusal::Refusal;
 use pp_lexer::kind::Kind;
 use pp_lexer::token::Token;
 use pp_tree::expr::Expr;
-use pp_tree::items::Items;
+use pp_values::Items;
 use pp_tree::resource::{Attributes, Body, Resource, ResourceForm};
 use pp_tree::statement::Operand;
 use pp_values::text::Text;
@@ -44,7 +44,7 @@ fn resource_name<'a>(tokens: &mut Cursor<'a>) -> Result<&'a Token, Refusal>
     tokens.take()
 }
 
-impl<F: Fn(Global, &mut Cursor<'_>, usize, Goal) -> Result<Part, Refusal>> Grammar<F> {
+impl<F: Fn(Global, &mut Cursor<'_>, usize, Goal) -> Result<Part, Refusal>> Rules<F> {
     /// Attributes up to the end of a body, behind those that were found.
     #[tactic(auto, using(crate::proofs::Turns::separated_turn, crate::proofs::Turns::separated_none))]
     fn body_attributes_from(

@@ -1,5 +1,5 @@
 use pp_tree::expr::{Expr, Postfix};
-use pp_tree::items::Items;
+use pp_values::Items;
 
 /// What was read of an expression already: a value, and what followed it so far.
 #[derive(Drop)]

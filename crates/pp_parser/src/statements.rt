@@ -8,13 +8,13 @@ ghost use Rattle.std.specs.Prelude.{◌≡◌, None};
 
 use crate::cursor::Cursor;
 use crate::goal::{Goal, Part};
-use crate::grammar::Grammar;
+use crate::rules::Rules;
 use crate::operands::{Read, taken_name};
 use crate::refusal::Refusal;
 use pp_lexer::kind::Kind;
 use pp_tree::definition::Name;
 use pp_tree::expr::{Args, Expr, Form, Postfix};
-use pp_tree::items::Items;
+use pp_values::Items;
 use pp_tree::resource::{Defaults, Override, Reference};
 use pp_tree::statement::{Block, Chain, Operand, Statement};
 use std::alloc::Global;
@@ -29,7 +29,7 @@ fn ends_block(pending: &Option<Name>, next: Option<Kind>) -> bool
     }
 }
 
-impl<F: Fn(Global, &mut Cursor<'_>, usize, Goal) -> Result<Part, Refusal>> Grammar<F> {
+impl<F: Fn(Global, &mut Cursor<'_>, usize, Goal) -> Result<Part, Refusal>> Rules<F> {
     /// An operand that no arrow may follow.
     fn alone(&self, at: u32, only: Operand) -> Read
         ensures { result ≡ spec.alone at only }
@@ -103,7 +103,7 @@ impl<F: Fn(Global, &mut Cursor<'_>, usize, Goal) -> Result<Part, Refusal>> Gramm
         let mut postfixes = Items::new(self.alloc);
         postfixes.push(Postfix::Access(args))?;
         let form = Form::Type(text);
-        let first = self.expression_from(tokens, Expr { at, form }, postfixes)?;
+        let first = self.expression_from(tokens, Expr::new(self.alloc, at, form)?, postfixes)?;
         self.chain_from(tokens, at, first)
     }
 
@@ -198,9 +198,9 @@ impl<F: Fn(Global, &mut Cursor<'_>, usize, Goal) -> Result<Part, Refusal>> Gramm
                 return Ok(found);
             }
             let (statement, next) = self.statement(tokens, pending)?;
-            tokens.eat(Kind::Semicolon)?;
             found.push(statement)?;
             pending = next;
+            tokens.eat(Kind::Semicolon)?;
         }
         Err(tokens.refusal())
     }

@@ -8,14 +8,14 @@ ghost use Rattle.pp_parser.specs.Nests.{Nests};
 
 use crate::cursor::Cursor;
 use crate::goal::{Goal, Part};
-use crate::grammar::Grammar;
+use crate::rules::Rules;
 use crate::kinds::is_name;
 use crate::operators::LOOSEST;
 use crate::refusal::Refusal;
 use crate::started::Started;
 use pp_lexer::kind::Kind;
 use pp_tree::expr::{Expr, Form, Piece};
-use pp_tree::items::Items;
+use pp_values::Items;
 use pp_values::memory::Memory;
 use pp_values::text::Text;
 use std::alloc::Global;
@@ -31,7 +31,7 @@ fn first_pieces(alloc: Global, said: Text) -> Result<Items<Piece>, Memory>
     Ok(found)
 }
 
-impl<F: Fn(Global, &mut Cursor<'_>, usize, Goal) -> Result<Part, Refusal>> Grammar<F> {
+impl<F: Fn(Global, &mut Cursor<'_>, usize, Goal) -> Result<Part, Refusal>> Rules<F> {
     /// `${ expression }`
     #[tactic(auto, unfolding(crate::specs::Expressions::interpolation))]
     fn interpolation(&self, tokens: &mut Cursor<'_>) -> Result<Expr, Refusal>
@@ -58,10 +58,7 @@ impl<F: Fn(Global, &mut Cursor<'_>, usize, Goal) -> Result<Part, Refusal>> Gramm
             Some(Kind::VariableInText) => {
                 let token = tokens.take()?;
                 let form = Form::Variable(token.text.copy(self.alloc)?);
-                Ok(Some(Piece::Value(Expr {
-                    at: token.line,
-                    form,
-                })))
+                Ok(Some(Piece::Value(Expr::new(self.alloc, token.line, form)?)))
             }
             Some(Kind::InterpolationBegin) => {
                 let x = self.interpolation(tokens)?;
@@ -152,10 +149,7 @@ impl<F: Fn(Global, &mut Cursor<'_>, usize, Goal) -> Result<Part, Refusal>> Gramm
         let token = tokens.take()?;
         let form = self.variable_or_call(tokens, token.text.copy(self.alloc)?)?;
         let start = Started {
-            base: Expr {
-                at: token.line,
-                form,
-            },
+            base: Expr::new(self.alloc, token.line, form)?,
             postfixes: Items::new(self.alloc),
         };
         self.chain(tokens, false, LOOSEST, Some(start))

@@ -1,5 +1,5 @@
 pub mod Building
+pub mod Layers
 pub mod NameLaws
 pub mod Names
 pub mod Tables
-pub mod formers

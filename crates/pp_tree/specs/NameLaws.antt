@@ -1,11 +1,12 @@
--- That `same_name` tells names apart, so that a map may have them as its keys.
+-- That `same_name` tells names apart, and `name_cmp` puts them in order, so that a map may have them as its keys.
 use Rattle.std.specs.Prelude.{◌≡◌, ℕ, true, List, ◌∷◌, [], None, Some, nat_eq, refl}
-use Rattle.std.proofs.Common.{ap, subst, sym, true≢false}
-use Rattle.std.specs.Cmp.{IsEquivalence, on_equiv}
-use Rattle.std.specs.Cmp.Lexicographic.{pointwise, nat_list_eq_equiv, bytes_decides}
+use Rattle.std.proofs.Common.{ap, subst, sym, ◌∙◌, true≢false}
+use Rattle.std.specs.Cmp.{IsEquivalence, IsTotalOrder, IsPartialOrder, on_equiv, on_total, po}
+use Rattle.std.specs.Ordering.{nat_cmp, eq_by_cmp, is_eq}
+use Rattle.std.specs.Cmp.Lexicographic.{pointwise, slice_cmp, nat_list_eq_equiv, nat_list_cmp_total, texts_ties, bytes_decides}
 use Rattle.pp_tree.specs.declared.table.DefinitionName.{DefinitionName}
 use Rattle.pp_tree.specs.declared.table.DefinitionName.TheVariants.{Code, Node}
-use Rattle.pp_tree.specs.Names.{same_name, name_writes}
+use Rattle.pp_tree.specs.Names.{same_name, name_cmp}
 
 -- a name as one text, which tells it apart
 abbrev key : DefinitionName → List ℕ
@@ -38,5 +39,25 @@ same_name_same (Node (Some a)) (Code b) h = absurd (true≢false (sym h))
 same_name_same (Node (Some a)) (Node None) h = absurd (true≢false (sym h))
 same_name_same (Node (Some a)) (Node (Some b)) h = ap (λ t. Node (Some t)) ((bytes_decides a b).0 h)
 
-pub fed_alike : (x y : DefinitionName) → same_name x y ≡ true → name_writes x ≡ name_writes y
-fed_alike x y h = ap name_writes (same_name_same x y h)
+-- ---- their order
+
+same_order : (x y : DefinitionName) → slice_cmp nat_cmp (key x) (key y) ≡ name_cmp x y
+same_order (Code a) (Code b) = refl
+same_order (Code a) (Node None) = refl
+same_order (Code a) (Node (Some b)) = refl
+same_order (Node None) (Code b) = refl
+same_order (Node None) (Node None) = refl
+same_order (Node None) (Node (Some b)) = refl
+same_order (Node (Some a)) (Code b) = refl
+same_order (Node (Some a)) (Node None) = refl
+same_order (Node (Some a)) (Node (Some b)) = refl
+
+pub name_cmp_total : IsTotalOrder name_cmp
+name_cmp_total = subst IsTotalOrder (λ i x y. same_order x y i) (on_total key nat_list_cmp_total)
+
+-- names are level where they are the same
+pub name_cmp_ties : (x y : DefinitionName) → same_name x y ≡ eq_by_cmp name_cmp x y
+name_cmp_ties x y = sym (same_key x y) ∙ texts_ties (key x) (key y) ∙ ap is_eq (same_order x y)
+
+pub name_cmp_partial : IsPartialOrder same_name (λ x y. Some (name_cmp x y))
+name_cmp_partial = po name_cmp_total name_cmp_ties

@@ -1,8 +1,10 @@
 -- The names of a table.
-use Rattle.std.specs.Prelude.{ℕ, Bool, true, false, List, [], ◌∷◌, ◌&&◌, ◌==◌, ◌++◌, if◌then◌else◌, None, Some, map, nat_eq}
+use Rattle.std.specs.Prelude.{ℕ, Bool, true, false, List, [], ◌∷◌, ◌&&◌, ◌==◌, if◌then◌else◌, None, Some, map, nat_eq}
 use Rattle.std.specs.Char.{to_ascii_lowercase}
-use Rattle.std.specs.Cmp.Lexicographic.{pointwise}
-use Rattle.std.specs.Hash as fed
+use Rattle.std.specs.Cmp.Lexicographic.{pointwise, slice_cmp}
+use Rattle.std.specs.Ordering.{nat_cmp}
+use Rattle.std.specs.declared.cmp.Ordering.{Ordering}
+use Rattle.std.specs.declared.cmp.Ordering.TheVariants.{Less, Equal, Greater}
 use Rattle.pp_tree.specs.declared.table.DefinitionName.{DefinitionName}
 use Rattle.pp_tree.specs.declared.table.DefinitionName.TheVariants.{Code, Node}
 
@@ -23,8 +25,12 @@ same_name (Node None) (Node None) = true
 same_name (Node (Some a)) (Node (Some b)) = pointwise nat_eq a b
 same_name _ _ = false
 
--- what a hasher is fed
-abbrev pub name_writes : DefinitionName → List (List ℕ)
-name_writes (Code a) = fed.u8 0 ++ fed.str a
-name_writes (Node None) = fed.u8 1
-name_writes (Node (Some a)) = fed.u8 2 ++ fed.str a
+-- the order of names: classes and defines, then `default`, then the nodes' names, each by their bytes
+abbrev pub name_cmp : DefinitionName → DefinitionName → Ordering
+name_cmp (Code a) (Code b) = slice_cmp nat_cmp a b
+name_cmp (Code a) (Node b) = Less
+name_cmp (Node a) (Code b) = Greater
+name_cmp (Node None) (Node None) = Equal
+name_cmp (Node None) (Node (Some b)) = Less
+name_cmp (Node (Some a)) (Node None) = Greater
+name_cmp (Node (Some a)) (Node (Some b)) = slice_cmp nat_cmp a b

@@ -1,6 +1,8 @@
 -- The table of a file's definitions.
-use Rattle.std.specs.Prelude.{ℕ, List, [], ◌∷◌, ◌++◌, ◌≡◌, Option, Result, Ok, Err, is_some, if◌then◌else◌, map}
+use Rattle.std.specs.Prelude.{ℕ, suc, List, [], ◌∷◌, ◌++◌, ◌≡◌, Option, None, Some, Result, Ok, Err, is_some, if◌then◌else◌, map}
 use Rattle.std.specs.Map.{lookup}
+use Rattle.std.specs.BTreeMap.{BTreeMap, get}
+use Rattle.std.specs.Option.{option_map}
 use Rattle.pp_tree.specs.declared.definition.Definition.{Definition}
 use Rattle.pp_tree.specs.declared.definition.Definition.TheVariants as d
 use Rattle.pp_tree.specs.declared.definition.Node.{Node}
@@ -10,11 +12,20 @@ use Rattle.pp_tree.specs.declared.table.DefinitionName.{DefinitionName}
 use Rattle.pp_tree.specs.declared.table.DefinitionName.TheVariants as n
 use Rattle.pp_tree.specs.declared.table.TableStop.{TableStop}
 use Rattle.pp_tree.specs.declared.table.TableStop.TheVariants.{Doubled, Memory}
-use Rattle.pp_tree.specs.Names.{normal, same_name}
+use Rattle.pp_tree.specs.Names.{normal, same_name, name_cmp}
 
 -- a table is seen as its names and definitions, in the order in which they were put in
 abbrev pub Entries : Type 0
 Entries = List (DefinitionName × Definition)
+
+-- the place of the first entry of a name, counted from 0
+unfoldable pub place_of : DefinitionName → Entries → Option ℕ
+place_of name [] = None
+place_of name (e ∷ es) = if same_name name e.0 then Some 0 else option_map suc (place_of name es)
+
+-- the map leads from each name to its place
+abbrev pub ArePlaces : BTreeMap DefinitionName ℕ → Entries → Type 0
+ArePlaces places entries = (name : DefinitionName) → get name_cmp places name ≡ place_of name entries
 
 abbrev pub row : DefinitionName → Definition → ℕ → Row
 row name definition at = record { name = name; definition = definition; at = at }
@@ -48,8 +59,7 @@ table_from done (r ∷ rs) =
 unfoldable pub table_of : List Definition → Result Entries TableStop
 table_of definitions = table_from [] (all_rows definitions)
 
--- a call answers what is meant, unless it has no memory
-abbrev pub Makes : Result Entries TableStop → Result Entries TableStop → Type 0
-Makes meant (Ok table) = meant ≡ Ok table
-Makes meant (Err (Doubled at)) = meant ≡ Err (Doubled at)
-Makes meant (Err Memory) = Unit {0}
+-- the fault that a stop tells, if it is none of memory
+abbrev pub doubled_told : TableStop → Option TableStop
+doubled_told (Doubled at) = Some (Doubled at)
+doubled_told Memory = None

@@ -1,7 +1,6 @@
-use crate::boxed::Boxed;
 use crate::expr::Expr;
-use crate::items::Items;
 use crate::statement::Statement;
+use pp_values::{Boxed, Items};
 
 /// `if $a { } elsif $b { } else { }`
 #[cycle(tree)]

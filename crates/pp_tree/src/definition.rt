@@ -1,6 +1,6 @@
-use crate::items::Items;
 use crate::param::Params;
 use crate::statement::Block;
+use pp_values::Items;
 use pp_values::text::Text;
 
 /// The name of a class or a define, as it is written, and its line.

@@ -1,10 +1,13 @@
-use crate::boxed::Boxed;
+ghost use Rattle.std.specs.Prelude.{◌≡◌, IfOk};
+
 use crate::conditions::{Case, If, Unless};
-use crate::items::Items;
 use crate::operators::{BinaryOperator, PrefixOperator};
 use crate::param::Param;
 use crate::statement::Statement;
+use pp_values::memory::Memory;
 use pp_values::text::Text;
+use pp_values::{Boxed, Items};
+use std::alloc::Global;
 
 /// The arguments of a call, of an access or of a type: `1, $a` in `f(1, $a)`.
 pub type Args = Items<Expr>;
@@ -14,7 +17,20 @@ pub type Args = Items<Expr>;
 #[derive(Drop)]
 pub struct Expr {
     pub at: u32,
-    pub form: Form,
+    pub form: Boxed<Form>,
+}
+
+impl Expr {
+    ghost use Rattle.pp_tree.specs.Building.{expr_at};
+
+    pub fn new(alloc: Global, at: u32, form: Form) -> Result<Expr, Memory>
+        ensures { IfOk result (λ x. x ≡ expr_at at form) }
+    {
+        Ok(Expr {
+            at,
+            form: Boxed::new(alloc, form)?,
+        })
+    }
 }
 
 /// What an expression is.

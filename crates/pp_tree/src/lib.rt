@@ -1,16 +1,28 @@
 //! The tree of a manifest, as it is written: plain data, so that a contract can say that a tree is what a definition computes.
 #![tactic(auto)]
 
-pub mod boxed;
 pub mod collector;
 pub mod conditions;
 pub mod definition;
 pub mod expr;
 pub mod file;
-pub mod items;
 pub mod operators;
 pub mod param;
 pub mod resource;
 pub mod rows;
 pub mod statement;
 pub mod table;
+
+pub use collector::{Collector, Comparison, Conjunction, Query, Test};
+pub use conditions::{Case, CaseOption, Elsif, If, Unless};
+pub use definition::{Class, Define, Definition, Name, Node, NodeName};
+pub use expr::{Args, Call, Expr, Form, Lambda, Operation, Pair, Piece, Postfix};
+pub use file::File;
+pub use operators::{BinaryOperator, PrefixOperator};
+pub use param::{Param, Params};
+pub use resource::{
+    Attribute, Attributes, Body, Defaults, Override, Reference, Resource, ResourceForm, Setting,
+    Splat,
+};
+pub use statement::{Arrow, Block, Chain, Link, Operand, Statement, Words};
+pub use table::{DefinitionName, Table, TableStop, table_of};

@@ -1,5 +1,5 @@
 use crate::expr::Expr;
-use crate::items::Items;
+use pp_values::Items;
 use pp_values::text::Text;
 
 /// The parameters of a class, a define or a lambda: `Integer $a, $b = 1`.

@@ -1,5 +1,5 @@
 use crate::expr::Expr;
-use crate::items::Items;
+use pp_values::Items;
 use pp_values::text::Text;
 
 /// The lines of a resource, an override, defaults or a collector: `mode => '0644', * => $more`.

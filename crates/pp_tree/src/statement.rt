@@ -1,7 +1,7 @@
 use crate::collector::Collector;
 use crate::expr::Expr;
-use crate::items::Items;
 use crate::resource::{Defaults, Override, Resource};
+use pp_values::Items;
 use pp_values::text::Text;
 
 /// Statements in braces, or those of a file.

@@ -5,16 +5,17 @@ ghost use Rattle.std.specs.Map.{lookup};
 ghost use Rattle.std.specs.Map.Iter.{deref_pair};
 ghost use Rattle.pp_tree.specs.declared.table.DefinitionName.TheVariants.{Code};
 ghost use Rattle.pp_tree.specs.Names.{normal, same_name, without_front_colons};
-ghost use Rattle.pp_tree.specs.Tables.{table_of, table_from, Makes};
+ghost use Rattle.pp_tree.specs.Tables.{table_of, table_from, doubled_told};
+ghost use Rattle.pp_values.specs.Answers.{AnswersBy};
 
 use crate::definition::Definition;
-use crate::items::Items;
 use crate::rows::{Row, all_rows};
-use indexmap::IndexMap;
+use pp_values::Items;
 use pp_values::memory::Memory;
 use pp_values::text::Text;
 use std::alloc::Global;
-use std::hash::{Hash, Hasher};
+use std::cmp::Ordering;
+use std::collections::BTreeMap;
 use std::marker::Model;
 
 /// A name under which a definition stands.
@@ -35,6 +36,25 @@ impl DefinitionName {
         let mut name = String::from_str(alloc, without_front_colons(written.as_str()))?;
         name.make_ascii_lowercase();
         Ok(DefinitionName::Code(Text::new(name)))
+    }
+
+    pub fn copy(&self, alloc: Global) -> Result<DefinitionName, Memory>
+        ensures { IfOk result (λ name. name ≡ self.now) }
+    {
+        match self {
+            DefinitionName::Code(text) => Ok(DefinitionName::Code(text.copy(alloc)?)),
+            DefinitionName::Node(name) => Ok(DefinitionName::Node(copy_name(alloc, name)?)),
+        }
+    }
+}
+
+/// A copy of the name of a node.
+pub fn copy_name(alloc: Global, name: &Option<Text>) -> Result<Option<Text>, Memory>
+    ensures { IfOk result (λ copy. copy ≡ name.now) }
+{
+    match name {
+        Some(text) => Ok(Some(text.copy(alloc)?)),
+        None => Ok(None),
     }
 }
 
@@ -74,25 +94,42 @@ impl Eq for DefinitionName {
     ghost laws = { same_name_equiv };
 }
 
-impl Hash for DefinitionName {
-    ghost use Rattle.pp_tree.specs.Names.{name_writes};
-    ghost use Rattle.pp_tree.specs.NameLaws.{fed_alike};
+impl PartialOrd for DefinitionName {
+    ghost use Rattle.std.specs.Prelude.{Some};
+    ghost use Rattle.pp_tree.specs.Names.{name_cmp};
+    ghost use Rattle.pp_tree.specs.NameLaws.{name_cmp_partial};
 
-    ghost hash_input = { name_writes };
+    ghost partial_cmp = { λ x y. Some (name_cmp x y) };
 
-    ghost respects_eq = { fed_alike };
+    ghost laws = { name_cmp_partial };
 
-    fn hash<H: Hasher>(&self, state: &mut H) {
-        match self {
-            DefinitionName::Code(text) => {
-                state.write_u8(0);
-                text.as_str().hash(state);
-            }
-            DefinitionName::Node(None) => state.write_u8(1),
-            DefinitionName::Node(Some(text)) => {
-                state.write_u8(2);
-                text.as_str().hash(state);
-            }
+    fn partial_cmp(&self, other: &DefinitionName) -> Option<Ordering> {
+        Some(self.cmp(other))
+    }
+}
+
+impl Ord for DefinitionName {
+    ghost use Rattle.std.specs.Prelude.{refl};
+    ghost use Rattle.pp_tree.specs.Names.{name_cmp};
+    ghost use Rattle.pp_tree.specs.NameLaws.{name_cmp_total, name_cmp_ties};
+
+    ghost cmp = { name_cmp };
+
+    ghost total = { name_cmp_total };
+
+    ghost matches_partial_cmp = { λ x y. refl };
+
+    ghost matches_eq = { name_cmp_ties };
+
+    fn cmp(&self, other: &DefinitionName) -> Ordering {
+        match (self, other) {
+            (DefinitionName::Code(a), DefinitionName::Code(b)) => a.cmp(b),
+            (DefinitionName::Code(_), DefinitionName::Node(_)) => Ordering::Less,
+            (DefinitionName::Node(_), DefinitionName::Code(_)) => Ordering::Greater,
+            (DefinitionName::Node(None), DefinitionName::Node(None)) => Ordering::Equal,
+            (DefinitionName::Node(None), DefinitionName::Node(Some(_))) => Ordering::Less,
+            (DefinitionName::Node(Some(_)), DefinitionName::Node(None)) => Ordering::Greater,
+            (DefinitionName::Node(Some(a)), DefinitionName::Node(Some(b))) => a.cmp(b),
         }
     }
 }
@@ -117,13 +154,17 @@ impl From<Memory> for TableStop {
 }
 
 /// The definitions of a file by their names. A contract sees the names and definitions in the order of the file.
+///
+/// Names are looked up by their order, and not by a hash: whoever writes a manifest chooses them.
 #[derive(Drop)]
 pub struct Table {
-    map: IndexMap<DefinitionName, Definition>,
+    entries: Items<(DefinitionName, Definition)>,
+    /// Where each name stands among the entries.
+    places: BTreeMap<DefinitionName, usize>,
 }
 
 impl Model for Table {
-    ghost use Rattle.pp_tree.specs.Tables.{Entries};
+    ghost use Rattle.pp_tree.specs.Tables.{Entries, ArePlaces};
     ghost use Rattle.std.specs.Coded.{coded_list, coded×};
     ghost use Rattle.pp_tree.specs.contracts.definition.Definition as definition;
     ghost use Rattle.pp_tree.specs.contracts.table.DefinitionName as name;
@@ -132,15 +173,19 @@ impl Model for Table {
 
     ghost coded = { coded_list (coded× name.the_row.coded definition.the_row.coded) };
 
-    ghost view = { λ t. t.map.entries };
+    ghost view = { λ t. t.entries };
+
+    ghost invariant = { λ t. ArePlaces t.places t.entries };
 }
 
 impl Table {
+    #[tactic(auto, using(crate::proofs::TableLemmas::no_places))]
     fn new(alloc: Global) -> Table
         ensures { result ≡ [] }
     {
         Table {
-            map: IndexMap::new(alloc),
+            entries: Items::new(alloc),
+            places: BTreeMap::new(alloc),
         }
     }
 
@@ -148,36 +193,54 @@ impl Table {
     pub fn get(&self, name: &DefinitionName) -> Option<&Definition>
         ensures { option_copied result ≡ lookup (same_name name.now) self.now }
     {
-        self.map.get(name)
+        match self.places.get(name) {
+            Some(place) => match self.entries.get(*place) {
+                Some(entry) => Some(&entry.1),
+                None => None,
+            },
+            None => None,
+        }
     }
 
     /// The name and the definition at a place, counted from 0.
     pub fn at(&self, index: usize) -> Option<(&DefinitionName, &Definition)>
         ensures { option_map deref_pair result ≡ slice_get self.now index }
     {
-        self.map.get_index(index)
+        match self.entries.get(index) {
+            Some((name, definition)) => Some((name, definition)),
+            None => None,
+        }
     }
 
     pub fn len(&self) -> usize
         ensures { result ≡ length self.now }
     {
-        self.map.len()
+        self.entries.len()
     }
 
     pub fn is_empty(&self) -> bool
         ensures { IsTrue result ↔ (self.now ≡ []) }
     {
-        self.map.is_empty()
+        self.entries.is_empty()
     }
 
-    /// Puts a definition behind the others, under a name that is not there yet.
-    #[tactic(auto, using(crate::proofs::TableLemmas::put_last))]
-    fn put(&mut self, name: DefinitionName, definition: Definition) -> Result<(), Memory>
-        requires { lookup (same_name name) self.old ≡ None }
-        ensures { OnOk result (self.new ≡ self.old ++ (name, definition) ∷ []) }
+    /// With a definition behind the others, under a name that is not there yet.
+    fn with(
+        self,
+        alloc: Global,
+        name: DefinitionName,
+        definition: Definition,
+    ) -> Result<Table, Memory>
+        requires { lookup (same_name name) self ≡ None }
+        ensures { IfOk result (λ table. table ≡ self ++ (name, definition) ∷ []) }
     {
-        self.map.insert(name, definition)?;
-        Ok(())
+        let Table {
+            mut entries,
+            mut places,
+        } = self;
+        places.insert(name.copy(alloc)?, entries.len())?;
+        entries.push((name, definition))?;
+        Ok(Table { entries, places })
     }
 }
 
@@ -187,15 +250,15 @@ impl Table {
 /// `Doubled` where a name comes a second time. Classes and defines share their names, and nodes have their own.
 #[tactic(auto, unfolding(crate::specs::Tables::table_of, crate::specs::Tables::table_from), using(crate::proofs::TableLemmas::row_doubled, crate::proofs::TableLemmas::row_put))]
 pub fn table_of(alloc: Global, definitions: Items<Definition>) -> Result<Table, TableStop>
-    ensures { Makes (table_of definitions) result }
+    ensures { AnswersBy doubled_told result (table_of definitions) }
 {
     let rows = all_rows(alloc, definitions)?;
     let mut table = Table::new(alloc);
-    for row in rows.into_vec() {
+    for row in rows {
         if table.get(&row.name).is_some() {
             return Err(TableStop::Doubled(row.at));
         }
-        table.put(row.name, row.definition)?;
+        table = table.with(alloc, row.name, row.definition)?;
     }
     Ok(table)
 }

@@ -20,7 +20,7 @@ use Rattle.pp_parser.specs.Input.{Input, Parser, kind, kind_at, line_at, pure, r
 use Rattle.pp_parser.specs.Inner.{Inner}
 use Rattle.pp_parser.specs.Keys.{noting}
 use Rattle.pp_parser.specs.Kinds.{is_kind, same_kind, is_name, is_bar}
-use Rattle.pp_parser.specs.Layers.{FormLayer}
+use Rattle.pp_tree.specs.Layers.{FormLayer}
 use Rattle.pp_parser.specs.Params.{is_simple, param_by_form, param_from}
 use Rattle.pp_parser.specs.Expressions as rule
 use Rattle.pp_grammar.specs.Places.{Phrase, Within, Opens, Stands, Many, SeparatedSome, Maybe, before}

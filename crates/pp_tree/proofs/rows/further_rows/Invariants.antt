@@ -4,4 +4,4 @@ use Rattle.pp_tree.specs.Tables.{further_row}
 use Rattle.pp_tree.proofs.rows.further_rows.Given as goal
 
 abbrev pub invariant-loop-name : goal.invariant-loop-name
-invariant-loop-name l = l.rows ≡ map (further_row l.first) (take l.name-index l.names)
+invariant-loop-name l = l.rows.items ≡ map (further_row l.first) (take l.name-index l.names)

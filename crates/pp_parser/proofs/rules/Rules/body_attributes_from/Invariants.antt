@@ -1,0 +1,12 @@
+use Rattle.std.proofs.Common.{◌≡◌, ◌-◌, false}
+use Rattle.pp_lexer.specs.declared.kind.Kind.TheVariants as k
+use Rattle.pp_parser.specs.Input.{separated_from, turns}
+use Rattle.pp_parser.specs.Kinds.{ends_body}
+use Rattle.pp_parser.specs.Statements.{attribute}
+use Rattle.pp_parser.specs.Levels.{within}
+use Rattle.pp_parser.proofs.rules.Rules.body_attributes_from.Given as goal
+
+abbrev pub invariant-loop-turn : goal.invariant-loop-turn
+invariant-loop-turn g l =
+    separated_from ends_body k.Comma (attribute (within l.self.levels) false) (turns l.fn.tokens) l.fn.found l.fn.tokens
+    ≡ separated_from ends_body k.Comma (attribute (within l.self.levels) false) (l._turn-end - l._turn) l.found l.tokens

@@ -1,0 +1,10 @@
+use Rattle.std.proofs.Common.{◌≡◌, ◌-◌, []}
+use Rattle.pp_parser.specs.Input.{turns}
+use Rattle.pp_parser.specs.Definitions.{node_names_from}
+use Rattle.pp_parser.specs.Levels.{within}
+use Rattle.pp_parser.proofs.rules.Rules.node_names.Given as goal
+
+abbrev pub invariant-loop-turn : goal.invariant-loop-turn
+invariant-loop-turn g l =
+    node_names_from (within l.self.levels) (turns l.fn.tokens) [] l.fn.tokens
+    ≡ node_names_from (within l.self.levels) (l._turn-end - l._turn) l.found l.tokens

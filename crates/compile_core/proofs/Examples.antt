@@ -5,7 +5,7 @@ use Rattle.pp_values.specs.declared.fault.What.TheVariants.{Duplicate, UnknownPa
 use Rattle.compile_core.specs.declared.form.Notify.{Notify}
 use Rattle.compile_core.specs.declared.form.Collector.{Collector}
 use Rattle.compile_core.specs.declared.form.Form.TheVariants as form
-use Rattle.res_core.specs.Settings.{Setting}
+use Rattle.pp_values.specs.Settings.{Setting}
 use Rattle.res_core.specs.TagNames.{segments, is_word_byte, is_tag_byte}
 use Rattle.export_store.specs.ExportQueries.{Placed}
 use Rattle.compile_core.specs.Declarations.{local, imported, declare, in_turn, evaluate, locals, collectors}

@@ -8,7 +8,7 @@ use Rattle.std.specs.Cmp.{tied_itself}
 use Rattle.std.specs.Ordering.{is_lt, is_eq, ordering_reverse}
 use Rattle.std.specs.Cmp.Lexicographic.{nat_list_cmp_total}
 use Rattle.std.specs.List.{slice_get, cons_option}
-use Rattle.res_core.specs.Rising.{text_cmp}
+use Rattle.pp_values.specs.Rising.{text_cmp}
 use Rattle.res_core.specs.declared.exported.Exported.{Exported}
 use Rattle.res_core.specs.declared.export_set.ExportSet.{ExportSet}
 use Rattle.compile_core.specs.declared.form.Collector.{Collector}

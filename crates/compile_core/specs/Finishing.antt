@@ -4,7 +4,7 @@ use Rattle.std.specs.List.{list_any}
 use Rattle.pp_values.specs.Datum.{text}
 use Rattle.compile_core.specs.declared.form.Notify.{Notify}
 use Rattle.compile_core.specs.declared.form.Collector.{Collector}
-use Rattle.res_core.specs.Settings.{Setting}
+use Rattle.pp_values.specs.Settings.{Setting}
 use Rattle.res_core.specs.TagNames.{tags}
 use Rattle.res_core.specs.declared.resource.Resource.{Resource}
 use Rattle.res_core.specs.declared.held.Held.{Held}

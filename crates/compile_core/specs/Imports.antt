@@ -6,7 +6,7 @@ use Rattle.pp_values.specs.declared.fault.Fault.{Fault}
 use Rattle.pp_values.specs.declared.fault.What.TheVariants.{UnknownParameter}
 use Rattle.compile_core.specs.declared.form.Collector.{Collector}
 use Rattle.res_core.specs.declared.exported.Exported.{Exported}
-use Rattle.res_core.specs.Settings.{Setting, setting_names}
+use Rattle.pp_values.specs.Settings.{Setting, setting_names}
 use Rattle.export_store.specs.declared.export_place.ExportPlace.{ExportPlace}
 use Rattle.export_store.specs.ExportQueries.{Placed, exports_of, is_found}
 use Rattle.export_store.specs.Sets.{Sets}

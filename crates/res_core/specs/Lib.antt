@@ -4,4 +4,5 @@ pub mod ResourceCodes
 pub mod ExportedCodes
 pub mod ExportSetCodes
 pub mod Asked
+pub mod AskedFacts
 pub mod RequestViews

@@ -1,23 +1,26 @@
 -- Bundles, and what they say.
-use Rattle.std.proofs.Common.{◌≡◌, true, false, [], ◌∷◌, Some, None, Ok, Err, refl, codes}
+use Rattle.std.proofs.Common.{◌≡◌, ◌*◌, true, false, [], ◌∷◌, Some, None, Ok, Err, refl, codes}
 use Rattle.pp_values.specs.Datum.{hash, no_entries}
+use Rattle.pp_values.specs.declared.place.TheConstants.{MAIN_MANIFEST}
 use Rattle.res_core.specs.Asked.{compile, deactivate}
 use Rattle.site_bundle.specs.NodeNames.{is_node_name}
-use Rattle.site_bundle.specs.SiteView.{SiteView, facts_for, with_facts}
+use Rattle.site_bundle.specs.SiteView.{SiteView, facts_for, main_text, text_at, put_in, site_of}
+use Rattle.site_bundle.specs.Given.{are_distinct, has_main, is_manifest_path}
+use Rattle.site_bundle.specs.declared.limits.TheConstants.{MOST_BUNDLE_BYTES, MOST_FILE_BYTES, MOST_REQUESTS}
 use Rattle.site_bundle.specs.Refusals.{not_json, bad_shape}
 use Rattle.site_bundle.specs.Bundles.{bundle_of}
 use Rattle.site_bundle.proofs.OnLiterals.{bundle_on_literals}
 
 -- nodes by name, requests in their order
 whole : bundle_of (codes "{\"bundle\": 1, \"files\": {\"manifests/site.pp\": \"\"}, \"nodes\": {\"b\": {}, \"a\": {}}, \"requests\": [{\"node\": \"a\", \"seen\": 2}, {\"node\": \"b\", \"facts\": {}}, {\"deactivate\": \"z\"}]}") ≡ Ok (record {
-  site = record { manifest = []; nodes = (codes "a", hash no_entries) ∷ (codes "b", hash no_entries) ∷ [] };
+  site = record { files = (MAIN_MANIFEST.now, []) ∷ []; nodes = (codes "a", hash no_entries) ∷ (codes "b", hash no_entries) ∷ [] };
   requests = compile (record { node = codes "a"; facts = None; seen = 2 }) ∷ compile (record { node = codes "b"; facts = Some (hash no_entries); seen = 0 }) ∷ deactivate (codes "z") ∷ [];
 })
 unfolding bundle_on_literals
 whole = refl
 
 -- nodes and requests may be missing, and other members do not count
-least : bundle_of (codes "{\"bundle\":1,\"files\":{\"manifests/site.pp\":\"x\"},\"other\":[1.5]}") ≡ Ok (record { site = record { manifest = codes "x"; nodes = [] }; requests = [] })
+least : bundle_of (codes "{\"bundle\":1,\"files\":{\"manifests/site.pp\":\"x\"},\"other\":[1.5]}") ≡ Ok (record { site = record { files = (MAIN_MANIFEST.now, codes "x") ∷ []; nodes = [] }; requests = [] })
 unfolding bundle_on_literals
 least = refl
 
@@ -82,7 +85,7 @@ unfolding bundle_on_literals
 both = refl
 
 -- beside `deactivate` nothing else counts
-ignored : bundle_of (codes "{\"bundle\":1,\"files\": {\"manifests/site.pp\": \"\"},\"requests\":[{\"facts\":1,\"seen\":-1,\"deactivate\":\"a\"}]}") ≡ Ok (record { site = record { manifest = []; nodes = [] }; requests = deactivate (codes "a") ∷ [] })
+ignored : bundle_of (codes "{\"bundle\":1,\"files\": {\"manifests/site.pp\": \"\"},\"requests\":[{\"facts\":1,\"seen\":-1,\"deactivate\":\"a\"}]}") ≡ Ok (record { site = record { files = (MAIN_MANIFEST.now, []) ∷ []; nodes = [] }; requests = deactivate (codes "a") ∷ [] })
 unfolding bundle_on_literals
 ignored = refl
 
@@ -112,7 +115,7 @@ unfolding bundle_on_literals
 machine = refl
 
 -- the last value of a key that stands twice
-twice : bundle_of (codes "{\"bundle\":2,\"bundle\":1,\"files\":{\"manifests/site.pp\":\"\"}}") ≡ Ok (record { site = record { manifest = []; nodes = [] }; requests = [] })
+twice : bundle_of (codes "{\"bundle\":2,\"bundle\":1,\"files\":{\"manifests/site.pp\":\"\"}}") ≡ Ok (record { site = record { files = (MAIN_MANIFEST.now, []) ∷ []; nodes = [] }; requests = [] })
 unfolding bundle_on_literals
 twice = refl
 
@@ -126,12 +129,43 @@ capital_letter : is_node_name (codes "Web") ≡ false
 capital_letter = refl
 
 site : SiteView
-site = record { manifest = []; nodes = (codes "a", hash no_entries) ∷ (codes "c", hash no_entries) ∷ [] }
-
-listed_between : (with_facts site (codes "b") (hash no_entries)).nodes ≡ (codes "a", hash no_entries) ∷ (codes "b", hash no_entries) ∷ (codes "c", hash no_entries) ∷ []
-unfolding site
-listed_between = refl
+site = record { files = (MAIN_MANIFEST.now, []) ∷ []; nodes = (codes "a", hash no_entries) ∷ (codes "c", hash no_entries) ∷ [] }
 
 not_listed : facts_for site (codes "b") ≡ None
 unfolding site
 not_listed = refl
+
+listed : facts_for site (codes "c") ≡ Some (hash no_entries)
+unfolding site
+listed = refl
+
+main_manifest : main_text site ≡ []
+unfolding site
+main_manifest = refl
+
+no_file : text_at site (codes "a.pp") ≡ None
+unfolding site
+no_file = refl
+
+-- files and nodes stand by path and name in byte order
+in_order : site_of ((MAIN_MANIFEST.now, codes "x") ∷ (codes "a.pp", codes "y") ∷ []) ((codes "c", hash no_entries) ∷ (codes "a", hash no_entries) ∷ [])
+    ≡ record {
+      files = (codes "a.pp", codes "y") ∷ (MAIN_MANIFEST.now, codes "x") ∷ [];
+      nodes = (codes "a", hash no_entries) ∷ (codes "c", hash no_entries) ∷ [];
+    }
+unfolding put_in
+in_order = refl
+
+given : (are_distinct ((codes "a", tt) ∷ (codes "b", tt) ∷ []) ≡ true)
+    × (are_distinct ((codes "a", tt) ∷ (codes "b", tt) ∷ (codes "a", tt) ∷ []) ≡ false)
+    × (has_main ((MAIN_MANIFEST.now, []) ∷ []) ≡ true)
+    × (has_main ((codes "site.pp", []) ∷ []) ≡ false)
+    × (is_manifest_path (codes "modules/a/manifests/init.pp") ≡ true)
+    × (is_manifest_path (codes ".pp") ≡ true)
+    × (is_manifest_path (codes "pp") ≡ false)
+    × (is_manifest_path (codes "data/common.json") ≡ false)
+given = (refl, refl, refl, refl, refl, refl, refl, refl)
+
+-- how much a bundle may be: 64 MiB, 4 MiB a file, 1,048,576 requests
+limits : (MOST_BUNDLE_BYTES ≡ 64 * 1024 * 1024) × (MOST_FILE_BYTES ≡ 4 * 1024 * 1024) × (MOST_REQUESTS ≡ 1048576)
+limits = (refl, refl, refl)

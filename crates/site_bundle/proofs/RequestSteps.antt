@@ -10,11 +10,13 @@ use Rattle.serde_json.specs.Data.{Data, null, boolean, number, string, array, ob
 use Rattle.serde_json.specs.Find.{get, as_array}
 use Rattle.serde_json.specs.declared.value.Value.{Value}
 use Rattle.serde_json.specs.View.{view, items_view}
-use Rattle.site_core.specs.Facts.{are_facts}
+use Rattle.pp_values.specs.Facts.{are_facts}
 use Rattle.site_bundle.specs.declared.bundle_stop.BundleStop.{BundleStop}
 use Rattle.site_bundle.specs.Refusals.{Refusal, too_large, bad_shape, Tells, Refuses, Reads, result_and_then}
 use Rattle.site_bundle.specs.GivenFacts.{given_facts}
-use Rattle.site_bundle.specs.RequestsOf.{most_requests, bad_member, facts_asked, seen_asked, name_asked, wanted_in, asked_by, asked_in, asked_from, item_count, asked_among, all_asked_in, has_facts, asks_with_facts, give_facts}
+use Rattle.site_bundle.specs.declared.limits.TheConstants.{MOST_REQUESTS}
+use Rattle.site_bundle.specs.RequestsOf.{bad_member, facts_asked, seen_asked, name_asked, wanted_in, asked_by, asked_in, asked_from, item_count, asked_among, all_asked_in}
+use Rattle.res_core.specs.AskedFacts.{has_facts, asks_with_facts, give_facts}
 use Rattle.site_bundle.proofs.Chains.{refuses_then, refuses_same, reads_same, told, if_then, if_each}
 
 -- ---- the loop
@@ -56,15 +58,15 @@ unfolding item_count
 item_count-items_view [] = refl
 item_count-items_view (x ∷ xs) = ap suc (item_count-items_view xs)
 
-pub few_enough : (r : Result (List Asked) BundleStop) (xs : List Value) → length xs ≤ most_requests → Reads r (asked_from [] (items_view xs)) → Reads r (asked_among (items_view xs))
+pub few_enough : (r : Result (List Asked) BundleStop) (xs : List Value) → length xs ≤ MOST_REQUESTS → Reads r (asked_from [] (items_view xs)) → Reads r (asked_among (items_view xs))
 few_enough r xs few h =
     reads_same r _ _
-    (ap (λ b. if b then asked_from [] (items_view xs) else Err (too_large (codes "requests"))) (ap (λ n. nat_le n most_requests) (item_count-items_view xs) ∙ le-leb _ _ few)) h
+    (ap (λ b. if b then asked_from [] (items_view xs) else Err (too_large (codes "requests"))) (ap (λ n. nat_le n MOST_REQUESTS) (item_count-items_view xs) ∙ le-leb _ _ few)) h
 
-pub too_many : (s : BundleStop) (xs : List Value) → most_requests < length xs → Tells s (too_large (codes "requests")) → Refuses s (asked_among (items_view xs))
+pub too_many : (s : BundleStop) (xs : List Value) → MOST_REQUESTS < length xs → Tells s (too_large (codes "requests")) → Refuses s (asked_among (items_view xs))
 too_many s xs many h =
     refuses_same s _ _
-    (ap (λ b. if b then asked_from [] (items_view xs) else Err (too_large (codes "requests"))) (ap (λ n. nat_le n most_requests) (item_count-items_view xs) ∙ lt-leb _ _ many)) (told (List Asked) s _ h)
+    (ap (λ b. if b then asked_from [] (items_view xs) else Err (too_large (codes "requests"))) (ap (λ n. nat_le n MOST_REQUESTS) (item_count-items_view xs) ∙ lt-leb _ _ many)) (told (List Asked) s _ h)
 
 asked_from-length : (found : List Asked) (ds : Items) (n : ℕ) → length found + item_count ds ≡ n → IfOk (asked_from found ds) (λ rs. length rs ≡ n)
 unfolding asked_from item_count
@@ -73,12 +75,12 @@ asked_from-length found (item d ds) n is =
     if_each (asked_in (length found) d) (λ a. asked_from (found ++ a ∷ []) ds) (λ rs. length rs ≡ n)
     (λ a. asked_from-length (found ++ a ∷ []) ds n (omega (arith, length-append found (a ∷ []), is)))
 
-among-few : (ds : Items) (b : Bool) → nat_le (item_count ds) most_requests ≡ b → IfOk (if b then asked_from [] ds else Err (too_large (codes "requests"))) (λ rs. length rs ≤ most_requests)
-among-few ds true is = IfOk-weaker (asked_from [] ds) (λ rs. length rs ≡ 0 + item_count ds) (λ rs. length rs ≤ most_requests) (λ rs same. omega (arith, same, leb-true _ _ is)) (asked_from-length [] ds _ refl)
+among-few : (ds : Items) (b : Bool) → nat_le (item_count ds) MOST_REQUESTS ≡ b → IfOk (if b then asked_from [] ds else Err (too_large (codes "requests"))) (λ rs. length rs ≤ MOST_REQUESTS)
+among-few ds true is = IfOk-weaker (asked_from [] ds) (λ rs. length rs ≡ 0 + item_count ds) (λ rs. length rs ≤ MOST_REQUESTS) (λ rs same. omega (arith, same, leb-true _ _ is)) (asked_from-length [] ds _ refl)
 among-few ds false is = tt
 
-pub asked-few : (d : Data) → IfOk (all_asked_in d) (λ rs. length rs ≤ most_requests)
-asked-few d = if_each (ok_or (as_array d) (bad_shape (codes "requests"))) asked_among (λ rs. length rs ≤ most_requests) (λ ds. among-few ds _ refl)
+pub asked-few : (d : Data) → IfOk (all_asked_in d) (λ rs. length rs ≤ MOST_REQUESTS)
+asked-few d = if_each (ok_or (as_array d) (bad_shape (codes "requests"))) asked_among (λ rs. length rs ≤ MOST_REQUESTS) (λ ds. among-few ds _ refl)
 
 -- ---- their facts
 

@@ -1,26 +1,33 @@
--- The nodes of a site as a map: what is found in it, and what is put in.
-use Rattle.std.proofs.Common.{◌≡◌, Bor, ℕ, Bool, true, false, ◌&&◌, T, IsTrue, cond, None, Some, Option, List, [], ◌∷◌, refl, sym, ap, subst}
+-- The files and nodes of a site as maps: what is found in them, and what is put in.
+use Rattle.std.proofs.Common.{◌≡◌, Bor, ℕ, Bool, true, false, ◌&&◌, T, IsTrue, cond, None, Some, Option, List, [], ◌∷◌, refl, sym, ap, subst, ◌∙◌}
 use Rattle.std.specs.Prelude.{option_map, option_copied, IfSome, if◌then◌else◌}
+use Rattle.std.specs.declared.cmp.Ordering.{Ordering}
 use Rattle.std.specs.declared.cmp.Ordering.TheVariants.{Less, Equal, Greater}
-use Rattle.std.specs.Ordering.{eq_by_cmp, match_ordering}
+use Rattle.std.specs.Ordering.{eq_by_cmp, is_eq, match_ordering}
+use Rattle.std.proofs.lemmas.List.Elements.{All-head, All-tail, All-cons}
+use Rattle.std.proofs.lemmas.Map.Text.{is_eq-slice_cmp}
+use Rattle.std.proofs.lemmas.Slice.Eq.{bytes_eq-Decides}
 use Rattle.std.specs.Cmp.Lexicographic.{nat_list_cmp_total}
 use Rattle.std.specs.BTreeMap.{insert_entry, is_at}
 use Rattle.std.specs.Map.{lookup}
 use Rattle.std.specs.FinMap.{find, put}
 use Rattle.std.specs.FinMap.Entries.{by_order, is_sorted-put}
+use Rattle.std.specs.List.{All}
+use Rattle.pp_parser.specs.Manifest.{file_of}
 use Rattle.pp_values.specs.declared.value.Value.{Value}
 use Rattle.pp_values.specs.Datum.{Datum}
 use Rattle.pp_values.specs.Views.{view}
-use Rattle.res_core.specs.Rising.{text_cmp}
-use Rattle.site_core.specs.Facts.{are_facts}
-use Rattle.site_bundle.specs.SiteView.{Listed, IsSite, are_rising, have_facts}
-use Rattle.site_bundle.specs.Listing.{listed}
+use Rattle.pp_values.specs.Facts.{are_facts}
+use Rattle.pp_values.specs.Rising.{text_cmp}
+use Rattle.site_bundle.specs.declared.site_files.SiteFile.{SiteFile}
+use Rattle.site_bundle.specs.SiteView.{Listed, are_rising, have_facts}
+use Rattle.site_bundle.specs.Listing.{shown, listed, IsRead, AreRead}
 
-pub true_of : (b : Bool) → T b → IsTrue b
+true_of : (b : Bool) → T b → IsTrue b
 true_of true h = refl
 true_of false h = absurd h
 
-pub test_of : (b : Bool) → IsTrue b → T b
+test_of : (b : Bool) → IsTrue b → T b
 test_of b e = subst T (sym e) tt
 
 both : (a b : Bool) → IsTrue a → IsTrue b → IsTrue (a && b)
@@ -35,27 +42,45 @@ second : (a b : Bool) → IsTrue (a && b) → IsTrue b
 second true b h = h
 second false b h = absurd (test_of false h)
 
--- to insert an entry is to put it
-pub listed-insert : (es : List (List ℕ × Value)) (k : List ℕ) (v : Value) → listed (insert_entry text_cmp es k v) ≡ put text_cmp k (view v) (listed es)
-listed-insert [] k v = refl
-listed-insert (e ∷ es) k v =
-    elim (text_cmp k e.0) as (λ r. listed (match_ordering r ((k, v) ∷ e ∷ es) ((e.0, v) ∷ es) (e ∷ insert_entry text_cmp es k v)) ≡ by_order r ((k, view v) ∷ listed (e ∷ es)) ((e.0, view v) ∷ listed es) ((e.0, view e.1) ∷ put text_cmp k (view v) (listed es))) [
-      | Less ↦ refl
-      | Equal ↦ refl
-      | Greater ↦ ap (λ l. (e.0, view e.1) ∷ l) (listed-insert es k v)
-    ]
+-- ---- whatever stands at the keys
 
--- what is looked up is what is found
-pub lookup-listed : (es : List (List ℕ × Value)) (k : List ℕ) → option_map view (lookup (is_at (text_cmp k)) es) ≡ find text_cmp k (listed es)
-lookup-listed [] k = refl
-lookup-listed (e ∷ es) k =
-    elim (eq_by_cmp text_cmp k e.0) as (λ b. option_map view (cond b (Some e.1) (lookup (is_at (text_cmp k)) es)) ≡ cond b (Some (view e.1)) (find text_cmp k (listed es))) [
-      | true ↦ refl
-      | false ↦ lookup-listed es k
-    ]
+module _ {X Y : Type 0} (f : X → Y) where
+  -- to insert an entry is to put what it shows
+  pub shown-insert : (es : List (List ℕ × X)) (k : List ℕ) (v : X) → shown f (insert_entry text_cmp es k v) ≡ put text_cmp k (f v) (shown f es)
+  shown-insert [] k v = refl
+  shown-insert (e ∷ es) k v =
+      elim (text_cmp k e.0) as (λ r. shown f (match_ordering r ((k, v) ∷ e ∷ es) ((e.0, v) ∷ es) (e ∷ insert_entry text_cmp es k v))
+      ≡ by_order r ((k, f v) ∷ shown f (e ∷ es)) ((e.0, f v) ∷ shown f es) ((e.0, f e.1) ∷ put text_cmp k (f v) (shown f es))) [
+        | Less ↦ refl
+        | Equal ↦ refl
+        | Greater ↦ ap (λ l. (e.0, f e.1) ∷ l) (shown-insert es k v)
+      ]
 
--- what is found among facts are facts
-pub found_facts : (es : List Listed) (k : List ℕ) → IsTrue (have_facts es) → IfSome (find text_cmp k es) (λ d. IsTrue (are_facts d))
+  -- what is looked up shows what is found
+  pub lookup-shown : (es : List (List ℕ × X)) (k : List ℕ) → option_map f (lookup (is_at (text_cmp k)) es) ≡ find text_cmp k (shown f es)
+  lookup-shown [] k = refl
+  lookup-shown (e ∷ es) k =
+      elim (eq_by_cmp text_cmp k e.0) as (λ b. option_map f (cond b (Some e.1) (lookup (is_at (text_cmp k)) es)) ≡ cond b (Some (f e.1)) (find text_cmp k (shown f es))) [
+        | true ↦ refl
+        | false ↦ lookup-shown es k
+      ]
+
+  -- what is shown of a value that is found
+  pub viewed : (o : Option (Bor X)) (p : Option X) → option_copied o ≡ p → option_map (λ v. f v.now) o ≡ option_map f p
+  viewed None p is = ap (option_map f) is
+  viewed (Some v) p is = ap (option_map f) is
+
+pub rising-put : {X : Type 0} (k : List ℕ) (v : X) (es : List (List ℕ × X)) → IsTrue (are_rising es) → IsTrue (are_rising (put text_cmp k v es))
+rising-put k v es rising = true_of _ (is_sorted-put text_cmp nat_list_cmp_total k v es (test_of _ rising))
+
+-- a fact of what stands in a map holds after a put, or where nothing was put
+pub still : {X : Type 0} (P : List X → Type 0) (b : Bool) (old new with : List X) → P old → P with → new ≡ (if b then with else old) → P new
+still P true old new with before after is = subst P (sym is) after
+still P false old new with before after is = subst P (sym is) before
+
+-- ---- facts
+
+found_facts : (es : List Listed) (k : List ℕ) → IsTrue (have_facts es) → IfSome (find text_cmp k es) (λ d. IsTrue (are_facts d))
 found_facts [] k h = tt
 found_facts (e ∷ es) k h =
     elim (eq_by_cmp text_cmp k e.0) as (λ b. IfSome (cond b (Some e.1) (find text_cmp k es)) (λ d. IsTrue (are_facts d))) [
@@ -63,7 +88,7 @@ found_facts (e ∷ es) k h =
       | false ↦ found_facts es k (second _ _ h)
     ]
 
-have_facts-put : (k : List ℕ) (d : Datum) (es : List Listed) → IsTrue (are_facts d) → IsTrue (have_facts es) → IsTrue (have_facts (put text_cmp k d es))
+pub have_facts-put : (k : List ℕ) (d : Datum) (es : List Listed) → IsTrue (are_facts d) → IsTrue (have_facts es) → IsTrue (have_facts (put text_cmp k d es))
 have_facts-put k d [] p h = both _ _ p refl
 have_facts-put k d (e ∷ es) p h =
     elim (text_cmp k e.0) as (λ r. IsTrue (have_facts (by_order r ((k, d) ∷ e ∷ es) ((e.0, d) ∷ es) (e ∷ put text_cmp k d es)))) [
@@ -72,26 +97,39 @@ have_facts-put k d (e ∷ es) p h =
       | Greater ↦ both _ _ (first _ _ h) (have_facts-put k d es p (second _ _ h))
     ]
 
--- a site stays one where facts are put in, or where it is left as it was
-pub is_site-put : (manifest : List ℕ) (es fs : List Listed) (k : List ℕ) (d : Datum) (b : Bool) → IsSite (record { manifest = manifest; nodes = es }) →
-    IsTrue (are_facts d) → fs ≡ (if b then put text_cmp k d es else es) → IsSite (record { manifest = manifest; nodes = fs })
-is_site-put manifest es fs k d true s p is = record {
-  rising = subst (λ l. IsTrue (are_rising l)) (sym is) (true_of _ (is_sorted-put text_cmp nat_list_cmp_total k d es (test_of _ s.rising)));
-  facts = subst (λ l. IsTrue (have_facts l)) (sym is) (have_facts-put k d es p s.facts);
-  short = s.short;
-}
-is_site-put manifest es fs k d false s p is = record {
-  rising = subst (λ l. IsTrue (are_rising l)) (sym is) s.rising;
-  facts = subst (λ l. IsTrue (have_facts l)) (sym is) s.facts;
-  short = s.short;
-}
-
--- what is shown of a value that is found
-pub viewed : (o : Option (Bor Value)) (p : Option Value) → option_copied o ≡ p → option_map (λ v. view v.now) o ≡ option_map view p
-viewed None p is = ap (option_map view) is
-viewed (Some v) p is = ap (option_map view) is
-
-pub viewed_facts : (o : Option (Bor Value)) (es : List Listed) (k : List ℕ) → option_map (λ v. view v.now) o ≡ find text_cmp k es → IsTrue (have_facts es) →
-    IfSome o (λ v. IsTrue (are_facts (view v.now)))
+pub viewed_facts : (o : Option (Bor Value)) (es : List Listed) (k : List ℕ) → option_map (λ v. view v.now) o ≡ find text_cmp k es →
+    IsTrue (have_facts es) → IfSome o (λ v. IsTrue (are_facts (view v.now)))
 viewed_facts None es k is h = tt
 viewed_facts (Some v) es k is h = subst (λ p. IfSome p (λ d. IsTrue (are_facts d))) (sym is) (found_facts es k h)
+
+-- ---- trees
+
+same_key : (a b : List ℕ) → eq_by_cmp text_cmp a b ≡ true → a ≡ b
+same_key a b e = (bytes_eq-Decides a b).0 (sym (is_eq-slice_cmp a b) ∙ e)
+
+-- what was read of a file stays so when another is put in, and a new one has been read
+pub are_read-insert : (es : List (List ℕ × SiteFile)) (k : List ℕ) (v : SiteFile) → v.read ≡ file_of k v.text → AreRead es →
+    AreRead (insert_entry text_cmp es k v)
+are_read-insert [] k v read all = All-cons IsRead (k, v) [] read all
+are_read-insert (e ∷ es) k v read all =
+    elim (text_cmp k e.0) as (λ r. text_cmp k e.0 ≡ r → AreRead (match_ordering r ((k, v) ∷ e ∷ es) ((e.0, v) ∷ es) (e ∷ insert_entry text_cmp es k v))) [
+      | Less ↦ λ is. All-cons IsRead (k, v) (e ∷ es) read all
+      | Equal ↦ λ is.
+          All-cons IsRead (e.0, v) es (subst (λ p. v.read ≡ file_of p v.text) (same_key k e.0 (ap is_eq is)) read) (All-tail IsRead e es all)
+      | Greater ↦ λ is. All-cons IsRead e (insert_entry text_cmp es k v) (All-head IsRead e es all) (are_read-insert es k v read (All-tail IsRead e es all))
+    ] refl
+
+-- what is looked up was read at this path
+found_read : (es : List (List ℕ × SiteFile)) (k : List ℕ) → AreRead es → IfSome (lookup (is_at (text_cmp k)) es) (λ v. v.read ≡ file_of k v.text)
+found_read [] k all = tt
+found_read (e ∷ es) k all =
+    elim (eq_by_cmp text_cmp k e.0) as (λ b. eq_by_cmp text_cmp k e.0 ≡ b →
+    IfSome (cond b (Some e.1) (lookup (is_at (text_cmp k)) es)) (λ v. v.read ≡ file_of k v.text)) [
+      | true ↦ λ is. subst (λ p. e.1.read ≡ file_of p e.1.text) (sym (same_key k e.0 is)) (All-head IsRead e es all)
+      | false ↦ λ is. found_read es k (All-tail IsRead e es all)
+    ] refl
+
+pub viewed_read : (o : Option (Bor SiteFile)) (es : List (List ℕ × SiteFile)) (k : List ℕ) → option_copied o ≡ lookup (is_at (text_cmp k)) es → AreRead es →
+    IfSome o (λ v. v.now.read ≡ file_of k v.now.text)
+viewed_read None es k is all = tt
+viewed_read (Some v) es k is all = subst (λ p. IfSome p (λ v. v.read ≡ file_of k v.text)) (sym is) (found_read es k all)

@@ -4,15 +4,12 @@ use Rattle.std.specs.Option.{ok_or}
 use Rattle.std.specs.Str.{is_utf8}
 use Rattle.serde_json.specs.Data.{Data}
 use Rattle.serde_json.specs.Read.{read}
+use Rattle.site_bundle.specs.declared.limits.TheConstants.{MOST_BUNDLE_BYTES}
 use Rattle.site_bundle.specs.Refusals.{Refusal, not_json, too_large}
-
--- the most bytes that a bundle has: 64 MiB
-abbrev pub most_bytes : ℕ
-most_bytes = 67108864
 
 -- JSON in UTF-8 whose lists and objects nest at most 127 levels deep; of a name that stands twice in an object the last value counts
 unfoldable pub json_of : List ℕ → Result Data Refusal
 json_of bytes = if is_utf8 bytes then ok_or (read bytes) not_json else Err not_json
 
 abbrev pub document_of : List ℕ → Result Data Refusal
-document_of bytes = if nat_le (length bytes) most_bytes then json_of bytes else Err (too_large (codes "bundle"))
+document_of bytes = if nat_le (length bytes) MOST_BUNDLE_BYTES then json_of bytes else Err (too_large (codes "bundle"))

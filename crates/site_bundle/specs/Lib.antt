@@ -1,4 +1,5 @@
 pub mod SiteView
+pub mod Given
 pub mod Listing
 pub mod NodeNames
 pub mod Refusals

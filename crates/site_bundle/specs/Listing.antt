@@ -1,8 +1,28 @@
--- The nodes of a site as entries of a map from names to facts.
-use Rattle.std.specs.Prelude.{ℕ, List, map}
+-- The files and nodes of a site as entries of maps.
+use Rattle.std.specs.Prelude.{◌≡◌, ℕ, List, map}
+use Rattle.std.specs.List.{All}
+use Rattle.pp_parser.specs.Manifest.{file_of}
 use Rattle.pp_values.specs.declared.value.Value.{Value}
 use Rattle.pp_values.specs.Views.{view}
-use Rattle.site_bundle.specs.SiteView.{Listed}
+use Rattle.site_bundle.specs.declared.site_files.SiteFile.{SiteFile}
+use Rattle.site_bundle.specs.SiteView.{Filed, Listed}
+
+-- each entry with what its value shows
+abbrev pub shown : {X Y : Type 0} → (X → Y) → List (List ℕ × X) → List (List ℕ × Y)
+shown f = map (λ e. (e.0, f e.1))
+
+abbrev pub text_of : SiteFile → List ℕ
+text_of file = file.text
+
+abbrev pub filed : List (List ℕ × SiteFile) → List Filed
+filed = shown text_of
 
 abbrev pub listed : List (List ℕ × Value) → List Listed
-listed = map (λ e. (e.0, view e.1))
+listed = shown view
+
+-- what is kept of the file at a path is what its text means
+abbrev pub IsRead : List ℕ × SiteFile → Type 0
+IsRead e = e.1.read ≡ file_of e.0 e.1.text
+
+abbrev pub AreRead : List (List ℕ × SiteFile) → Type 0
+AreRead es = All IsRead es

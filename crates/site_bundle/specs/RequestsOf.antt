@@ -1,19 +1,14 @@
 -- The requests of a bundle.
-use Rattle.std.specs.Prelude.{ℕ, suc, ◌^◌, Bool, true, if◌then◌else◌, nat_lt, nat_le, codes, List, [], ◌∷◌, ◌++◌, length, Option, Some, None, option_and_then, Result, Ok, Err}
+use Rattle.std.specs.Prelude.{ℕ, suc, ◌^◌, if◌then◌else◌, nat_lt, nat_le, codes, List, [], ◌∷◌, ◌++◌, length, Option, Some, None, option_and_then, Result, Ok, Err}
 use Rattle.std.specs.Option.{ok_or}
-use Rattle.std.specs.List.{list_all}
 use Rattle.pp_values.specs.Datum.{Datum}
 use Rattle.serde_json.specs.Data.{Data, Items, no_items, item}
 use Rattle.serde_json.specs.Find.{get, as_array, as_str, as_number, as_u64}
 use Rattle.res_core.specs.Asked.{Asked, compile, deactivate, Wanted}
-use Rattle.site_core.specs.Facts.{are_facts}
+use Rattle.site_bundle.specs.declared.limits.TheConstants.{MOST_REQUESTS}
 use Rattle.site_bundle.specs.NodeNames.{is_node_name}
 use Rattle.site_bundle.specs.Refusals.{Refusal, bad_shape, too_large, under, request_path, result_and_then}
 use Rattle.site_bundle.specs.GivenFacts.{given_facts}
-
--- the most requests of a bundle
-abbrev pub most_requests : ℕ
-most_requests = 1048576
 
 -- a member of the request with this number is bad
 abbrev pub bad_member : ℕ → List ℕ → Refusal
@@ -71,7 +66,7 @@ item_count (item d ds) = suc (item_count ds)
 
 -- a list that is too long is refused before any of its items
 abbrev pub asked_among : Items → Result (List Asked) Refusal
-asked_among ds = if nat_le (item_count ds) most_requests then asked_from [] ds else Err (too_large (codes "requests"))
+asked_among ds = if nat_le (item_count ds) MOST_REQUESTS then asked_from [] ds else Err (too_large (codes "requests"))
 
 abbrev pub all_asked_in : Data → Result (List Asked) Refusal
 all_asked_in d = result_and_then asked_among (ok_or (as_array d) (bad_shape (codes "requests")))
@@ -83,15 +78,3 @@ given_requests (Some d) = all_asked_in d
 -- what the bundle asks for; there may be nothing
 abbrev pub requests_of : Data → Result (List Asked) Refusal
 requests_of bundle = given_requests (get (codes "requests") bundle)
-
-abbrev pub has_facts : Option Datum → Bool
-has_facts None = true
-has_facts (Some d) = are_facts d
-
-abbrev pub asks_with_facts : Asked → Bool
-asks_with_facts (compile w) = has_facts w.facts
-asks_with_facts (deactivate node) = true
-
--- the facts in the requests are facts
-abbrev pub give_facts : List Asked → Bool
-give_facts asked = list_all asks_with_facts asked

@@ -1,46 +1,71 @@
 -- What a site says.
-use Rattle.std.specs.Prelude.{◌<◌, ◌+◌, ◌^◌, ℕ, Bool, IsTrue, List, Option, length, refl}
+use Rattle.std.specs.Prelude.{◌≡◌, ℕ, Bool, IsTrue, IsSome, List, [], ◌∷◌, Option, refl}
 use Rattle.std.specs.Coded.{Coded, code_by, coded×, coded_list}
 use Rattle.std.specs.FinMap.{find, put, is_sorted}
 use Rattle.std.specs.List.{list_all}
+use Rattle.std.specs.Option.{unwrap_or}
 use Rattle.pp_values.specs.Datum.{Datum}
 use Rattle.pp_values.specs.Codes.{coded_text, coded_datum}
-use Rattle.res_core.specs.Rising.{text_cmp}
-use Rattle.site_core.specs.Facts.{are_facts}
+use Rattle.pp_values.specs.Facts.{are_facts}
+use Rattle.pp_values.specs.Rising.{text_cmp}
+use Rattle.pp_values.specs.declared.place.TheConstants.{MAIN_MANIFEST}
+
+-- a path, and the text that stands there
+abbrev pub Filed : Type 0
+Filed = List ℕ × List ℕ
 
 -- a node's name, and what its facts say
 abbrev pub Listed : Type 0
 Listed = List ℕ × Datum
 
--- the main manifest, and the nodes with their facts, by name in byte order
+-- the files by path, and the nodes by name, each in byte order
 pub record SiteView : Type 0 where
-  pub manifest : List ℕ
+  pub files : List Filed
   pub nodes : List Listed
+
+-- the text at a path, if a file stands there
+abbrev pub text_at : SiteView → List ℕ → Option (List ℕ)
+text_at s path = find text_cmp path s.files
+
+-- the text of the main manifest; each site has one
+abbrev pub main_text : SiteView → List ℕ
+main_text s = unwrap_or (text_at s MAIN_MANIFEST.now) []
 
 -- the facts that a site lists for a node, if it does
 abbrev pub facts_for : SiteView → List ℕ → Option Datum
 facts_for s node = find text_cmp node s.nodes
 
--- the site with these facts for the node, in place of those that it listed
-abbrev pub with_facts : SiteView → List ℕ → Datum → SiteView
-with_facts s node facts = record { manifest = s.manifest; nodes = put text_cmp node facts s.nodes }
-
--- the names rise, so that none stands twice
-abbrev pub are_rising : List Listed → Bool
-are_rising nodes = is_sorted text_cmp nodes
+-- the keys rise, so that none stands twice
+abbrev pub are_rising : {X : Type 0} → List (List ℕ × X) → Bool
+are_rising es = is_sorted text_cmp es
 
 -- what each node has are facts
 abbrev pub have_facts : List Listed → Bool
 have_facts nodes = list_all (λ e. are_facts e.1) nodes
 
--- what is true of every site; places count a manifest's lines in 32 bits
+-- what is true of every site
 pub record IsSite (s : SiteView) : Type 0 where
-  pub rising : IsTrue (are_rising s.nodes)
+  pub paths : IsTrue (are_rising s.files)
+  pub names : IsTrue (are_rising s.nodes)
   pub facts : IsTrue (have_facts s.nodes)
-  pub short : length s.manifest + 1 < 2 ^ 32
+  pub main : IsSome (text_at s MAIN_MANIFEST.now)
 
--- the code by which a proof tells sites apart
+-- ---- a site of pairs
+
+-- the entries of a map, with these pairs put in one after another
+unfoldable pub put_in : {X : Type 0} → List (List ℕ × X) → List (List ℕ × X) → List (List ℕ × X)
+put_in es [] = es
+put_in es (p ∷ ps) = put_in (put text_cmp p.0 p.1 es) ps
+
+-- the site of these files and nodes
+abbrev pub site_of : List Filed → List Listed → SiteView
+site_of files nodes = record { files = put_in [] files; nodes = put_in [] nodes }
+
+-- the codes by which a proof tells sites apart
+abbrev pub coded_nodes : Coded (List Listed)
+coded_nodes = coded_list (coded× coded_text coded_datum)
+
 abbrev pub coded_site : Coded SiteView
 coded_site =
-    code_by (List ℕ × List Listed) (coded× coded_text (coded_list (coded× coded_text coded_datum))) (λ s. (s.manifest, s.nodes))
-    (λ p. record { manifest = p.0; nodes = p.1 }) (λ _. refl)
+    code_by (List Filed × List Listed) (coded× (coded_list (coded× coded_text coded_text)) coded_nodes)
+    (λ s. (s.files, s.nodes)) (λ p. record { files = p.0; nodes = p.1 }) (λ _. refl)

@@ -4,17 +4,15 @@ ghost use Rattle.site_bundle.specs.Refusals.{ReadsAs};
 ghost use Rattle.site_bundle.specs.Documents.{json_of, document_of};
 
 use crate::bundle_stop::BundleStop;
+use crate::limits::MOST_BUNDLE_BYTES;
 use crate::refusing::too_large;
 use serde_json::Value;
 use std::alloc::Global;
 
-/// The most bytes that a bundle has: 64 MiB.
-const MOST_BYTES: usize = 67_108_864;
-
 pub fn read_document(alloc: Global, bytes: &[u8]) -> Result<Value, BundleStop>
     ensures { ReadsAs view result (document_of bytes.now) }
 {
-    if bytes.len() <= MOST_BYTES {
+    if bytes.len() <= MOST_BUNDLE_BYTES {
         parse(alloc, bytes)
     } else {
         Err(too_large(alloc, "bundle"))

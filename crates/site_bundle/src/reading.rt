@@ -1,8 +1,9 @@
 //! Reading a bundle from its bytes.
 ghost use Rattle.std.specs.Prelude.{◌≡◌, ◌≤◌, length, IfOk, IsTrue};
 ghost use Rattle.serde_json.specs.View.{view};
+ghost use Rattle.site_bundle.specs.declared.limits.TheConstants.{MOST_REQUESTS};
 ghost use Rattle.site_bundle.specs.Refusals.{Reads};
-ghost use Rattle.site_bundle.specs.RequestsOf.{most_requests, give_facts};
+ghost use Rattle.res_core.specs.AskedFacts.{give_facts};
 ghost use Rattle.site_bundle.specs.Bundles.{is_bundle, members_of, bundle_in, bundle_of};
 
 use crate::bundle::Bundle;
@@ -12,7 +13,7 @@ use crate::files::read_manifest;
 use crate::nodes::read_nodes;
 use crate::refusing::bad_shape;
 use crate::requests::read_requests;
-use crate::site::Site;
+use crate::site::site_of_main;
 use serde_json::Value;
 use std::alloc::Global;
 
@@ -21,7 +22,7 @@ use std::alloc::Global;
 pub fn read_bundle(alloc: Global, bytes: &[u8]) -> Result<Bundle, BundleStop>
     ensures bundle { Reads result (bundle_of bytes.now) }
     ensures facts { IfOk result (λ b. IsTrue (give_facts b.requests)) }
-    ensures few { IfOk result (λ b. length b.requests ≤ most_requests) }
+    ensures few { IfOk result (λ b. length b.requests ≤ MOST_REQUESTS) }
 {
     let document = read_document(alloc, bytes)?;
     bundle_in(alloc, &document)
@@ -30,7 +31,7 @@ pub fn read_bundle(alloc: Global, bytes: &[u8]) -> Result<Bundle, BundleStop>
 fn bundle_in(alloc: Global, document: &Value) -> Result<Bundle, BundleStop>
     ensures bundle { Reads result (bundle_in (view document.now)) }
     ensures facts { IfOk result (λ b. IsTrue (give_facts b.requests)) }
-    ensures few { IfOk result (λ b. length b.requests ≤ most_requests) }
+    ensures few { IfOk result (λ b. length b.requests ≤ MOST_REQUESTS) }
 {
     if is_bundle(document) {
         members_of(alloc, document)
@@ -53,13 +54,14 @@ fn is_bundle(document: &Value) -> bool
 fn members_of(alloc: Global, document: &Value) -> Result<Bundle, BundleStop>
     ensures bundle { Reads result (members_of (view document.now)) }
     ensures facts { IfOk result (λ b. IsTrue (give_facts b.requests)) }
-    ensures few { IfOk result (λ b. length b.requests ≤ most_requests) }
+    ensures few { IfOk result (λ b. length b.requests ≤ MOST_REQUESTS) }
 {
     let manifest = read_manifest(alloc, document)?;
-    let site = read_nodes(alloc, document, Site::new(alloc, manifest))?;
+    let nodes = read_nodes(alloc, document)?;
     let requests = read_requests(alloc, document)?;
     if document.get("machine").is_some() {
         return Err(bad_shape(alloc, "machine"));
     }
+    let site = site_of_main(alloc, manifest, nodes)?;
     Ok(Bundle { site, requests })
 }

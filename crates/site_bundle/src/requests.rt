@@ -5,10 +5,12 @@ ghost use Rattle.serde_json.specs.View.{view, items_view};
 ghost use Rattle.res_core.specs.RequestViews.{asked, wanted};
 ghost use Rattle.pp_values.specs.Views.{view as value_view};
 ghost use Rattle.site_bundle.specs.Refusals.{Reads, ReadsAs};
-ghost use Rattle.site_bundle.specs.RequestsOf.{most_requests, name_in, count_in, facts_asked, seen_asked, name_asked, wanted_in, asked_in, asked_from, asked_among, all_asked_in, requests_of, give_facts};
+ghost use Rattle.site_bundle.specs.RequestsOf.{name_in, count_in, facts_asked, seen_asked, name_asked, wanted_in, asked_in, asked_from, asked_among, all_asked_in, requests_of};
+ghost use Rattle.res_core.specs.AskedFacts.{give_facts};
 
 use crate::bundle_stop::BundleStop;
 use crate::given_facts::given_facts;
+use crate::limits::MOST_REQUESTS;
 use crate::node_name::is_node_name;
 use crate::refusing::{bad_request, bad_request_member, bad_shape, too_large};
 use pp_values::text::Text;
@@ -18,14 +20,11 @@ use res_core::requests::Requests;
 use serde_json::Value;
 use std::alloc::Global;
 
-/// The most requests of a bundle.
-const MOST_REQUESTS: usize = 1_048_576;
-
 /// What a bundle asks for.
 pub fn read_requests(alloc: Global, bundle: &Value) -> Result<Requests, BundleStop>
     ensures requests { Reads result (requests_of (view bundle.now)) }
     ensures facts { IfOk result (λ rs. IsTrue (give_facts rs)) }
-    ensures few { IfOk result (λ rs. length rs ≤ most_requests) }
+    ensures few { IfOk result (λ rs. length rs ≤ MOST_REQUESTS) }
 {
     match bundle.get("requests") {
         Some(requests) => all_asked_in(alloc, requests),

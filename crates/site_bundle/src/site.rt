@@ -1,70 +1,67 @@
-ghost use Rattle.std.specs.Prelude.{◌≡◌, ◌+◌, ◌^◌, ◌<◌, [], length, is_ok, if◌then◌else◌, IsTrue, IfSome, option_map};
-ghost use Rattle.std.specs.FinMap.{put};
+//! Sites.
+ghost use Rattle.std.specs.Prelude.{◌≡◌, ◌+◌, ◌^◌, ◌<◌, [], ◌∷◌, length, IsTrue, IfOk, IfSome, option_map};
+ghost use Rattle.pp_parser.specs.Manifest.{file_of};
+ghost use Rattle.pp_values.specs.Facts.{are_facts};
 ghost use Rattle.pp_values.specs.Views.{view};
-ghost use Rattle.res_core.specs.Rising.{text_cmp};
-ghost use Rattle.site_core.specs.Facts.{are_facts};
-ghost use Rattle.site_bundle.specs.SiteView.{facts_for, with_facts, are_rising, have_facts};
-ghost use Rattle.site_bundle.specs.Listing.{listed};
+ghost use Rattle.pp_values.specs.declared.place.TheConstants.{MAIN_MANIFEST};
+ghost use Rattle.site_bundle.specs.Given.{are_distinct, has_main, are_manifests, are_short};
+ghost use Rattle.site_bundle.specs.SiteView.{facts_for, main_text, have_facts, put_in, site_of};
 
+use crate::listed_nodes::ListedNodes;
+use crate::site_files::{SiteFile, SiteFiles};
+use pp_values::fact_pairs::FactPairs;
 use pp_values::memory::Memory;
+use pp_values::place::MAIN_MANIFEST;
 use pp_values::text::Text;
+use pp_values::text_pairs::TextPairs;
 use pp_values::value::Value;
 use std::alloc::Global;
-use std::collections::BTreeMap;
 use std::marker::Model;
 
-/// Nodes with their facts, by name in byte order.
-pub type Nodes = BTreeMap<Text, Value>;
-
-/// A site: its main manifest, and the facts that it lists for nodes.
+/// A site: its manifests, which were read when it was made, and the facts that it lists for nodes.
 ///
-/// A contract sees the manifest, and the nodes by name in byte order with what their facts say.
+/// A contract sees the paths and texts of the manifests, and the nodes with what their facts say.
 #[derive(Drop)]
 pub struct Site {
-    manifest: Text,
-    nodes: Nodes,
+    // The path of the main manifest, by which it is found.
+    main: Text,
+    files: SiteFiles,
+    nodes: ListedNodes,
 }
 
 impl Model for Site {
-    ghost use Rattle.site_bundle.specs.SiteView.{SiteView, coded_site};
+    ghost use Rattle.std.specs.Prelude.{◌≡◌, IsSome};
+    ghost use Rattle.pp_values.specs.declared.place.TheConstants.{MAIN_MANIFEST};
+    ghost use Rattle.site_bundle.specs.SiteView.{SiteView, coded_site, text_at};
 
     ghost Value = { SiteView };
 
     ghost coded = { coded_site };
 
-    ghost use Rattle.site_bundle.specs.SiteView.{IsSite};
-    ghost use Rattle.site_bundle.specs.Listing.{listed};
+    ghost view = { λ s. record { files = s.files; nodes = s.nodes } };
 
-    ghost view = { λ s. record { manifest = s.manifest; nodes = listed s.nodes.entries } };
-
-    ghost invariant = { λ s. IsSite (record { manifest = s.manifest; nodes = listed s.nodes.entries }) };
+    ghost invariant = { λ s. (s.main ≡ MAIN_MANIFEST.now) × IsSome (text_at (record { files = s.files; nodes = s.nodes }) MAIN_MANIFEST.now) };
 }
 
 impl Site {
-    /// The site of this manifest alone. Places in it count lines in 32 bits.
-    pub fn new(alloc: Global, manifest: Text) -> Site
-        requires { length manifest + 1 < 2 ^ 32 }
-        ensures { result ≡ record { manifest = manifest; nodes = [] } }
+    pub fn files(&self) -> &SiteFiles
+        ensures { result.now ≡ self.now.files }
     {
-        Site {
-            manifest,
-            nodes: BTreeMap::new(alloc),
-        }
+        &self.files
     }
 
-    /// Lists these facts for the node, in place of those that it had. Where there is no memory, the site stays as it was.
-    pub fn list(&mut self, node: Text, facts: Value) -> Result<(), Memory>
-        requires { IsTrue (are_facts (view facts)) }
-        ensures { self.new ≡ (if is_ok result then with_facts self.old node (view facts) else self.old) }
+    pub fn nodes(&self) -> &ListedNodes
+        ensures { result.now ≡ self.now.nodes }
     {
-        put_facts(&mut self.nodes, node, facts)
+        &self.nodes
     }
 
-    pub fn manifest(&self) -> &Text
-        ensures manifest { result.now ≡ self.now.manifest }
-        ensures short { length self.now.manifest + 1 < 2 ^ 32 }
+    /// The main manifest.
+    pub fn main_file(&self) -> &SiteFile
+        ensures text { result.now.text ≡ main_text self.now }
+        ensures read { result.now.read ≡ file_of MAIN_MANIFEST.now (main_text self.now) }
     {
-        &self.manifest
+        self.files.get(&self.main).unwrap()
     }
 
     /// The facts that are listed for the node.
@@ -74,20 +71,55 @@ impl Site {
     {
         self.nodes.get(node)
     }
-
-    /// All nodes, by name in byte order.
-    pub fn nodes(&self) -> &Nodes
-        ensures nodes { listed result.now.entries ≡ self.now.nodes }
-        ensures rising { IsTrue (are_rising self.now.nodes) }
-        ensures facts { IsTrue (have_facts self.now.nodes) }
-    {
-        &self.nodes
-    }
 }
 
-fn put_facts(nodes: &mut Nodes, node: Text, facts: Value) -> Result<(), Memory>
-    ensures { listed nodes.new.entries ≡ (if is_ok result then put text_cmp node (view facts) (listed nodes.old.entries) else listed nodes.old.entries) }
+/// The site of these files and nodes. Each file is read here.
+pub fn make_site(alloc: Global, files: TextPairs, nodes: FactPairs) -> Result<Site, Memory>
+    requires paths { IsTrue (are_distinct files) }
+    requires main { IsTrue (has_main files) }
+    requires manifests { IsTrue (are_manifests files) }
+    // Places count lines in 32 bits.
+    requires short { IsTrue (are_short files) }
+    requires names { IsTrue (are_distinct nodes) }
+    requires facts { IsTrue (have_facts nodes) }
+    ensures { IfOk result (λ s. s ≡ site_of files nodes) }
 {
-    drop(nodes.insert(node, facts)?);
-    Ok(())
+    let main = Text::from_str(alloc, MAIN_MANIFEST)?;
+    let files = read_files(alloc, files)?;
+    let nodes = list_nodes(alloc, nodes)?;
+    Ok(Site { main, files, nodes })
+}
+
+/// The site of a main manifest alone, with nodes that are listed already.
+pub fn site_of_main(alloc: Global, manifest: Text, nodes: ListedNodes) -> Result<Site, Memory>
+    // Places count lines in 32 bits.
+    requires { length manifest + 1 < 2 ^ 32 }
+    ensures { IfOk result (λ s. s ≡ record { files = (MAIN_MANIFEST.now, manifest) ∷ []; nodes = nodes }) }
+{
+    let main = Text::from_str(alloc, MAIN_MANIFEST)?;
+    let mut files = SiteFiles::new(alloc);
+    files.read(alloc, main.copy(alloc)?, manifest)?;
+    Ok(Site { main, files, nodes })
+}
+
+fn read_files(alloc: Global, files: TextPairs) -> Result<SiteFiles, Memory>
+    requires { IsTrue (are_short files) }
+    ensures { IfOk result (λ s. s ≡ put_in [] files) }
+{
+    let mut read = SiteFiles::new(alloc);
+    for (path, text) in files.into_vec() {
+        read.read(alloc, path, text)?;
+    }
+    Ok(read)
+}
+
+fn list_nodes(alloc: Global, nodes: FactPairs) -> Result<ListedNodes, Memory>
+    requires { IsTrue (have_facts nodes) }
+    ensures { IfOk result (λ n. n ≡ put_in [] nodes) }
+{
+    let mut found = ListedNodes::new(alloc);
+    for (name, facts) in nodes.into_vec() {
+        found.list(name, facts)?;
+    }
+    Ok(found)
 }

@@ -7,7 +7,7 @@ use Rattle.std.specs.FinMap as fin
 use Rattle.pp_values.specs.Datum.{Datum, undef, int, text, list, hash, default, no_data, datum, no_entries, entry}
 use Rattle.res_core.specs.declared.export_set.ExportSet.{ExportSet}
 use Rattle.export_store.specs.Sets.{Sets}
-use Rattle.site_core.specs.Facts.{are_facts}
+use Rattle.pp_values.specs.Facts.{are_facts}
 use Rattle.site_core.specs.Meaning.{Meaning}
 use Rattle.site_core.specs.Events.{Event, opens, publishes, deactivates, calls_of}
 use Rattle.site_core.specs.Sets.{sets_at, site_at, latest_set}

@@ -6,7 +6,7 @@ use Rattle.std.specs.Cmp.Lexicographic.{nat_list_cmp_total, texts_ties}
 use Rattle.std.specs.Str.{bytes_eq}
 use Rattle.std.proofs.lemmas.List.{reverse-append, take-append-le}
 use Rattle.std.proofs.Math.Seq.{take-length}
-use Rattle.res_core.specs.Rising.{text_cmp}
+use Rattle.pp_values.specs.Rising.{text_cmp}
 use Rattle.res_core.specs.declared.export_set.ExportSet.{ExportSet}
 use Rattle.export_store.specs.Sets.{Sets}
 use Rattle.site_core.specs.Events.{Event, opens, publishes, deactivates, is_opening}

@@ -12,7 +12,8 @@ use Rattle.site_core.specs.Meaning.{Meaning, HasExports}
 use Rattle.site_core.specs.Events.{Event, is_opening, publication, deactivation}
 use Rattle.site_core.specs.Sets.{sets_after}
 use Rattle.site_core.specs.Legal.{meaning_at, MayFollow, Legal}
-use Rattle.site_core.specs.Core.{MOST_ENTRIES, Core, IsSound}
+use Rattle.site_core.specs.Core.{Core, IsSound}
+use Rattle.site_core.specs.declared.history.TheConstants.{MOST_ENTRIES}
 use Rattle.site_core.specs.Steps.{Step, snap, done, drop_call, deactivate, State, made_set, opened_state, with_entry, with_flight, without_flight, after_done, after_step, after_steps, IsSoundState, RunsAreSound}
 use Rattle.site_core.proofs.Keeping.{kept_push}
 

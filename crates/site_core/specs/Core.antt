@@ -6,6 +6,7 @@ use Rattle.site_core.specs.Meaning.{Meaning}
 use Rattle.site_core.specs.Events.{Event, opens, coded_events}
 use Rattle.site_core.specs.Sets.{sets_at, site_at}
 use Rattle.site_core.specs.Legal.{Legal}
+use Rattle.site_core.specs.declared.history.TheConstants.{MOST_ENTRIES}
 
 -- a history, and how many entries it may have
 pub record Core (S : Type 0) : Type 0 where
@@ -15,10 +16,6 @@ pub record Core (S : Type 0) : Type 0 where
 abbrev pub coded_core : {S : Type 0} → Coded S → Coded (Core S)
 coded_core {S} site =
     code_by (List (Event S) × ℕ) (coded× (coded_events site) coded_ℕ) (λ c. (c.history, c.limit)) (λ p. record { history = p.0; limit = p.1 }) (λ _. refl)
-
--- the greatest limit
-abbrev pub MOST_ENTRIES : ℕ
-MOST_ENTRIES = 1048576
 
 -- just opened
 abbrev pub opened : {S : Type 0} → S → ℕ → Core S

@@ -7,7 +7,7 @@ use Rattle.pp_values.specs.Datum.{Datum}
 use Rattle.pp_values.specs.Codes.{coded_text, coded_datum}
 use Rattle.res_core.specs.declared.export_set.ExportSet.{ExportSet}
 use Rattle.res_core.specs.ExportSetCodes.{coded_export_set}
-use Rattle.site_core.specs.Facts.{are_facts}
+use Rattle.pp_values.specs.Facts.{are_facts}
 
 -- a node's exports take the place of those that it had; `call` numbers the author's entries from 0,
 -- and the set was made from the first `k` entries

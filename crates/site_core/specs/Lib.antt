@@ -1,4 +1,3 @@
-pub mod Facts
 pub mod Meaning
 pub mod Events
 pub mod EntryViews

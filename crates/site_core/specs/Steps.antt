@@ -9,7 +9,8 @@ use Rattle.site_core.specs.Meaning.{Meaning}
 use Rattle.site_core.specs.Events.{Event, opens, publication, deactivation}
 use Rattle.site_core.specs.Sets.{sets_after}
 use Rattle.site_core.specs.Legal.{meaning_at}
-use Rattle.site_core.specs.Core.{MOST_ENTRIES, IsKept}
+use Rattle.site_core.specs.Core.{IsKept}
+use Rattle.site_core.specs.declared.history.TheConstants.{MOST_ENTRIES}
 
 -- A compile begins (`snap`) and ends: it publishes (`done`), or its call is dropped. The calls in flight are numbered from 0.
 pub data Step : Type 0 where

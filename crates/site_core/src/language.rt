@@ -1,6 +1,6 @@
 ghost use Rattle.std.specs.Prelude.{◌≡◌, IfOk, IfSome, IsTrue, option_map};
 ghost use Rattle.pp_values.specs.Views.{view};
-ghost use Rattle.site_core.specs.Facts.{are_facts};
+ghost use Rattle.pp_values.specs.Facts.{are_facts};
 
 use crate::compile_stop::CompileStop;
 use export_store::version::Version;

@@ -2,7 +2,7 @@ use crate::language::Language;
 
 /// What a request is answered, over catalogs `C` and faults `F`.
 #[derive(Debug, Drop, PartialEq)]
-pub enum Answer<C, F> {
+pub enum ReplyOf<C, F> {
     /// The catalog, made from the first `k` entries; the node's exports are entry `entry`.
     Served { entry: u32, k: u32, catalog: C },
     /// What the first `k` entries mean for the node is this fault.
@@ -19,4 +19,4 @@ pub enum Answer<C, F> {
 }
 
 /// What a request is answered in a language.
-pub type Reply<L> = Answer<<L as Language>::Catalog, <L as Language>::Fault>;
+pub type Reply<L> = ReplyOf<<L as Language>::Catalog, <L as Language>::Fault>;

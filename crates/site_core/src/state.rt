@@ -1,13 +1,14 @@
 ghost use Rattle.std.specs.Prelude.{◌≡◌, ◌≤◌, ◌<◌, length, IfOk, OnOk, OnErr, IsTrue};
 ghost use Rattle.std.specs.Arc.{arc_value};
 ghost use Rattle.pp_values.specs.Views.{view};
-ghost use Rattle.site_core.specs.Facts.{are_facts};
+ghost use Rattle.pp_values.specs.Facts.{are_facts};
 ghost use Rattle.site_core.specs.Meaning.{HasExports};
 ghost use Rattle.site_core.specs.Events.{is_by, is_later, publication, deactivation};
 ghost use Rattle.site_core.specs.EntryViews.{event_of};
 ghost use Rattle.site_core.specs.Sets.{sets_at, sets_after};
 ghost use Rattle.site_core.specs.Legal.{MayFollow};
-ghost use Rattle.site_core.specs.Core.{MOST_ENTRIES, opened, with_event, IsSound};
+ghost use Rattle.site_core.specs.Core.{opened, with_event, IsSound};
+ghost use Rattle.site_core.specs.declared.history.TheConstants.{MOST_ENTRIES};
 
 use crate::counts::Counts;
 use crate::done_stop::DoneStop;

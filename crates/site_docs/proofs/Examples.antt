@@ -7,14 +7,15 @@ use Rattle.pp_values.specs.declared.fault.Fault.{Fault}
 use Rattle.pp_values.specs.declared.fault.What.{What}
 use Rattle.pp_values.specs.declared.fault.What.TheVariants.{Syntax, Failed, Cycle, AlreadySet, Duplicate}
 use Rattle.pp_values.specs.declared.fault.Subject.TheVariants as subject
-use Rattle.res_core.specs.Settings.{Setting}
+use Rattle.pp_values.specs.declared.place.TheConstants.{MAIN_MANIFEST}
+use Rattle.pp_values.specs.Settings.{Setting}
 use Rattle.res_core.specs.declared.held.Held.{Held}
 use Rattle.res_core.specs.declared.catalog.Catalog.{Catalog}
 use Rattle.res_core.specs.declared.exported.Exported.{Exported}
 use Rattle.res_core.specs.Asked.{Asked, compile, deactivate}
 use Rattle.site_core.specs.Events.{Event, opens, publishes, deactivates}
-use Rattle.site_core.specs.declared.reply.Answer.{Answer}
-use Rattle.site_core.specs.declared.reply.Answer.TheVariants.{Served, Refused, HistoryFull, SeenAhead, UnknownNode, Deactivated, Memory}
+use Rattle.site_core.specs.declared.reply.ReplyOf.{ReplyOf}
+use Rattle.site_core.specs.declared.reply.ReplyOf.TheVariants.{Served, Refused, HistoryFull, SeenAhead, UnknownNode, Deactivated, Memory}
 use Rattle.site_bundle.specs.SiteView.{SiteView}
 use Rattle.site_docs.specs.CatalogText.{held_object, held_data, edge_data, catalog_object, catalog_data, catalog_text}
 use Rattle.site_docs.specs.FaultText.{plain_line, fault_text}
@@ -50,13 +51,16 @@ unfolding held_object held_data edge_data catalog_object catalog_data digits ser
 catalogs = (refl, refl)
 
 abbrev listing : List ℕ → List (List ℕ) → SiteView
-listing manifest [] = record { manifest = manifest; nodes = [] }
-listing manifest (n ∷ ns) = record { manifest = manifest; nodes = (n, d.hash d.no_entries) ∷ (listing manifest ns).nodes }
+listing manifest [] = record { files = (MAIN_MANIFEST.now, manifest) ∷ []; nodes = [] }
+listing manifest (n ∷ ns) = record { files = (MAIN_MANIFEST.now, manifest) ∷ []; nodes = (n, d.hash d.no_entries) ∷ (listing manifest ns).nodes }
 
 -- sites with no node, and with two of which one has a fact
 sites : (site_text (listing [] []) ≡ codes "{\"files\":{\"manifests/site.pp\":\"\"},\"nodes\":{}}")
-    × (site_text (record { manifest = codes "x"; nodes = (codes "a", d.hash d.no_entries) ∷ (codes "b.c", d.hash (d.entry (d.text (codes "os")) (d.flag true) d.no_entries)) ∷ [] })
-    ≡ codes "{\"files\":{\"manifests/site.pp\":\"x\"},\"nodes\":{\"a\":{},\"b.c\":{\"os\":true}}}")
+    × (site_text (record {
+      files = (MAIN_MANIFEST.now, codes "x") ∷ (codes "modules/a/init.pp", codes "y") ∷ [];
+      nodes = (codes "a", d.hash d.no_entries) ∷ (codes "b.c", d.hash (d.entry (d.text (codes "os")) (d.flag true) d.no_entries)) ∷ [];
+    })
+    ≡ codes "{\"files\":{\"manifests/site.pp\":\"x\",\"modules/a/init.pp\":\"y\"},\"nodes\":{\"a\":{},\"b.c\":{\"os\":true}}}")
 unfolding site_object site_data digits serde_json_on_literals
 sites = (refl, refl)
 
@@ -98,7 +102,7 @@ gone = refl
 abbrev asks : List ℕ → ℕ → Asked
 asks node seen = compile (record { node = node; facts = None; seen = seen })
 
-abbrev replies : ℕ → Asked → Answer Catalog Fault → List ℕ
+abbrev replies : ℕ → Asked → ReplyOf Catalog Fault → List ℕ
 replies = reply_line catalog_text fault_text
 
 -- one of each kind of reply

@@ -13,7 +13,7 @@ use Rattle.json_values.specs.ValueForm.{form}
 use Rattle.json_values.proofs.Floats.{either, form_no_float, settings_no_float, all_no_float}
 use Rattle.site_bundle.specs.SiteView.{SiteView}
 use Rattle.site_docs.specs.CatalogText.{index_data, held_object, held_data, edge_data, catalog_object, catalog_data}
-use Rattle.site_docs.specs.SiteText.{site_object, site_data}
+use Rattle.site_docs.specs.SiteText.{site_object, file_settings, site_data}
 use Rattle.site_docs.specs.JournalText.{export_object, export_data, opening_object, publication_object, deactivation_object, count_object, entry_data}
 use Rattle.site_docs.specs.ReplyText.{refused_object, full_object, ahead_object, unknown_object, deactivated_object, memory_object}
 
@@ -33,7 +33,7 @@ catalog_no_float c = either _ _ (all_no_float edge_data edge_no_float c.edges) (
 
 pub site_no_float : (s : SiteView) → has_float (site_data s) ≡ false
 unfolding site_data site_object
-site_no_float s = either _ _ refl (either _ _ (settings_no_float s.nodes) refl)
+site_no_float s = either _ _ (settings_no_float (file_settings s.files)) (either _ _ (settings_no_float s.nodes) refl)
 
 export_no_float : (e : Exported) → has_float (export_data e) ≡ false
 unfolding export_data export_object

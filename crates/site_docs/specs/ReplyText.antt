@@ -3,8 +3,8 @@ use Rattle.std.specs.Prelude.{ℕ, true, List, [], ◌∷◌, ◌++◌, codes, d
 use Rattle.serde_json.specs.Data.{Data, boolean, string, object, no_members, member}
 use Rattle.serde_json.specs.Written.{compact_text}
 use Rattle.res_core.specs.Asked.{Asked, compile, deactivate}
-use Rattle.site_core.specs.declared.reply.Answer.{Answer}
-use Rattle.site_core.specs.declared.reply.Answer.TheVariants.{Served, Refused, HistoryFull, SeenAhead, UnknownNode, Deactivated, Memory}
+use Rattle.site_core.specs.declared.reply.ReplyOf.{ReplyOf}
+use Rattle.site_core.specs.declared.reply.ReplyOf.TheVariants.{Served, Refused, HistoryFull, SeenAhead, UnknownNode, Deactivated, Memory}
 use Rattle.site_docs.specs.CatalogText.{index_data}
 
 -- the node that is asked about
@@ -45,7 +45,7 @@ memory_object reply = object (member (codes "memory") (boolean true) (member (co
 
 -- the reply with this number, over the texts of catalogs and faults
 module _ {C F : Type 0} (catalog_form : C → List ℕ) (fault_form : F → List ℕ) where
-  unfoldable pub reply_text : ℕ → Asked → Answer C F → List ℕ
+  unfoldable pub reply_text : ℕ → Asked → ReplyOf C F → List ℕ
   reply_text reply asked (Served entry k catalog) = served_text reply entry k (catalog_form catalog)
   reply_text reply asked (Refused k fault) = compact_text (refused_object reply k (fault_form fault))
   reply_text reply asked (HistoryFull length) = compact_text (full_object reply length)
@@ -54,5 +54,5 @@ module _ {C F : Type 0} (catalog_form : C → List ℕ) (fault_form : F → List
   reply_text reply asked (Deactivated entry) = compact_text (deactivated_object reply entry)
   reply_text reply asked Memory = compact_text (memory_object reply)
 
-  abbrev pub reply_line : ℕ → Asked → Answer C F → List ℕ
+  abbrev pub reply_line : ℕ → Asked → ReplyOf C F → List ℕ
   reply_line reply asked answer = reply_text reply asked answer ++ 10 ∷ []

@@ -1,19 +1,23 @@
 -- The text of a site: compact JSON, with the members of each object in byte order.
-use Rattle.std.specs.Prelude.{ℕ, List, codes}
-use Rattle.serde_json.specs.Data.{Data, string, object, no_members, member}
+use Rattle.std.specs.Prelude.{ℕ, List, map, codes}
+use Rattle.serde_json.specs.Data.{Data, object, no_members, member}
 use Rattle.serde_json.specs.Written.{compact_text}
+use Rattle.pp_values.specs.Datum.{text}
+use Rattle.pp_values.specs.Settings.{Setting}
 use Rattle.json_values.specs.ValueForm.{setting_members}
-use Rattle.site_bundle.specs.SiteView.{SiteView}
+use Rattle.site_bundle.specs.SiteView.{SiteView, Filed}
 
--- a site, from its main manifest and the form of its nodes
-unfoldable pub site_object : List ℕ → Data → Data
-site_object manifest nodes =
-    object (member (codes "files") (object (member (codes "manifests/site.pp") (string manifest) no_members))
-    (member (codes "nodes") nodes no_members))
+-- a site, from the forms of its files and of its nodes
+unfoldable pub site_object : Data → Data → Data
+site_object files nodes = object (member (codes "files") files (member (codes "nodes") nodes no_members))
+
+-- each file's path with its text
+abbrev pub file_settings : List Filed → List Setting
+file_settings = map (λ f. (f.0, text f.1))
 
 -- each node's name with the form of its facts
 unfoldable pub site_data : SiteView → Data
-site_data s = site_object s.manifest (object (setting_members s.nodes))
+site_data s = site_object (object (setting_members (file_settings s.files))) (object (setting_members s.nodes))
 
 -- without a line feed at the end
 abbrev pub site_text : SiteView → List ℕ

@@ -11,7 +11,7 @@ use pp_values::text::Text;
 use res_core::request::Request;
 use serde_json::{Value as Json, json};
 use site_core::language::Language;
-use site_core::reply::{Answer, Reply};
+use site_core::reply::{Reply, ReplyOf};
 use std::alloc::{AllocError, Global};
 
 /// The line that tells what the request was answered, with its line feed. Replies are numbered as their requests are.
@@ -47,19 +47,19 @@ fn reply_text<L: Language>(
     ensures { IfOk result (λ t. t ≡ reply_text L.catalog_form L.fault_form index (asked request.now) reply.now) }
 {
     match reply {
-        Answer::Served { entry, k, catalog } => {
+        ReplyOf::Served { entry, k, catalog } => {
             let catalog = language.catalog_text(alloc, catalog)?;
             served(alloc, index, *entry, *k, &catalog)
         }
-        Answer::Refused { k, fault } => {
+        ReplyOf::Refused { k, fault } => {
             let fault = language.fault_text(alloc, fault)?;
             refused(alloc, index, *k, &fault)
         }
-        Answer::HistoryFull { length } => full(alloc, index, *length),
-        Answer::SeenAhead { length } => ahead(alloc, index, *length, seen_of(request)),
-        Answer::UnknownNode { k } => unknown(alloc, index, *k, node_of(request)),
-        Answer::Deactivated { entry } => deactivated(alloc, index, *entry),
-        Answer::Memory => memory(alloc, index),
+        ReplyOf::HistoryFull { length } => full(alloc, index, *length),
+        ReplyOf::SeenAhead { length } => ahead(alloc, index, *length, seen_of(request)),
+        ReplyOf::UnknownNode { k } => unknown(alloc, index, *k, node_of(request)),
+        ReplyOf::Deactivated { entry } => deactivated(alloc, index, *entry),
+        ReplyOf::Memory => memory(alloc, index),
     }
 }
 

@@ -3,16 +3,19 @@ ghost use Rattle.std.specs.Prelude.{◌≡◌, IfOk};
 ghost use Rattle.serde_json.specs.Data.{no_members};
 ghost use Rattle.serde_json.specs.View.{view as json_view, members_view};
 ghost use Rattle.json_values.specs.ValueForm.{put_all};
-ghost use Rattle.site_bundle.specs.Listing.{listed};
-ghost use Rattle.site_docs.specs.SiteText.{site_object as object_of_site, site_data, site_text};
+ghost use Rattle.site_bundle.specs.Listing.{filed, listed};
+ghost use Rattle.site_docs.specs.SiteText.{site_object as object_of_site, file_settings, site_data, site_text};
 
 use crate::resource_forms::json_text;
 use json_values::value_forms::value_form;
 use pp_values::memory::Memory;
 use pp_values::text::Text;
+use pp_values::value::Value;
 use serde_json::{Map, Value as Json, json};
-use site_bundle::site::{Nodes, Site};
+use site_bundle::site::Site;
+use site_bundle::site_files::SiteFile;
 use std::alloc::{AllocError, Global};
+use std::collections::BTreeMap;
 
 /// The site as one line of compact JSON, without a line feed at its end.
 #[tactic(auto, using(crate::proofs::Floats::site_no_float))]
@@ -27,18 +30,30 @@ pub fn site_text(alloc: Global, site: &Site) -> Result<Text, Memory>
 pub(crate) fn site_form(alloc: Global, site: &Site) -> Result<Json, Memory>
     ensures { IfOk result (λ j. json_view j ≡ site_data site.now) }
 {
-    let nodes = Json::Object(node_forms(alloc, site.nodes())?);
-    Ok(site_object(alloc, site.manifest().as_str(), nodes)?)
+    let files = Json::Object(file_forms(alloc, site.files().as_map())?);
+    let nodes = Json::Object(node_forms(alloc, site.nodes().as_map())?);
+    Ok(site_object(alloc, files, nodes)?)
 }
 
 #[tactic(auto, unfolding(crate::specs::SiteText::site_object))]
-fn site_object(alloc: Global, manifest: &str, nodes: Json) -> Result<Json, AllocError>
-    ensures { IfOk result (λ j. json_view j ≡ object_of_site manifest.now (json_view nodes)) }
+fn site_object(alloc: Global, files: Json, nodes: Json) -> Result<Json, AllocError>
+    ensures { IfOk result (λ j. json_view j ≡ object_of_site (json_view files) (json_view nodes)) }
 {
-    json!(in alloc; {"files": {"manifests/site.pp": manifest}, "nodes": nodes})
+    json!(in alloc; {"files": files, "nodes": nodes})
 }
 
-fn node_forms(alloc: Global, nodes: &Nodes) -> Result<Map<String, Json>, Memory>
+fn file_forms(alloc: Global, files: &BTreeMap<Text, SiteFile>) -> Result<Map<String, Json>, Memory>
+    ensures { IfOk result (λ m. members_view m.entries ≡ put_all (file_settings (filed files.now.entries)) no_members) }
+{
+    let mut members = Map::new(alloc);
+    for (path, file) in files {
+        let text = Json::String(String::from_str(alloc, file.text.as_str())?);
+        serde_json::put(&mut members, alloc, path.as_str(), text)?;
+    }
+    Ok(members)
+}
+
+fn node_forms(alloc: Global, nodes: &BTreeMap<Text, Value>) -> Result<Map<String, Json>, Memory>
     ensures { IfOk result (λ m. members_view m.entries ≡ put_all (listed nodes.now.entries) no_members) }
 {
     let mut members = Map::new(alloc);

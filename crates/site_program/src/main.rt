@@ -2,58 +2,26 @@
 //! requests one after another, and writes the history and the replies.
 #![tactic(auto)]
 
-mod answer;
-mod bundle_answer;
-mod ending;
-mod laws;
-mod lines;
-mod manifest_answer;
-mod replies;
-mod say;
-mod sequence;
-mod site;
-mod words;
-
-use ending::Ending;
-use site::{refuse, site_main};
+use site_commands::{on_large_stack, run_program};
 use site_io::{StandardError, StandardInput, StandardOutput};
-use std::io::ErrorKind;
 use std::process::ExitCode;
-use std::rt::Env;
 use std::{env, io};
 
 /// Runs the program on the real words and streams.
 fn main(rt: HostRuntime) -> ExitCode {
-    let mut source = StandardInput::new(rt.stdin());
-    let mut out = StandardOutput::new(rt.stdout());
-    let mut err = StandardError::new(rt.stderr());
-    let status = match words_of(&rt) {
-        Ok(words) => site_main(
-            rt.alloc(),
-            words.as_slice(),
-            &mut source,
-            &mut out,
-            &mut err,
-        ),
-        Err(error) if error.kind() == ErrorKind::OutOfMemory => refuse(
-            &mut err,
-            Ending::Memory,
-            "memory\n",
-        ).status(),
-        // A word that is no text is a faulty command line.
-        Err(_) => site_main(rt.alloc(), &[], &mut source, &mut out, &mut err),
-    };
-    ExitCode::from(status)
+    on_large_stack(&rt, move || run(&rt))
 }
 
-/// The words of the command line, without the program's name.
-fn words_of<R: Env + AllocGlobal>(rt: &R) -> io::Result<Vec<String>> {
-    let mut words = Vec::new(rt.alloc());
-    for word in env::args(rt)?.skip(1) {
-        words.push(word)?;
-    }
-    Ok(words)
+fn run(rt: &HostRuntime) -> ExitCode {
+    run_program(
+        rt.alloc(),
+        command_line(rt),
+        &mut StandardInput::new(rt.stdin()),
+        &mut StandardOutput::new(rt.stdout()),
+        &mut StandardError::new(rt.stderr()),
+    )
 }
 
-#[cfg(test)]
-mod tests;
+fn command_line(rt: &HostRuntime) -> io::Result<Vec<String>> {
+    Ok(env::args(rt)?.collect(rt.alloc())?)
+}

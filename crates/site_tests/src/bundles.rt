@@ -2,13 +2,13 @@ use pp_values::memory::Memory;
 use res_core::request::Request;
 use site_bundle::bundle::Bundle;
 use site_bundle::bundle_stop::BundleStop;
-use site_bundle::node_name::is_node_name;
 use site_bundle::reading::read_bundle;
 use site_bundle::stop_lines::stop_text;
+use site_docs::site_texts::site_text;
 use std::alloc::Global;
 use std::test::Fail;
 
-// What was read, such as `'x' a b; +a 0 -z`: the manifest, the nodes, the requests; or the line of the refusal.
+// What was read: the text of the site and then the requests, such as ` +a 0 -z`; or the line of the refusal.
 fn told(alloc: Global, bytes: &[u8]) -> Result<String, Memory> {
     match read_bundle(alloc, bytes) {
         Ok(bundle) => said(alloc, &bundle),
@@ -16,18 +16,17 @@ fn told(alloc: Global, bytes: &[u8]) -> Result<String, Memory> {
     }
 }
 
+fn reads_as(alloc: Global, bytes: &[u8], want: &str) -> Result<bool, Memory> {
+    Ok(told(alloc, bytes)?.as_str() == want)
+}
+
 fn line(alloc: Global, stop: &BundleStop) -> Result<String, Memory> {
     Ok(stop_text(alloc, stop)?.into_string())
 }
 
 fn said(alloc: Global, bundle: &Bundle) -> Result<String, Memory> {
-    let manifest = bundle.site.manifest().as_str();
-    let mut out = format!(in alloc; "'{manifest}'")?;
-    for (name, _facts) in bundle.site.nodes() {
-        out.push_str(" ")?;
-        out.push_str(name.as_str())?;
-    }
-    out.push_str(";")?;
+    let site = site_text(alloc, &bundle.site)?;
+    let mut out = site.into_string();
     for request in bundle.requests.as_slice() {
         push_request(&mut out, request)?;
     }
@@ -63,117 +62,119 @@ fn with_files(alloc: Global, template: &str) -> Result<String, Memory> {
     Ok(text)
 }
 
+const BUNDLES: [(&str, &str); 10] = [
+    (
+        r#"{"bundle": 1, "files": {"manifests/site.pp": ""}, "nodes": {"a": {}}, "requests": [{"node": "a"}]}"#,
+        "{\"files\":{\"manifests/site.pp\":\"\"},\"nodes\":{\"a\":{}}} +a 0",
+    ),
+    (
+        r#"{"bundle": 1, "files": {"manifests/site.pp": "@@notify { 'me': }\nNotify <<| |>>"}, "nodes": {"a": {}}, "requests": [{"node": "a"}, {"node": "a"}]}"#,
+        "{\"files\":{\"manifests/site.pp\":\"@@notify { 'me': }\\nNotify <<| |>>\"},\"nodes\":{\"a\":{}}} +a 0 +a 0",
+    ),
+    (
+        r#"{"bundle": 1, "files": {"manifests/site.pp": ""}, "nodes": {"a": {}}, "requests": [{"node": "z"}, {"node": "a", "seen": 2}]}"#,
+        "{\"files\":{\"manifests/site.pp\":\"\"},\"nodes\":{\"a\":{}}} +z 0 +a 2",
+    ),
+    (
+        r#" {"nodes":{"b":{},"a":{}},"files":{"manifests/site.pp":"é"},"bundle":1,"x":[1e9]}"#,
+        "{\"files\":{\"manifests/site.pp\":\"é\"},\"nodes\":{\"a\":{},\"b\":{}}}",
+    ),
+    (
+        r#"{"bundle":1,"files":{"manifests/site.pp":""},"requests":[{"node":"a.b_c-9","facts":{},"seen":4294967295},{"deactivate":"a","seen":-1,"facts":7}]}"#,
+        "{\"files\":{\"manifests/site.pp\":\"\"},\"nodes\":{}} +a.b_c-9! 4294967295 -a",
+    ),
+    ("{\"bundle\":2}", "B2 bundle"),
+    ("{", "B1"),
+    ("", "B1"),
+    ("{} {}", "B1"),
+    ("null", "B2 bundle"),
+];
+
 #[test]
 fn bundles_are_read(rt: HostRuntime) -> Result<(), Fail> {
-    let alloc = rt.alloc();
-    for (text, want) in [
-        (
-            r#"{"bundle": 1, "files": {"manifests/site.pp": ""}, "nodes": {"a": {}}, "requests": [{"node": "a"}]}"#,
-            "'' a; +a 0",
-        ),
-        (
-            r#"{"bundle": 1, "files": {"manifests/site.pp": "@@notify { 'me': }\nNotify <<| |>>"}, "nodes": {"a": {}}, "requests": [{"node": "a"}, {"node": "a"}]}"#,
-            "'@@notify { 'me': }\nNotify <<| |>>' a; +a 0 +a 0",
-        ),
-        (
-            r#"{"bundle": 1, "files": {"manifests/site.pp": ""}, "nodes": {"a": {}}, "requests": [{"node": "z"}, {"node": "a", "seen": 2}]}"#,
-            "'' a; +z 0 +a 2",
-        ),
-        (
-            r#" {"nodes":{"b":{},"a":{}},"files":{"manifests/site.pp":"é"},"bundle":1,"x":[1e9]}"#,
-            "'é' a b;",
-        ),
-        (
-            r#"{"bundle":1,"files":{"manifests/site.pp":""},"requests":[{"node":"a.b_c-9","facts":{},"seen":4294967295},{"deactivate":"a","seen":-1,"facts":7}]}"#,
-            "''; +a.b_c-9! 4294967295 -a",
-        ),
-        ("{\"bundle\":2}", "B2 bundle"),
-        ("{", "B1"),
-        ("", "B1"),
-        ("{} {}", "B1"),
-        ("null", "B2 bundle"),
-    ] {
-        assert_eq!(rt; told(alloc, text.as_bytes())?.as_str(), want, "{text}");
+    for (text, want) in BUNDLES {
+        assert!(rt; reads_as(rt.alloc(), text.as_bytes(), want)?, "{text}");
     }
     Ok(())
 }
 
+fn reads_with_files(alloc: Global, template: &str, want: &str) -> Result<bool, Memory> {
+    let text = with_files(alloc, template)?;
+    reads_as(alloc, text.as_str().as_bytes(), want)
+}
+
+const MEMBERS: [(&str, &str); 29] = [
+    (r#"{M}"#, "B2 bundle"),
+    (r#"{"bundle":1.0,M}"#, "B2 bundle"),
+    (r#"{"bundle":"1",M}"#, "B2 bundle"),
+    (r#"{"bundle":-1,M}"#, "B2 bundle"),
+    (r#"{"bundle":1}"#, "B2 files"),
+    (r#"{"bundle":1,"files":[],"nodes":[]}"#, "B2 files"),
+    (r#"{"bundle":1,"files":{}}"#, "B2 files.manifests/site.pp"),
+    (
+        r#"{"bundle":1,"files":{"manifests/site.pp":1}}"#,
+        "B2 files.manifests/site.pp",
+    ),
+    (r#"{"bundle":1,"files":{"a":"","z":""}}"#, "B2 files.a"),
+    (
+        r#"{"bundle":1,"files":{"z":""}}"#,
+        "B2 files.manifests/site.pp",
+    ),
+    (
+        r#"{"bundle":1,"files":{"manifests/site.ppx":"","manifests/site.pp":""}}"#,
+        "B2 files.manifests/site.ppx",
+    ),
+    (r#"{"bundle":1,M,"nodes":[]}"#, "B2 nodes"),
+    (r#"{"bundle":1,M,"nodes":null}"#, "B2 nodes"),
+    (r#"{"bundle":1,M,"nodes":{"":{}}}"#, "B2 nodes."),
+    (
+        r#"{"bundle":1,M,"nodes":{"b":1,"a":{"x":1}}}"#,
+        "B2 nodes.a",
+    ),
+    (r#"{"bundle":1,M,"nodes":{"a":{},"A":{}}}"#, "B2 nodes.A"),
+    (r#"{"bundle":1,M,"requests":{}}"#, "B2 requests"),
+    (r#"{"bundle":1,M,"requests":[1]}"#, "B2 requests.0"),
+    (
+        r#"{"bundle":1,M,"requests":[{"node":"a"},{}]}"#,
+        "B2 requests.1",
+    ),
+    (
+        r#"{"bundle":1,M,"requests":[{"node":"a","deactivate":"a"}]}"#,
+        "B2 requests.0",
+    ),
+    (
+        r#"{"bundle":1,M,"requests":[{"deactivate":"A","facts":1}]}"#,
+        "B2 requests.0.deactivate",
+    ),
+    (
+        r#"{"bundle":1,M,"requests":[{"node":1,"facts":{"a":1},"seen":-1}]}"#,
+        "B2 requests.0.facts",
+    ),
+    (
+        r#"{"bundle":1,M,"requests":[{"node":"a b","seen":-1}]}"#,
+        "B2 requests.0.node",
+    ),
+    (
+        r#"{"bundle":1,M,"requests":[{"node":"a","seen":4294967296}]}"#,
+        "B2 requests.0.seen",
+    ),
+    (
+        r#"{"bundle":1,M,"requests":[{"node":"a","seen":1.0}]}"#,
+        "B2 requests.0.seen",
+    ),
+    (
+        r#"{"bundle":1,M,"requests":[{"node":"a","seen":null}]}"#,
+        "B2 requests.0.seen",
+    ),
+    (r#"{"bundle":1,M,"machine":{}}"#, "B2 machine"),
+    (r#"{"bundle":1,M,"machine":{},"requests":1}"#, "B2 requests"),
+    (r#"{"bundle":2,"bundle":1,M}"#, "{\"files\":{\"manifests/site.pp\":\"\"},\"nodes\":{}}"),
+];
+
 #[test]
 fn the_first_bad_member_is_named(rt: HostRuntime) -> Result<(), Fail> {
-    let alloc = rt.alloc();
-    for (template, want) in [
-        (r#"{M}"#, "B2 bundle"),
-        (r#"{"bundle":1.0,M}"#, "B2 bundle"),
-        (r#"{"bundle":"1",M}"#, "B2 bundle"),
-        (r#"{"bundle":-1,M}"#, "B2 bundle"),
-        (r#"{"bundle":1}"#, "B2 files"),
-        (r#"{"bundle":1,"files":[],"nodes":[]}"#, "B2 files"),
-        (r#"{"bundle":1,"files":{}}"#, "B2 files.manifests/site.pp"),
-        (
-            r#"{"bundle":1,"files":{"manifests/site.pp":1}}"#,
-            "B2 files.manifests/site.pp",
-        ),
-        (r#"{"bundle":1,"files":{"a":"","z":""}}"#, "B2 files.a"),
-        (
-            r#"{"bundle":1,"files":{"z":""}}"#,
-            "B2 files.manifests/site.pp",
-        ),
-        (
-            r#"{"bundle":1,"files":{"manifests/site.ppx":"","manifests/site.pp":""}}"#,
-            "B2 files.manifests/site.ppx",
-        ),
-        (r#"{"bundle":1,M,"nodes":[]}"#, "B2 nodes"),
-        (r#"{"bundle":1,M,"nodes":null}"#, "B2 nodes"),
-        (r#"{"bundle":1,M,"nodes":{"":{}}}"#, "B2 nodes."),
-        (
-            r#"{"bundle":1,M,"nodes":{"b":1,"a":{"x":1}}}"#,
-            "B2 nodes.a",
-        ),
-        (r#"{"bundle":1,M,"nodes":{"a":{},"A":{}}}"#, "B2 nodes.A"),
-        (r#"{"bundle":1,M,"requests":{}}"#, "B2 requests"),
-        (r#"{"bundle":1,M,"requests":[1]}"#, "B2 requests.0"),
-        (
-            r#"{"bundle":1,M,"requests":[{"node":"a"},{}]}"#,
-            "B2 requests.1",
-        ),
-        (
-            r#"{"bundle":1,M,"requests":[{"node":"a","deactivate":"a"}]}"#,
-            "B2 requests.0",
-        ),
-        (
-            r#"{"bundle":1,M,"requests":[{"deactivate":"A","facts":1}]}"#,
-            "B2 requests.0.deactivate",
-        ),
-        (
-            r#"{"bundle":1,M,"requests":[{"node":1,"facts":{"a":1},"seen":-1}]}"#,
-            "B2 requests.0.facts",
-        ),
-        (
-            r#"{"bundle":1,M,"requests":[{"node":"a b","seen":-1}]}"#,
-            "B2 requests.0.node",
-        ),
-        (
-            r#"{"bundle":1,M,"requests":[{"node":"a","seen":4294967296}]}"#,
-            "B2 requests.0.seen",
-        ),
-        (
-            r#"{"bundle":1,M,"requests":[{"node":"a","seen":1.0}]}"#,
-            "B2 requests.0.seen",
-        ),
-        (
-            r#"{"bundle":1,M,"requests":[{"node":"a","seen":null}]}"#,
-            "B2 requests.0.seen",
-        ),
-        (r#"{"bundle":1,M,"machine":{}}"#, "B2 machine"),
-        (r#"{"bundle":1,M,"machine":{},"requests":1}"#, "B2 requests"),
-        (r#"{"bundle":2,"bundle":1,M}"#, "'';"),
-    ] {
-        let text = with_files(alloc, template)?;
-        assert_eq!(rt;
-            told(alloc, text.as_str().as_bytes())?.as_str(),
-            want,
-            "{template}"
-        );
+    for (template, want) in MEMBERS {
+        assert!(rt; reads_with_files(rt.alloc(), template, want)?, "{template}");
     }
     Ok(())
 }
@@ -191,25 +192,26 @@ fn nested(alloc: Global, depth: usize) -> Result<String, Memory> {
     Ok(text)
 }
 
+fn reads_nested(alloc: Global, depth: usize, want: &str) -> Result<bool, Memory> {
+    let text = nested(alloc, depth)?;
+    reads_as(alloc, text.as_str().as_bytes(), want)
+}
+
+const EMPTY: &str = "{\"files\":{\"manifests/site.pp\":\"\"},\"nodes\":{}}";
+
+const DEPTHS: [(usize, &str); 4] = [(1, EMPTY), (126, EMPTY), (127, "B1"), (200, "B1")];
+
 #[test]
 fn lists_and_objects_nest_127_levels(rt: HostRuntime) -> Result<(), Fail> {
-    let alloc = rt.alloc();
-    for (depth, want) in [(1usize, "'';"), (126, "'';"), (127, "B1"), (200, "B1")] {
-        let text = nested(alloc, depth)?;
-        assert_eq!(rt;
-            told(alloc, text.as_str().as_bytes())?.as_str(),
-            want,
-            "{depth}"
-        );
+    for (depth, want) in DEPTHS {
+        assert!(rt; reads_nested(rt.alloc(), depth, want)?, "{depth}");
     }
     Ok(())
 }
 
 #[test]
 fn bytes_that_are_no_text_are_no_json(rt: HostRuntime) -> Result<(), Fail> {
-    let alloc = rt.alloc();
-    let found = told(alloc, b"{\"bundle\":1,\"x\":\"\xff\"}")?;
-    assert_eq!(rt; found.as_str(), "B1");
+    assert!(rt; reads_as(rt.alloc(), b"{\"bundle\":1,\"x\":\"\xff\"}", "B1")?);
     Ok(())
 }
 
@@ -229,57 +231,59 @@ fn repeated(
     Ok(text)
 }
 
-#[test]
-fn a_bundle_has_at_most_64_mib(rt: HostRuntime) -> Result<(), Fail> {
-    let alloc = rt.alloc();
-    let bytes = vec![in alloc; 0u8; 67_108_865]?;
-    assert_eq!(rt; told(alloc, bytes.as_slice())?.as_str(), "B3 bundle");
-    Ok(())
+fn reads_zeros(alloc: Global, count: usize, want: &str) -> Result<bool, Memory> {
+    let bytes = vec![in alloc; 0u8; count]?;
+    reads_as(alloc, bytes.as_slice(), want)
 }
 
+const ZEROS: [(usize, &str); 2] = [(67_108_864, "B1"), (67_108_865, "B3 bundle")];
+
 #[test]
-fn a_manifest_has_at_most_4_mib(rt: HostRuntime) -> Result<(), Fail> {
-    let alloc = rt.alloc();
-    let front = "{\"bundle\":1,\"files\":{\"manifests/site.pp\":\"";
-    let piece = "################################################################";
-    for (back, want) in [
-        ("\"},\"nodes\":1}", "B2 nodes"),
-        ("#\"},\"nodes\":1}", "B3 manifests/site.pp"),
-    ] {
-        let text = repeated(alloc, front, piece, 65_536, back)?;
-        assert_eq!(rt;
-            told(alloc, text.as_str().as_bytes())?.as_str(),
-            want,
-            "{want}"
-        );
+fn a_bundle_has_at_most_64_mib(rt: HostRuntime) -> Result<(), Fail> {
+    for (count, want) in ZEROS {
+        assert!(rt; reads_zeros(rt.alloc(), count, want)?, "{want}");
     }
     Ok(())
 }
 
+// A manifest of 4 MiB of comments, and then this.
+fn reads_long_manifest(alloc: Global, back: &str, want: &str) -> Result<bool, Memory> {
+    let front = "{\"bundle\":1,\"files\":{\"manifests/site.pp\":\"";
+    let piece = "################################################################";
+    let text = repeated(alloc, front, piece, 65_536, back)?;
+    reads_as(alloc, text.as_str().as_bytes(), want)
+}
+
+const LONG: [(&str, &str); 2] = [
+    ("\"},\"nodes\":1}", "B2 nodes"),
+    ("#\"},\"nodes\":1}", "B3 manifests/site.pp"),
+];
+
 #[test]
-fn a_bundle_has_at_most_a_million_requests(rt: HostRuntime) -> Result<(), Fail> {
-    let alloc = rt.alloc();
-    let front = with_files(alloc, "{\"bundle\":1,M,\"requests\":[")?;
-    let piece = "0,0,0,0,0,0,0,0,0,0,0,0,0,0,0,0,";
-    let text = repeated(alloc, front.as_str(), piece, 65_536, "0]}")?;
-    assert_eq!(rt;
-        told(alloc, text.as_str().as_bytes())?.as_str(),
-        "B3 requests"
-    );
+fn a_manifest_has_at_most_4_mib(rt: HostRuntime) -> Result<(), Fail> {
+    for (back, want) in LONG {
+        assert!(rt; reads_long_manifest(rt.alloc(), back, want)?, "{want}");
+    }
     Ok(())
 }
 
+// A million requests, and then this.
+fn reads_requests(alloc: Global, back: &str, want: &str) -> Result<bool, Memory> {
+    let front = with_files(alloc, "{\"bundle\":1,M,\"requests\":[")?;
+    let piece = "0,0,0,0,0,0,0,0,0,0,0,0,0,0,0,0,";
+    let text = repeated(alloc, front.as_str(), piece, 65_535, back)?;
+    reads_as(alloc, text.as_str().as_bytes(), want)
+}
+
+const REQUESTS: [(&str, &str); 2] = [
+    ("0,0,0,0,0,0,0,0,0,0,0,0,0,0,0,0]}", "B2 requests.0"),
+    ("0,0,0,0,0,0,0,0,0,0,0,0,0,0,0,0,0]}", "B3 requests"),
+];
+
 #[test]
-fn names_of_nodes(rt: HostRuntime) -> Result<(), Fail> {
-    for (word, want) in [
-        ("a", true),
-        ("web-1.example_2", true),
-        ("", false),
-        ("Web", false),
-        ("a b", false),
-        ("é", false),
-    ] {
-        assert_eq!(rt; is_node_name(word), want, "{word}");
+fn a_bundle_has_at_most_a_million_requests(rt: HostRuntime) -> Result<(), Fail> {
+    for (back, want) in REQUESTS {
+        assert!(rt; reads_requests(rt.alloc(), back, want)?, "{want}");
     }
     Ok(())
 }

@@ -1,10 +1,10 @@
-use crate::samples::{main_class, notify, says, text};
-use pp_values::fault::{Fault, Subject, What};
+use crate::samples::{kind, says};
 use pp_values::memory::Memory;
-use pp_values::place::Place;
-use pp_values::reference::Reference;
-use pp_values::refs::Refs;
 use pp_values::text::Text;
+use pp_values::texts::Texts;
+use pp_values::value::Value;
+use res_core::attribute::Attribute;
+use res_core::attributes::Attributes;
 use res_core::catalog::Catalog;
 use res_core::edge::Edge;
 use res_core::edges::EdgeList;
@@ -13,144 +13,151 @@ use res_core::held_list::HeldList;
 use res_core::indexes::Indexes;
 use res_core::log_line::LogLine;
 use res_core::log_lines::LogLines;
+use res_core::resource::Resource;
+use res_core::tagging::tags_of;
+use res_core::tags::Tags;
 use site_docs::catalog_texts::catalog_text;
-use site_docs::fault_texts::fault_text;
 use std::alloc::Global;
 use std::test::Fail;
 
-fn reference(alloc: Global, kind: &str, title: &str) -> Result<Reference, Memory> {
-    let kind = text(alloc, kind)?;
-    let title = text(alloc, title)?;
-    Ok(Reference { kind, title })
+fn tags(alloc: Global, name: &str, title: &str, container: &Tags) -> Result<Tags, Memory> {
+    let kind = kind(alloc, name)?;
+    let title = Text::from_str(alloc, title)?;
+    tags_of(alloc, &kind, &title, &Texts::new(alloc), container)
 }
 
-fn line(alloc: Global, what: What) -> Result<Text, Memory> {
-    let file = text(alloc, "m.pp")?;
-    let at = Place { file, line: 7 };
-    fault_text(alloc, &Fault { at, what })
+fn class_tags(alloc: Global) -> Result<Tags, Memory> {
+    tags(alloc, "class", "main", &Tags::new(alloc))
 }
 
-fn failed(alloc: Global, message: &str) -> Result<Text, Memory> {
-    line(alloc, What::Failed(text(alloc, message)?))
+// `Class[main]`.
+fn main_class(alloc: Global) -> Result<Held, Memory> {
+    let kind = kind(alloc, "class")?;
+    let title = Text::from_str(alloc, "main")?;
+    let tags = class_tags(alloc)?;
+    let attributes = Attributes::new(alloc);
+    let inside = Indexes::new(alloc);
+    let item = Resource {
+        kind,
+        title,
+        attributes,
+        tags,
+    };
+    Ok(Held { item, inside })
 }
 
-fn default_set(alloc: Global) -> Result<Text, Memory> {
-    let subject = Subject::Kind(text(alloc, "web::vhost")?);
-    let name = text(alloc, "mode")?;
-    line(alloc, What::AlreadySet { subject, name })
+// A `message`, where there is one.
+fn message(alloc: Global, says: &str) -> Result<Attributes, Memory> {
+    let mut items = Vec::new(alloc);
+    if !says.is_empty() {
+        let name = Text::from_str(alloc, "message")?;
+        let value = Value::Text(Text::from_str(alloc, says)?);
+        items.push(Attribute { name, value })?;
+    }
+    Ok(Attributes::from_vec(items))
 }
 
-fn class_virtual(alloc: Global) -> Result<Text, Memory> {
-    line(
-        alloc,
-        What::ClassVirtual(Subject::Kind(text(alloc, "class")?)),
-    )
+// A notify at the top of the main manifest.
+fn notify(alloc: Global, title: &str, says: &str) -> Result<Resource, Memory> {
+    let container = class_tags(alloc)?;
+    let tags = tags(alloc, "notify", title, &container)?;
+    let kind = kind(alloc, "notify")?;
+    let title = Text::from_str(alloc, title)?;
+    let attributes = message(alloc, says)?;
+    Ok(Resource {
+        kind,
+        title,
+        attributes,
+        tags,
+    })
 }
 
-fn same_namevar(alloc: Global) -> Result<Text, Memory> {
-    let later = reference(alloc, "user", "b")?;
-    let earlier = reference(alloc, "user", "a")?;
-    line(alloc, What::SameNamevar { later, earlier })
-}
-
-fn cycle(alloc: Global) -> Result<Text, Memory> {
-    let mut references = Refs::new(alloc);
-    references.push(reference(alloc, "file", "/a")?)?;
-    references.push(reference(alloc, "notify", "f")?)?;
-    line(alloc, What::Cycle(references))
-}
-
-#[test]
-fn lines_of_faults(rt: HostRuntime) -> Result<(), Fail> {
-    let alloc = rt.alloc();
-    says(&rt, failed(alloc, "a\nb\n"), "F25 m.pp:7 Failed a b ")?;
-    says(&rt, failed(alloc, ""), "F25 m.pp:7 Failed")?;
-    says(
-        &rt,
-        default_set(alloc),
-        "F15 m.pp:7 AlreadySet Web::Vhost mode",
-    )?;
-    says(&rt, class_virtual(alloc), "F26 m.pp:7 ClassVirtual Class")?;
-    says(
-        &rt,
-        same_namevar(alloc),
-        "F30 m.pp:7 SameNamevar User[b] User[a]",
-    )?;
-    says(&rt, line(alloc, What::NotBuilt), "F31 m.pp:7 NotBuilt")?;
-    says(
-        &rt,
-        cycle(alloc),
-        "F18 m.pp:7 Cycle File[/a] -> Notify[f] -> File[/a]",
-    )?;
-    Ok(())
-}
-
-fn in_main(alloc: Global, title: &str, said: Option<&str>) -> Result<Held, Memory> {
-    let item = notify(alloc, title, said)?;
+fn in_main(alloc: Global, title: &str, says: &str) -> Result<Held, Memory> {
+    let item = notify(alloc, title, says)?;
     let mut inside = Indexes::new(alloc);
     inside.push(0)?;
     Ok(Held { item, inside })
 }
 
-// A catalog of node `a` with these notifies, and this edge.
-fn catalog(
-    alloc: Global,
-    notifies: &[(&str, Option<&str>)],
-    edge: Option<Edge>,
-) -> Result<Text, Memory> {
-    let node = text(alloc, "a")?;
+// `Class[main]` and notifies, such as `a b=hello,c=`.
+fn resources(alloc: Global, notifies: &str) -> Result<HeldList, Memory> {
     let mut resources = HeldList::new(alloc);
     resources.push(main_class(alloc)?)?;
-    for (title, said) in notifies {
-        resources.push(in_main(alloc, title, *said)?)?;
+    for notify in notifies.split(',') {
+        if let Some((title, says)) = notify.split_once('=') {
+            resources.push(in_main(alloc, title, says)?)?;
+        }
     }
+    Ok(resources)
+}
+
+// An edge from the first notify to the second, where wanted.
+fn edges(alloc: Global, any: bool) -> Result<EdgeList, Memory> {
     let mut edges = EdgeList::new(alloc);
-    if let Some(edge) = edge {
-        edges.push(edge)?;
+    if any {
+        edges.push(Edge {
+            from: 1,
+            to: 2,
+            signal: true,
+        })?;
     }
-    let log = one_line(alloc)?;
-    catalog_text(
-        alloc,
-        &Catalog {
-            node,
-            resources,
-            edges,
-            log,
-        },
-    )
+    Ok(edges)
 }
 
 // Log lines are no part of the text.
 fn one_line(alloc: Global) -> Result<LogLines, Memory> {
-    let level = text(alloc, "notice")?;
-    let text = text(alloc, "said")?;
+    let level = Text::from_str(alloc, "notice")?;
+    let text = Text::from_str(alloc, "said")?;
     let mut log = LogLines::new(alloc);
     log.push(LogLine { level, text })?;
     Ok(log)
 }
 
+fn catalog(alloc: Global, notifies: &str, any_edge: bool) -> Result<Catalog, Memory> {
+    let node = Text::from_str(alloc, "a")?;
+    let resources = resources(alloc, notifies)?;
+    let edges = edges(alloc, any_edge)?;
+    let log = one_line(alloc)?;
+    Ok(Catalog {
+        node,
+        resources,
+        edges,
+        log,
+    })
+}
+
+fn catalog_says(
+    alloc: Global,
+    notifies: &str,
+    any_edge: bool,
+    want: &str,
+) -> Result<bool, Memory> {
+    let catalog = catalog(alloc, notifies, any_edge)?;
+    says(catalog_text(alloc, &catalog), want)
+}
+
+const CATALOGS: [(&str, bool, &str); 3] = [
+    (
+        "",
+        false,
+        "{\"catalog\":1,\"edges\":[],\"node\":\"a\",\"resources\":[{\"attrs\":{},\"in\":[],\"tags\":[\"class\",\"main\"],\"title\":\"main\",\"type\":\"Class\"}]}",
+    ),
+    (
+        "me=",
+        false,
+        "{\"catalog\":1,\"edges\":[],\"node\":\"a\",\"resources\":[{\"attrs\":{},\"in\":[],\"tags\":[\"class\",\"main\"],\"title\":\"main\",\"type\":\"Class\"},{\"attrs\":{},\"in\":[0],\"tags\":[\"class\",\"main\",\"me\",\"notify\"],\"title\":\"me\",\"type\":\"Notify\"}]}",
+    ),
+    (
+        "a b=x\"y,c=",
+        true,
+        "{\"catalog\":1,\"edges\":[[1,2,true]],\"node\":\"a\",\"resources\":[{\"attrs\":{},\"in\":[],\"tags\":[\"class\",\"main\"],\"title\":\"main\",\"type\":\"Class\"},{\"attrs\":{\"message\":\"x\\\"y\"},\"in\":[0],\"tags\":[\"class\",\"main\",\"notify\"],\"title\":\"a b\",\"type\":\"Notify\"},{\"attrs\":{},\"in\":[0],\"tags\":[\"c\",\"class\",\"main\",\"notify\"],\"title\":\"c\",\"type\":\"Notify\"}]}",
+    ),
+];
+
 #[test]
 fn texts_of_catalogs(rt: HostRuntime) -> Result<(), Fail> {
-    let alloc = rt.alloc();
-    says(
-        &rt,
-        catalog(alloc, &[], None),
-        "{\"catalog\":1,\"edges\":[],\"node\":\"a\",\"resources\":[{\"attrs\":{},\"in\":[],\"tags\":[\"class\",\"main\"],\"title\":\"main\",\"type\":\"Class\"}]}",
-    )?;
-    says(
-        &rt,
-        catalog(alloc, &[("me", None)], None),
-        "{\"catalog\":1,\"edges\":[],\"node\":\"a\",\"resources\":[{\"attrs\":{},\"in\":[],\"tags\":[\"class\",\"main\"],\"title\":\"main\",\"type\":\"Class\"},{\"attrs\":{},\"in\":[0],\"tags\":[\"class\",\"main\",\"me\",\"notify\"],\"title\":\"me\",\"type\":\"Notify\"}]}",
-    )?;
-    let edge = Edge {
-        from: 1,
-        to: 2,
-        signal: true,
-    };
-    says(
-        &rt,
-        catalog(alloc, &[("a b", Some("x\"y")), ("c", None)], Some(edge)),
-        "{\"catalog\":1,\"edges\":[[1,2,true]],\"node\":\"a\",\"resources\":[{\"attrs\":{},\"in\":[],\"tags\":[\"class\",\"main\"],\"title\":\"main\",\"type\":\"Class\"},{\"attrs\":{\"message\":\"x\\\"y\"},\"in\":[0],\"tags\":[\"class\",\"main\",\"notify\"],\"title\":\"a b\",\"type\":\"Notify\"},{\"attrs\":{},\"in\":[0],\"tags\":[\"c\",\"class\",\"main\",\"notify\"],\"title\":\"c\",\"type\":\"Notify\"}]}",
-    )?;
+    for (notifies, any_edge, want) in CATALOGS {
+        assert!(rt; catalog_says(rt.alloc(), notifies, any_edge, want)?, "{notifies}");
+    }
     Ok(())
 }

@@ -2,14 +2,13 @@ ghost use Rattle.std.specs.Prelude.{◌≤◌};
 ghost use Rattle.site_core.specs.Core.{MOST_ENTRIES};
 ghost use Rattle.site_core.specs.Snapshots.{Of};
 
-use crate::toy::Toy;
+use crate::lines::{write_entries, write_reply};
+use crate::samples::no_facts;
+use crate::toy::{Toy, toy_site};
 use pp_values::memory::Memory;
-use pp_values::pairs::Pairs;
 use pp_values::text::Text;
-use pp_values::value::Value;
 use site_core::compile_stop::CompileStop;
 use site_core::done_stop::DoneStop;
-use site_core::entry::Entry;
 use site_core::language::Language;
 use site_core::reply::{Answer, Reply};
 use site_core::snapshot::Snapshot;
@@ -17,26 +16,23 @@ use site_core::state::CoreState;
 use std::alloc::Global;
 use std::test::Fail;
 
-/// A core over a site that refuses the node `bad`.
 fn opened(alloc: Global, limit: u32) -> Result<CoreState<Toy>, Memory>
     requires low { 1 ≤ limit }
     requires high { limit ≤ MOST_ENTRIES }
 {
-    let site = Text::from_str(alloc, "bad")?;
-    CoreState::open(alloc, site, limit)
+    CoreState::open(alloc, toy_site(alloc), limit)
 }
 
 /// A compile from its beginning to its end.
-fn serve<L: Language>(
+fn serve(
     alloc: Global,
-    language: &L,
-    core: &mut CoreState<L>,
+    core: &mut CoreState<Toy>,
     author: u32,
     node: &str,
-) -> Result<Reply<L>, Memory> {
+) -> Result<Reply<Toy>, Memory> {
     let node = Text::from_str(alloc, node)?;
     let snapshot = core.snap(alloc)?;
-    finish(alloc, language, core, author, node, snapshot)
+    finish(alloc, &Toy, core, author, node, snapshot)
 }
 
 /// The end of a compile that began with this snapshot.
@@ -50,7 +46,7 @@ fn finish<L: Language>(
 ) -> Result<Reply<L>, Memory>
     requires { Of snapshot core.old.history }
 {
-    let facts = Value::Hash(Pairs::new(alloc));
+    let facts = no_facts(alloc);
     let k = snapshot.k;
     match language.compile(alloc, &snapshot.site, &node, &facts, &snapshot.version) {
         Ok((catalog, set)) => match core.done(alloc, author, node, facts, snapshot, set) {
@@ -66,7 +62,7 @@ fn finish<L: Language>(
     }
 }
 
-fn removed(
+fn remove(
     alloc: Global,
     core: &mut CoreState<Toy>,
     author: u32,
@@ -80,130 +76,107 @@ fn removed(
     })
 }
 
+/// One event: `a` is a compile of node `a`, `-a` its deactivation.
+fn play(
+    alloc: Global,
+    core: &mut CoreState<Toy>,
+    author: u32,
+    event: &str,
+) -> Result<Reply<Toy>, Memory> {
+    match event.strip_prefix("-") {
+        Some(node) => remove(alloc, core, author, node),
+        None => serve(alloc, core, author, event),
+    }
+}
+
+/// Plays the events, each by its author in turn, and writes the replies.
+fn play_all(
+    alloc: Global,
+    out: &mut String,
+    core: &mut CoreState<Toy>,
+    authors: &[u32],
+    events: &str,
+) -> Result<(), Memory> {
+    for (author, event) in authors.iter().zip(events.split_whitespace()) {
+        let reply = play(alloc, core, *author, event)?;
+        write_reply(out, &reply)?;
+    }
+    Ok(())
+}
+
+/// Whether the events come to these replies and this history.
+fn comes_to(
+    alloc: Global,
+    limit: u32,
+    authors: &[u32],
+    events: &str,
+    want: &str,
+) -> Result<bool, Memory> {
+    if limit < 1 || limit > 1000 {
+        return Err(Memory);
+    }
+    let mut core = opened(alloc, limit)?;
+    let mut out = String::new(alloc);
+    play_all(alloc, &mut out, &mut core, authors, events)?;
+    let history = core.into_history();
+    write_entries(&mut out, history.entries.as_slice())?;
+    Ok(out.as_str() == want)
+}
+
+const HISTORIES: [(u32, [u32; 6], &str, &str); 4] = [
+    // A set comes and goes.
+    (
+        5,
+        [0; 6],
+        "a b -a b",
+        "served 1 1 false;served 2 2 true;deactivated 3;served 4 4 false;open;publish 0 0 a 1;publish 0 1 b 2;gone 0 2 a;publish 0 3 b 4;",
+    ),
+    // A full history takes no entry; a fault comes before that.
+    (
+        2,
+        [0; 6],
+        "a a -a bad",
+        "served 1 1 false;full 2;full 2;refused 2 bad;open;publish 0 0 a 1;",
+    ),
+    // A fault adds no entry.
+    (
+        3,
+        [0; 6],
+        "bad -none",
+        "refused 1 bad;deactivated 1;open;gone 0 0 none;",
+    ),
+    // Each author numbers its calls.
+    (
+        9,
+        [7, 0, 7, 7, 0, 0],
+        "a a a a a -a",
+        "served 1 1 false;served 2 2 true;served 3 3 true;served 4 4 true;served 5 5 true;deactivated 6;open;publish 7 0 a 1;publish 0 0 a 2;publish 7 1 a 3;publish 7 2 a 4;publish 0 1 a 5;gone 0 2 a;",
+    ),
+];
+
 #[test]
-fn a_set_comes_and_goes(rt: HostRuntime) -> Result<(), Fail> {
-    let alloc = rt.alloc();
+fn histories_grow_by_events(rt: HostRuntime) -> Result<(), Fail> {
+    for (limit, authors, events, want) in HISTORIES {
+        assert!(rt; comes_to(rt.alloc(), limit, authors.as_slice(), events, want)?, "{events}");
+    }
+    Ok(())
+}
+
+/// Whether a compile that began before another entry came ends behind it.
+fn older_compile_ends_last(alloc: Global) -> Result<bool, Memory> {
     let mut core = opened(alloc, 5)?;
-    assert_eq!(rt; core.len(), 1);
-    assert_eq!(rt;
-        serve(alloc, &Toy, &mut core, 0, "a")?,
-        Answer::Served {
-            entry: 1,
-            k: 1,
-            catalog: None
-        }
-    );
-    assert_eq!(rt;
-        serve(alloc, &Toy, &mut core, 0, "b")?,
-        Answer::Served {
-            entry: 2,
-            k: 2,
-            catalog: Some(0)
-        }
-    );
-    assert_eq!(rt;
-        removed(alloc, &mut core, 0, "a")?,
-        Answer::Deactivated { entry: 3 }
-    );
-    assert_eq!(rt;
-        serve(alloc, &Toy, &mut core, 0, "b")?,
-        Answer::Served {
-            entry: 4,
-            k: 4,
-            catalog: None
-        }
-    );
-    Ok(())
-}
-
-#[test]
-fn a_full_history_takes_no_entry(rt: HostRuntime) -> Result<(), Fail> {
-    let alloc = rt.alloc();
-    let mut core = opened(alloc, 2)?;
-    assert_eq!(rt;
-        serve(alloc, &Toy, &mut core, 0, "a")?,
-        Answer::Served {
-            entry: 1,
-            k: 1,
-            catalog: None
-        }
-    );
-    assert_eq!(rt;
-        serve(alloc, &Toy, &mut core, 0, "a")?,
-        Answer::HistoryFull { length: 2 }
-    );
-    assert_eq!(rt;
-        removed(alloc, &mut core, 0, "a")?,
-        Answer::HistoryFull { length: 2 }
-    );
-    assert_eq!(rt; core.len(), 2);
-    Ok(())
-}
-
-#[test]
-fn a_fault_adds_no_entry(rt: HostRuntime) -> Result<(), Fail> {
-    let alloc = rt.alloc();
-    let mut core = opened(alloc, 3)?;
-    let fault = Text::from_str(alloc, "bad")?;
-    assert_eq!(rt;
-        serve(alloc, &Toy, &mut core, 0, "bad")?,
-        Answer::Refused { k: 1, fault }
-    );
-    assert_eq!(rt;
-        removed(alloc, &mut core, 0, "none")?,
-        Answer::Deactivated { entry: 1 }
-    );
-    assert_eq!(rt; core.len(), 2);
-    Ok(())
+    let snapshot = core.snap(alloc)?;
+    let gone = Text::from_str(alloc, "a")?;
+    let is_first = matches!(core.deactivate(alloc, 1, gone), Ok(1));
+    let node = Text::from_str(alloc, "b")?;
+    let reply = finish(alloc, &Toy, &mut core, 0, node, snapshot)?;
+    let mut out = String::new(alloc);
+    write_reply(&mut out, &reply)?;
+    Ok(is_first && out.as_str() == "served 2 1 false;")
 }
 
 #[test]
 fn an_older_compile_ends_last(rt: HostRuntime) -> Result<(), Fail> {
-    let alloc = rt.alloc();
-    let mut core = opened(alloc, 5)?;
-    let snapshot = core.snap(alloc)?;
-    let gone = Text::from_str(alloc, "a")?;
-    let entry = core.deactivate(alloc, 1, gone)?;
-    assert_eq!(rt; entry, 1);
-    let node = Text::from_str(alloc, "b")?;
-    let reply = finish(alloc, &Toy, &mut core, 0, node, snapshot)?;
-    assert_eq!(rt;
-        reply,
-        Answer::Served {
-            entry: 2,
-            k: 1,
-            catalog: None
-        }
-    );
-    Ok(())
-}
-
-/// The author and the call of each entry that has them.
-fn calls(alloc: Global, entries: &[Entry<Text>]) -> Result<Vec<(u32, u32)>, Memory> {
-    let mut calls = Vec::new(alloc);
-    for entry in entries {
-        match entry {
-            Entry::Open { .. } => {}
-            Entry::Publish { author, call, .. } => calls.push((*author, *call))?,
-            Entry::Deactivate { author, call, .. } => calls.push((*author, *call))?,
-        }
-    }
-    Ok(calls)
-}
-
-#[test]
-fn each_author_numbers_its_calls(rt: HostRuntime) -> Result<(), Fail> {
-    let alloc = rt.alloc();
-    let mut core = opened(alloc, 9)?;
-    for author in [7, 0, 7, 7, 0] {
-        serve(alloc, &Toy, &mut core, author, "a")?;
-    }
-    removed(alloc, &mut core, 0, "a")?;
-    let history = core.into_history();
-    let calls = calls(alloc, history.entries.as_slice())?;
-    assert_eq!(rt;
-        calls.as_slice(),
-        [(7, 0), (0, 0), (7, 1), (7, 2), (0, 1), (0, 2)].as_slice()
-    );
+    assert!(rt; older_compile_ends_last(rt.alloc())?);
     Ok(())
 }

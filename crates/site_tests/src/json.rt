@@ -1,110 +1,115 @@
+use crate::samples::reference;
 use json_values::value_forms::value_form;
 use pp_values::memory::Memory;
 use pp_values::pairs::Pairs;
-use pp_values::reference::Reference;
 use pp_values::text::Text;
 use pp_values::value::Value;
 use pp_values::values::Values;
 use std::alloc::Global;
-use std::process::Abort;
 use std::test::Fail;
 
-// The form of a value, as a text.
-fn form_text(alloc: Global, value: Value) -> Result<Text, Memory> {
-    let form = value_form(alloc, &value)?;
-    Ok(Text::new(form.to_string(alloc)?))
+// Whether the form of a value is this text.
+fn is_form(alloc: Global, value: Value, want: &str) -> Result<bool, Memory> {
+    let form = value_form(alloc, &value);
+    drop(value);
+    let form = form?;
+    Ok(form.to_string(alloc)?.as_str() == want)
 }
 
-fn text(alloc: Global, text: &str) -> Result<Value, Memory> {
-    Ok(Value::Text(Text::from_str(alloc, text)?))
-}
-
-fn hash(alloc: Global, first: &str, second: &str) -> Result<Text, Memory> {
+fn hash(alloc: Global, first: &str, second: &str) -> Result<Value, Memory> {
     let mut pairs = Pairs::new(alloc);
     pairs.put(Value::Text(Text::from_str(alloc, first)?), Value::Int(1))?;
     pairs.put(Value::Text(Text::from_str(alloc, second)?), Value::Int(-2))?;
-    form_text(alloc, Value::Hash(pairs))
+    Ok(Value::Hash(pairs))
 }
+
+const HASHES: [(&str, &str, &str); 7] = [
+    ("a", "b", "{\"a\":1,\"b\":-2}"),
+    (
+        "b",
+        "a",
+        "{\"__ptype\":\"Hash\",\"__pvalue\":[\"b\",1,\"a\",-2]}",
+    ),
+    (
+        "a",
+        "__p",
+        "{\"__ptype\":\"Hash\",\"__pvalue\":[\"a\",1,\"__p\",-2]}",
+    ),
+    (
+        "__ptype",
+        "a",
+        "{\"__ptype\":\"Hash\",\"__pvalue\":[\"__ptype\",1,\"a\",-2]}",
+    ),
+    ("__", "__q", "{\"__\":1,\"__q\":-2}"),
+    ("B", "a", "{\"B\":1,\"a\":-2}"),
+    ("", "é", "{\"\":1,\"é\":-2}"),
+];
 
 #[test]
 fn hashes(rt: HostRuntime) -> Result<(), Fail> {
-    for (first, second, want) in [
-        ("a", "b", "{\"a\":1,\"b\":-2}"),
-        (
-            "b",
-            "a",
-            "{\"__ptype\":\"Hash\",\"__pvalue\":[\"b\",1,\"a\",-2]}",
-        ),
-        (
-            "a",
-            "__p",
-            "{\"__ptype\":\"Hash\",\"__pvalue\":[\"a\",1,\"__p\",-2]}",
-        ),
-        (
-            "__ptype",
-            "a",
-            "{\"__ptype\":\"Hash\",\"__pvalue\":[\"__ptype\",1,\"a\",-2]}",
-        ),
-        ("__", "__q", "{\"__\":1,\"__q\":-2}"),
-        ("B", "a", "{\"B\":1,\"a\":-2}"),
-        ("", "é", "{\"\":1,\"é\":-2}"),
-    ] {
-        let form = hash(rt.alloc(), first, second)?;
-        assert_eq!(rt; form.as_str(), want);
+    for (first, second, want) in HASHES {
+        let alloc = rt.alloc();
+        assert!(rt; is_form(alloc, hash(alloc, first, second)?, want)?, "{want}");
     }
     Ok(())
 }
 
-fn empty_hash(alloc: Global) -> Result<Text, Memory> {
-    form_text(alloc, Value::Hash(Pairs::new(alloc)))
-}
-
-fn integer_key(alloc: Global) -> Result<Text, Memory> {
+fn integer_key(alloc: Global) -> Result<Value, Memory> {
     let mut pairs = Pairs::new(alloc);
     pairs.put(Value::Int(1), Value::Flag(false))?;
-    form_text(alloc, Value::Hash(pairs))
+    Ok(Value::Hash(pairs))
 }
 
-fn list(alloc: Global) -> Result<Text, Memory> {
+fn list(alloc: Global) -> Result<Value, Memory> {
     let mut items = Values::new(alloc);
     items.push(Value::Undef)?;
     items.push(Value::Flag(true))?;
-    items.push(text(alloc, "a\n\"b\"")?)?;
-    form_text(alloc, Value::List(items))
+    items.push(Value::Text(Text::from_str(alloc, "a\n\"b\"")?))?;
+    Ok(Value::List(items))
 }
 
-fn reference(alloc: Global) -> Result<Text, Memory> {
-    let kind = Text::from_str(alloc, "web::vhost")?;
-    let title = Text::from_str(alloc, "A")?;
-    form_text(alloc, Value::Ref(Reference { kind, title }))
+/// A value of the table.
+#[derive(Clone, Copy)]
+enum Sample {
+    EmptyHash,
+    IntegerKey,
+    List,
+    Reference,
+    Least,
+    Default,
 }
 
-fn says(rt: &impl Abort, made: Result<Text, Memory>, want: &str) -> Result<(), Memory> {
-    let made = made?;
-    assert_eq!(rt; made.as_str(), want);
-    Ok(())
+fn value(alloc: Global, sample: Sample) -> Result<Value, Memory> {
+    match sample {
+        Sample::EmptyHash => Ok(Value::Hash(Pairs::new(alloc))),
+        Sample::IntegerKey => integer_key(alloc),
+        Sample::List => list(alloc),
+        Sample::Reference => Ok(Value::Ref(reference(alloc, "web::vhost", "A")?)),
+        Sample::Least => Ok(Value::Int(i64::MIN)),
+        Sample::Default => Ok(Value::Default),
+    }
 }
+
+const FORMS: [(Sample, &str); 6] = [
+    (Sample::EmptyHash, "{}"),
+    (
+        Sample::IntegerKey,
+        "{\"__ptype\":\"Hash\",\"__pvalue\":[1,false]}",
+    ),
+    (Sample::List, "[null,true,\"a\\n\\\"b\\\"\"]"),
+    (
+        Sample::Reference,
+        "{\"__ptype\":\"Ref\",\"kind\":\"web::vhost\",\"title\":\"A\"}",
+    ),
+    (Sample::Least, "-9223372036854775808"),
+    (Sample::Default, "null"),
+];
 
 #[test]
 fn other_values(rt: HostRuntime) -> Result<(), Fail> {
-    let alloc = rt.alloc();
-    says(&rt, empty_hash(alloc), "{}")?;
-    says(
-        &rt,
-        integer_key(alloc),
-        "{\"__ptype\":\"Hash\",\"__pvalue\":[1,false]}",
-    )?;
-    says(&rt, list(alloc), "[null,true,\"a\\n\\\"b\\\"\"]")?;
-    says(
-        &rt,
-        reference(alloc),
-        "{\"__ptype\":\"Ref\",\"kind\":\"web::vhost\",\"title\":\"A\"}",
-    )?;
-    says(
-        &rt,
-        form_text(alloc, Value::Int(i64::MIN)),
-        "-9223372036854775808",
-    )?;
-    says(&rt, form_text(alloc, Value::Default), "null")?;
+    for (sample, want) in FORMS {
+        let alloc = rt.alloc();
+        assert!(rt; is_form(alloc, value(alloc, sample)?, want)?, "{want}");
+    }
     Ok(())
 }

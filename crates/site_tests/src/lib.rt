@@ -1,4 +1,4 @@
-//! The tests of what the libraries below offer to callers, and the toy language that the histories among them speak.
+//! The tests of what the crates of the site offer to callers, and the toy language that the histories among them speak.
 #![tactic(auto)]
 
 #[cfg(test)]
@@ -6,21 +6,27 @@ mod bundles;
 #[cfg(test)]
 mod catalogs;
 #[cfg(test)]
+mod collecting;
+#[cfg(test)]
 mod compiling;
 #[cfg(test)]
 mod exported;
 #[cfg(test)]
-mod history;
+mod faults;
 #[cfg(test)]
-mod journals;
+mod history;
 #[cfg(test)]
 mod jobs;
 #[cfg(test)]
+mod journals;
+#[cfg(test)]
 mod json;
+#[cfg(test)]
+mod lines;
 #[cfg(test)]
 mod locks;
 #[cfg(test)]
-mod manifests;
+mod puppet;
 #[cfg(test)]
 mod replies;
 #[cfg(test)]
@@ -31,12 +37,6 @@ mod samples;
 mod sites;
 #[cfg(test)]
 mod streams;
-#[cfg(test)]
-mod tokens;
 pub mod toy;
-#[cfg(test)]
-mod trees;
-#[cfg(test)]
-mod values;
 #[cfg(test)]
 mod versions;

@@ -1,209 +1,144 @@
-use crate::samples::{main_class, notify, says, text};
-use export_store::version::Version;
-use pp_values::fault::{Fault, What};
+use crate::puppet::made_alone;
+use crate::samples::says;
+use compile_core::language::PuppetLanguage;
 use pp_values::memory::Memory;
-use pp_values::place::Place;
-use pp_values::reference::Reference;
 use pp_values::text::Text;
-use pp_values::value::Value;
-use res_core::catalog::Catalog;
-use res_core::edges::EdgeList;
-use res_core::export_set::ExportSet;
-use res_core::held::Held;
-use res_core::held_list::HeldList;
-use res_core::indexes::Indexes;
-use res_core::log_lines::LogLines;
 use res_core::request::{CompileRequest, Request};
 use site_core::compile_stop::CompileStop;
-use site_core::language::Language;
 use site_core::reply::{Answer, Reply};
-use site_docs::catalog_texts::catalog_text;
-use site_docs::fault_texts::fault_text;
 use site_docs::replies::write_reply;
 use std::alloc::Global;
 use std::test::Fail;
 
-/// A language that is never asked for its meaning.
-struct Toy;
-
-impl Language for Toy {
-    type Site = Text;
-
-    type Catalog = Catalog;
-
-    type Fault = Fault;
-
-    ghost use Rattle.std.specs.Prelude.{Err, None, [], ◌≡◌, IfOk, IfSome, IsTrue, option_map};
-    ghost use Rattle.pp_values.specs.declared.fault.What.TheVariants.{Syntax};
-    ghost use Rattle.site_docs.specs.CatalogText.{catalog_text};
-    ghost use Rattle.site_docs.specs.FaultText.{fault_text};
-
-    ghost meaning = { λ site node facts sets. Err (record { at = record { file = []; line = 0 }; what = Syntax }) };
-
-    ghost listed = { λ site node. None };
-
-    ghost site_form = { λ site. site };
-
-    ghost catalog_form = { catalog_text };
-
-    ghost fault_form = { fault_text };
-
-    fn compile(
-        &self,
-        _alloc: Global,
-        _site: &Text,
-        _node: &Text,
-        _facts: &Value,
-        _sets: &Version,
-    ) -> Result<(Catalog, ExportSet), CompileStop<Fault>> {
-        Err(CompileStop::Memory)
-    }
-
-    fn facts_of<'a>(&self, _site: &'a Text, _node: &Text) -> Option<&'a Value> {
-        None
-    }
-
-    fn site_text(&self, alloc: Global, site: &Text) -> Result<Text, Memory> {
-        site.copy(alloc)
-    }
-
-    fn catalog_text(&self, alloc: Global, catalog: &Catalog) -> Result<Text, Memory> {
-        catalog_text(alloc, catalog)
-    }
-
-    fn fault_text(&self, alloc: Global, fault: &Fault) -> Result<Text, Memory> {
-        fault_text(alloc, fault)
+// A request of this node; `-` before it deactivates it.
+fn request(alloc: Global, node: &str) -> Result<Request, Memory> {
+    match node.strip_prefix("-") {
+        Some(node) => Ok(Request::Deactivate(Text::from_str(alloc, node)?)),
+        None => Ok(Request::Compile(CompileRequest {
+            node: Text::from_str(alloc, node)?,
+            facts: None,
+            seen: 2,
+        })),
     }
 }
 
-// The line of a reply to a compile of this node.
-fn line(
+fn reply_says(
     alloc: Global,
     index: u32,
     node: &str,
-    seen: u32,
-    reply: Reply<Toy>,
-) -> Result<Text, Memory> {
-    let node = text(alloc, node)?;
-    let request = Request::Compile(CompileRequest {
-        node,
-        facts: None,
-        seen,
-    });
-    write_reply(alloc, &Toy, index, &request, &reply)
+    reply: &Reply<PuppetLanguage>,
+    want: &str,
+) -> Result<bool, Memory> {
+    let request = request(alloc, node)?;
+    says(write_reply(alloc, &PuppetLanguage, index, &request, reply), want)
 }
 
-// The line of a reply to a deactivation.
-fn gone(alloc: Global, index: u32, reply: Reply<Toy>) -> Result<Text, Memory> {
-    let request = Request::Deactivate(text(alloc, "a")?);
-    write_reply(alloc, &Toy, index, &request, &reply)
-}
-
-fn own(alloc: Global) -> Result<Held, Memory> {
-    let item = notify(alloc, "me", None)?;
-    let mut inside = Indexes::new(alloc);
-    inside.push(0)?;
-    Ok(Held { item, inside })
-}
-
-// The catalog of node `a`: `Class[main]`, and a notify where wanted.
-fn catalog(alloc: Global, any: bool) -> Result<Catalog, Memory> {
-    let mut resources = HeldList::new(alloc);
-    resources.push(main_class(alloc)?)?;
-    if any {
-        resources.push(own(alloc)?)?;
+// The reply to a node whose manifest is this one.
+fn compiled(
+    alloc: Global,
+    entry: u32,
+    k: u32,
+    node: &str,
+    manifest: &str,
+) -> Reply<PuppetLanguage> {
+    match made_alone(alloc, node, manifest) {
+        Ok((catalog, _)) => Answer::Served { entry, k, catalog },
+        Err(CompileStop::Fault(fault)) => Answer::Refused { k, fault },
+        Err(CompileStop::Memory) => Answer::Memory,
     }
-    let node = text(alloc, "a")?;
-    let edges = EdgeList::new(alloc);
-    let log = LogLines::new(alloc);
-    Ok(Catalog {
-        node,
-        resources,
-        edges,
-        log,
-    })
 }
 
-fn served(alloc: Global, index: u32, entry: u32, k: u32, any: bool) -> Result<Text, Memory> {
-    let catalog = catalog(alloc, any)?;
-    line(alloc, index, "a", 0, Answer::Served { entry, k, catalog })
+fn compiled_says(
+    alloc: Global,
+    index: u32,
+    entry: u32,
+    k: u32,
+    node: &str,
+    manifest: &str,
+    want: &str,
+) -> Result<bool, Memory> {
+    let reply = compiled(alloc, entry, k, node, manifest);
+    reply_says(alloc, index, node, &reply, want)
 }
 
-fn place(alloc: Global) -> Result<Place, Memory> {
-    let file = text(alloc, "manifests/site.pp")?;
-    Ok(Place { file, line: 1 })
-}
-
-fn twice_me(alloc: Global) -> Result<Fault, Memory> {
-    let kind = text(alloc, "notify")?;
-    let title = text(alloc, "me")?;
-    let reference = Reference { kind, title };
-    let earlier = place(alloc)?;
-    let at = place(alloc)?;
-    Ok(Fault {
-        at,
-        what: What::Duplicate { reference, earlier },
-    })
-}
-
-fn refused(alloc: Global) -> Result<Text, Memory> {
-    let fault = twice_me(alloc)?;
-    line(alloc, 1, "b", 0, Answer::Refused { k: 2, fault })
-}
+const COMPILED: [(u32, u32, u32, &str, &str, &str); 3] = [
+    (
+        0,
+        1,
+        1,
+        "a",
+        "",
+        "{\"catalog\":{\"catalog\":1,\"edges\":[],\"node\":\"a\",\"resources\":[{\"attrs\":{},\"in\":[],\"tags\":[\"class\",\"main\"],\"title\":\"main\",\"type\":\"Class\"}]},\"entry\":1,\"k\":1,\"reply\":0}\n",
+    ),
+    (
+        1,
+        3,
+        2,
+        "a",
+        "notify { 'me': }",
+        "{\"catalog\":{\"catalog\":1,\"edges\":[],\"node\":\"a\",\"resources\":[{\"attrs\":{},\"in\":[],\"tags\":[\"class\",\"main\"],\"title\":\"main\",\"type\":\"Class\"},{\"attrs\":{},\"in\":[0],\"tags\":[\"class\",\"main\",\"me\",\"notify\"],\"title\":\"me\",\"type\":\"Notify\"}]},\"entry\":3,\"k\":2,\"reply\":1}\n",
+    ),
+    (
+        1,
+        3,
+        2,
+        "b",
+        "notify { 'me': }\nnotify { 'me': }",
+        "{\"fault\":\"F14 manifests/site.pp:2 Duplicate Notify[me] manifests/site.pp:1\",\"k\":2,\"reply\":1}\n",
+    ),
+];
 
 #[test]
 fn catalogs_and_faults(rt: HostRuntime) -> Result<(), Fail> {
-    let alloc = rt.alloc();
-    says(
-        &rt,
-        served(alloc, 0, 1, 1, false),
-        "{\"catalog\":{\"catalog\":1,\"edges\":[],\"node\":\"a\",\"resources\":[{\"attrs\":{},\"in\":[],\"tags\":[\"class\",\"main\"],\"title\":\"main\",\"type\":\"Class\"}]},\"entry\":1,\"k\":1,\"reply\":0}\n",
-    )?;
-    says(
-        &rt,
-        served(alloc, 1, 2, 2, true),
-        "{\"catalog\":{\"catalog\":1,\"edges\":[],\"node\":\"a\",\"resources\":[{\"attrs\":{},\"in\":[],\"tags\":[\"class\",\"main\"],\"title\":\"main\",\"type\":\"Class\"},{\"attrs\":{},\"in\":[0],\"tags\":[\"class\",\"main\",\"me\",\"notify\"],\"title\":\"me\",\"type\":\"Notify\"}]},\"entry\":2,\"k\":2,\"reply\":1}\n",
-    )?;
-    says(
-        &rt,
-        refused(alloc),
-        "{\"fault\":\"F14 manifests/site.pp:1 Duplicate Notify[me] manifests/site.pp:1\",\"k\":2,\"reply\":1}\n",
-    )?;
+    for (index, entry, k, node, manifest, want) in COMPILED {
+        assert!(rt; compiled_says(rt.alloc(), index, entry, k, node, manifest, want)?, "{want}");
+    }
     Ok(())
 }
 
+/// A reply that has numbers alone.
+#[derive(Clone, Copy)]
+enum Plain {
+    Unknown(u32),
+    Ahead(u32),
+    Full(u32),
+    Deactivated(u32),
+    Memory,
+}
+
+fn plain(reply: Plain) -> Reply<PuppetLanguage> {
+    match reply {
+        Plain::Unknown(k) => Answer::UnknownNode { k },
+        Plain::Ahead(length) => Answer::SeenAhead { length },
+        Plain::Full(length) => Answer::HistoryFull { length },
+        Plain::Deactivated(entry) => Answer::Deactivated { entry },
+        Plain::Memory => Answer::Memory,
+    }
+}
+
+fn plain_says(
+    alloc: Global,
+    index: u32,
+    node: &str,
+    reply: Plain,
+    want: &str,
+) -> Result<bool, Memory> {
+    reply_says(alloc, index, node, &plain(reply), want)
+}
+
+const PLAIN: [(u32, &str, Plain, &str); 6] = [
+    (0, "z", Plain::Unknown(1), "{\"k\":1,\"reply\":0,\"unknown\":\"z\"}\n"),
+    (1, "a", Plain::Ahead(1), "{\"length\":1,\"reply\":1,\"seen\":2}\n"),
+    (4294967295, "a", Plain::Full(3), "{\"full\":3,\"reply\":4294967295}\n"),
+    (5, "a", Plain::Memory, "{\"memory\":true,\"reply\":5}\n"),
+    (2, "-a", Plain::Deactivated(9), "{\"entry\":9,\"reply\":2}\n"),
+    (2, "-a", Plain::Full(9), "{\"full\":9,\"reply\":2}\n"),
+];
+
 #[test]
 fn other_replies(rt: HostRuntime) -> Result<(), Fail> {
-    let alloc = rt.alloc();
-    says(
-        &rt,
-        line(alloc, 0, "z", 0, Answer::UnknownNode { k: 1 }),
-        "{\"k\":1,\"reply\":0,\"unknown\":\"z\"}\n",
-    )?;
-    says(
-        &rt,
-        line(alloc, 1, "a", 2, Answer::SeenAhead { length: 1 }),
-        "{\"length\":1,\"reply\":1,\"seen\":2}\n",
-    )?;
-    says(
-        &rt,
-        line(alloc, 4294967295, "a", 2, Answer::HistoryFull { length: 3 }),
-        "{\"full\":3,\"reply\":4294967295}\n",
-    )?;
-    says(
-        &rt,
-        line(alloc, 5, "a", 2, Answer::Memory),
-        "{\"memory\":true,\"reply\":5}\n",
-    )?;
-    says(
-        &rt,
-        gone(alloc, 2, Answer::Deactivated { entry: 9 }),
-        "{\"entry\":9,\"reply\":2}\n",
-    )?;
-    says(
-        &rt,
-        gone(alloc, 2, Answer::HistoryFull { length: 9 }),
-        "{\"full\":9,\"reply\":2}\n",
-    )?;
+    for (index, node, reply, want) in PLAIN {
+        assert!(rt; plain_says(rt.alloc(), index, node, reply, want)?, "{want}");
+    }
     Ok(())
 }

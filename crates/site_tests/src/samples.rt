@@ -1,72 +1,48 @@
-//! Values of which the tests of documents write texts.
+//! Values from which the tests of sites and documents are made.
+ghost use Rattle.std.specs.Prelude.{IfOk, IsTrue};
+ghost use Rattle.pp_values.specs.Views.{view};
+ghost use Rattle.site_core.specs.Facts.{are_facts};
+
 use pp_values::memory::Memory;
+use pp_values::pairs::Pairs;
+use pp_values::reference::Reference;
 use pp_values::text::Text;
-use pp_values::texts::Texts;
 use pp_values::value::Value;
-use res_core::attribute::Attribute;
-use res_core::attributes::Attributes;
-use res_core::held::Held;
-use res_core::indexes::Indexes;
-use res_core::resource::Resource;
-use res_core::tagging::tags_of;
-use res_core::tags::Tags;
+use site_bundle::site::Site;
 use std::alloc::Global;
-use std::process::Abort;
 
-pub fn says(rt: &impl Abort, made: Result<Text, Memory>, want: &str) -> Result<(), Memory> {
-    let made = made?;
-    assert_eq!(rt; made.as_str(), want);
-    Ok(())
+/// Whether what was made is this text.
+pub fn says(made: Result<Text, Memory>, want: &str) -> Result<bool, Memory> {
+    Ok(made?.is(want))
 }
 
-pub fn text(alloc: Global, text: &str) -> Result<Text, Memory> {
-    Text::from_str(alloc, text)
+/// The name of a kind of resource.
+pub fn kind(alloc: Global, name: &str) -> Result<Text, Memory> {
+    Text::from_str(alloc, name)
 }
 
-// A `message`, where there is one.
-fn message(alloc: Global, message: Option<&str>) -> Result<Attributes, Memory> {
-    let mut items = Vec::new(alloc);
-    if let Some(message) = message {
-        let name = text(alloc, "message")?;
-        let value = Value::Text(text(alloc, message)?);
-        items.push(Attribute { name, value })?;
+pub fn reference(alloc: Global, name: &str, title: &str) -> Result<Reference, Memory> {
+    let kind = kind(alloc, name)?;
+    let title = Text::from_str(alloc, title)?;
+    Ok(Reference { kind, title })
+}
+
+pub fn no_facts(alloc: Global) -> Value
+    ensures { IsTrue (are_facts (view result)) }
+{
+    Value::Hash(Pairs::new(alloc))
+}
+
+/// The site of this manifest, which lists these nodes, none of which has facts.
+pub fn site(alloc: Global, manifest: &str, nodes: &str) -> Result<Site, Memory> {
+    if manifest.len() > 1_000_000 {
+        return Err(Memory);
     }
-    Ok(Attributes::from_vec(items))
-}
-
-fn class_tags(alloc: Global) -> Result<Tags, Memory> {
-    let kind = text(alloc, "class")?;
-    let title = text(alloc, "main")?;
-    tags_of(alloc, &kind, &title, &Texts::new(alloc), &Tags::new(alloc))
-}
-
-/// `Class[main]`.
-pub fn main_class(alloc: Global) -> Result<Held, Memory> {
-    let kind = text(alloc, "class")?;
-    let title = text(alloc, "main")?;
-    let tags = class_tags(alloc)?;
-    let attributes = Attributes::new(alloc);
-    let inside = Indexes::new(alloc);
-    let item = Resource {
-        kind,
-        title,
-        attributes,
-        tags,
-    };
-    Ok(Held { item, inside })
-}
-
-/// A notify at the top of the main manifest.
-pub fn notify(alloc: Global, title: &str, said: Option<&str>) -> Result<Resource, Memory> {
-    let kind = text(alloc, "notify")?;
-    let title = text(alloc, title)?;
-    let container = class_tags(alloc)?;
-    let tags = tags_of(alloc, &kind, &title, &Texts::new(alloc), &container)?;
-    let attributes = message(alloc, said)?;
-    Ok(Resource {
-        kind,
-        title,
-        attributes,
-        tags,
-    })
+    let manifest = Text::from_str(alloc, manifest)?;
+    let mut site = Site::new(alloc, manifest);
+    for node in nodes.split_whitespace() {
+        let node = Text::from_str(alloc, node)?;
+        site.list(node, no_facts(alloc))?;
+    }
+    Ok(site)
 }

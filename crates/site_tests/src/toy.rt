@@ -1,6 +1,11 @@
 //! A small language of sites, for the tests of histories.
+ghost use Rattle.std.specs.Prelude.{IsTrue};
+ghost use Rattle.pp_values.specs.Views.{view};
+ghost use Rattle.site_core.specs.Facts.{are_facts};
+
 use export_store::version::Version;
 use pp_values::memory::Memory;
+use pp_values::pairs::Pairs;
 use pp_values::text::Text;
 use pp_values::value::Value;
 use res_core::export_set::ExportSet;
@@ -9,61 +14,78 @@ use site_core::compile_stop::CompileStop;
 use site_core::language::Language;
 use std::alloc::Global;
 
-/// A site is the name of a node that is refused. A catalog is what its node collected: how many resources node `a` exports,
-/// where it has a set. Each node exports an empty set, and facts mean nothing.
+/// Lists these facts for node `a`.
+#[derive(Drop)]
+pub struct ToySite {
+    pub facts: Value,
+    ghost shape: { IsTrue (are_facts (view facts)) },
+}
+
+/// The site that lists no facts but those of node `a`, which has none.
+pub fn toy_site(alloc: Global) -> ToySite {
+    ToySite {
+        facts: Value::Hash(Pairs::new(alloc)),
+    }
+}
+
+/// Node `bad` is refused. The catalog of another one is whether node `a` has an export set. Each node exports an empty set.
 pub struct Toy;
 
 impl Language for Toy {
-    type Site = Text;
+    type Site = ToySite;
 
-    type Catalog = Option<usize>;
+    type Catalog = bool;
 
     type Fault = Text;
 
-    ghost use Rattle.std.specs.Prelude.{◌≡◌, IfOk, IfSome, IsTrue, Ok, Err, None, [], length, codes, option_map, is_some, if◌then◌else◌};
+    ghost use Rattle.std.specs.Prelude.{◌≡◌, IfOk, IfSome, IsTrue, Ok, Err, None, Some, [], codes, option_map, is_some, if◌then◌else◌};
     ghost use Rattle.std.specs.FinMap as fin;
-    ghost use Rattle.std.specs.Str.{bytes_eq};
+    ghost use Rattle.std.specs.Cmp.Lexicographic.{pointwise};
+    ghost use Rattle.std.specs.Prelude.{nat_eq};
 
     ghost meaning = { λ site node facts sets.
-        if bytes_eq node site then Err node else Ok (option_map (λ s. length s.items) (fin.get sets (codes "a")), record { items = [] }) };
+        if pointwise nat_eq node (codes "bad") then Err node else Ok (is_some (fin.get sets (codes "a")), record { items = [] }) };
 
-    ghost listed = { λ site node. None };
+    ghost listed = { λ site node. if pointwise nat_eq node (codes "a") then Some (view site.facts) else None };
 
-    ghost site_form = { λ site. site };
+    ghost site_form = { λ site. [] };
 
-    ghost catalog_form = { λ catalog. if is_some catalog then codes "some" else codes "none" };
+    ghost catalog_form = { λ catalog. if catalog then codes "some" else codes "none" };
 
     ghost fault_form = { λ fault. fault };
 
     fn compile(
         &self,
         alloc: Global,
-        site: &Text,
+        _site: &ToySite,
         node: &Text,
         _facts: &Value,
         sets: &Version,
-    ) -> Result<(Option<usize>, ExportSet), CompileStop<Text>> {
-        if node == site {
+    ) -> Result<(bool, ExportSet), CompileStop<Text>> {
+        if node.is("bad") {
             return Err(CompileStop::Fault(node.copy(alloc)?));
         }
         let a = Text::from_str(alloc, "a")?;
-        let collected = sets.get(&a).map(|set| set.items.len());
         let exports = ExportSet {
             items: Exports::new(alloc),
         };
-        Ok((collected, exports))
+        Ok((sets.get(&a).is_some(), exports))
     }
 
-    fn facts_of<'a>(&self, _site: &'a Text, _node: &Text) -> Option<&'a Value> {
-        None
+    fn facts_of<'a>(&self, site: &'a ToySite, node: &Text) -> Option<&'a Value> {
+        if node.is("a") {
+            Some(&site.facts)
+        } else {
+            None
+        }
     }
 
-    fn site_text(&self, alloc: Global, site: &Text) -> Result<Text, Memory> {
-        site.copy(alloc)
+    fn site_text(&self, alloc: Global, _site: &ToySite) -> Result<Text, Memory> {
+        Text::from_str(alloc, "")
     }
 
-    fn catalog_text(&self, alloc: Global, catalog: &Option<usize>) -> Result<Text, Memory> {
-        Text::from_str(alloc, if catalog.is_some() { "some" } else { "none" })
+    fn catalog_text(&self, alloc: Global, catalog: &bool) -> Result<Text, Memory> {
+        Text::from_str(alloc, if *catalog { "some" } else { "none" })
     }
 
     fn fault_text(&self, alloc: Global, fault: &Text) -> Result<Text, Memory> {

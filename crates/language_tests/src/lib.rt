@@ -1,0 +1,27 @@
+//! The tests of what the crates of the language offer to callers: values and data types, tokens, and manifests with their trees.
+#![tactic(auto)]
+
+#[cfg(test)]
+mod comparing;
+#[cfg(test)]
+mod copies;
+#[cfg(test)]
+mod definitions;
+#[cfg(test)]
+mod forms;
+#[cfg(test)]
+mod hashes;
+#[cfg(test)]
+mod levels;
+#[cfg(test)]
+mod manifests;
+#[cfg(test)]
+mod reading;
+#[cfg(test)]
+mod samples;
+#[cfg(test)]
+mod tokens;
+#[cfg(test)]
+mod types;
+#[cfg(test)]
+mod values;

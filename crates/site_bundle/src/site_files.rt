@@ -1,0 +1,90 @@
+//! The manifests of a site, each with what was read of it.
+ghost use Rattle.std.specs.Prelude.{◌≡◌, ◌+◌, ◌^◌, ◌<◌, [], length, is_ok, if◌then◌else◌, IsTrue, IfOk, IfSome, option_map};
+ghost use Rattle.std.specs.FinMap.{find, put};
+ghost use Rattle.pp_parser.specs.Manifest.{file_of};
+ghost use Rattle.pp_values.specs.Rising.{text_cmp};
+ghost use Rattle.site_bundle.specs.Listing.{filed};
+ghost use Rattle.site_bundle.specs.SiteView.{are_rising};
+
+use pp_parser::manifest::parse;
+use pp_tree::file::File;
+use pp_values::fault::{Fault, Stop};
+use pp_values::memory::Memory;
+use pp_values::text::Text;
+use std::alloc::Global;
+use std::collections::BTreeMap;
+use std::marker::Model;
+
+/// A manifest: its text, and its tree or its first fault.
+#[derive(Drop)]
+pub struct SiteFile {
+    pub text: Text,
+    pub read: Result<File, Fault>,
+}
+
+/// Manifests by path in byte order, each read once. A contract sees their paths and texts.
+#[derive(Drop)]
+pub struct SiteFiles {
+    by_path: BTreeMap<Text, SiteFile>,
+}
+
+impl Model for SiteFiles {
+    ghost use Rattle.std.specs.Prelude.{List, IsTrue};
+    ghost use Rattle.site_bundle.specs.SiteView.{Filed, are_rising};
+    ghost use Rattle.site_bundle.specs.Listing.{filed, AreRead};
+
+    ghost Value = { List Filed };
+
+    ghost view = { λ s. filed s.by_path.entries };
+
+    ghost invariant = { λ s. IsTrue (are_rising (filed s.by_path.entries)) × AreRead s.by_path.entries };
+}
+
+impl SiteFiles {
+    pub fn new(alloc: Global) -> SiteFiles
+        ensures { result ≡ [] }
+    {
+        SiteFiles {
+            by_path: BTreeMap::new(alloc),
+        }
+    }
+
+    /// Reads a manifest, and puts it in place of what stood at its path. Where there is no memory, the files stay as they were.
+    pub fn read(&mut self, alloc: Global, path: Text, text: Text) -> Result<(), Memory>
+        // Places count lines in 32 bits.
+        requires { length text + 1 < 2 ^ 32 }
+        ensures { self.new ≡ (if is_ok result then put text_cmp path text self.old else self.old) }
+    {
+        let read = read_manifest(alloc, &path, &text)?;
+        drop(self.by_path.insert(path, SiteFile { text, read })?);
+        Ok(())
+    }
+
+    /// The manifest at this path.
+    pub fn get(&self, path: &Text) -> Option<&SiteFile>
+        ensures text { option_map (λ f. f.now.text) result ≡ find text_cmp path.now self.now }
+        ensures read { IfSome result (λ f. f.now.read ≡ file_of path.now f.now.text) }
+    {
+        self.by_path.get(path)
+    }
+
+    /// All manifests, by path in byte order.
+    pub fn as_map(&self) -> &BTreeMap<Text, SiteFile>
+        ensures files { filed result.now.entries ≡ self.now }
+        ensures rising { IsTrue (are_rising self.now) }
+    {
+        &self.by_path
+    }
+}
+
+/// The manifest's tree, or its first fault.
+fn read_manifest(alloc: Global, path: &Text, text: &Text) -> Result<Result<File, Fault>, Memory>
+    requires { length text.now + 1 < 2 ^ 32 }
+    ensures { IfOk result (λ read. read ≡ file_of path.now text.now) }
+{
+    match parse(alloc, path, text) {
+        Ok(file) => Ok(Ok(file)),
+        Err(Stop::Fault(fault)) => Ok(Err(fault)),
+        Err(Stop::Memory) => Err(Memory),
+    }
+}

@@ -1,0 +1,108 @@
+-- What each ending of a run means: what the words ask for, what was read, and what was written.
+use Rattle.std.specs.Prelude.{◌≡◌, ℕ, ◌⊎◌, List, [], ◌∷◌, ◌++◌, Option, None, Some, Result, Ok, Err, codes, length, nat_le, if◌then◌else◌}
+use Rattle.pp_values.specs.declared.fault.Fault.{Fault}
+use Rattle.res_core.specs.declared.catalog.Catalog.{Catalog}
+use Rattle.res_core.specs.Asked as requests
+use Rattle.site_core.specs.declared.history.TheConstants.{MOST_ENTRIES}
+use Rattle.site_core.specs.Events.{opens}
+use Rattle.site_bundle.specs.Bundles.{bundle_of}
+use Rattle.site_bundle.specs.declared.limits.TheConstants.{MOST_FILE_BYTES}
+use Rattle.site_bundle.specs.Refusals.{Refusal}
+use Rattle.site_bundle.specs.SiteView.{SiteView}
+use Rattle.site_bundle.specs.declared.bundle.Bundle.{Bundle}
+use Rattle.site_io.specs.Stream.{Stream, Rose}
+use Rattle.site_io.specs.Transfer.{HasReadAll, HasReadPast, HasReadSome, HasReadWithin}
+use Rattle.site_commands.specs.declared.ending.Ending.{Ending}
+use Rattle.site_commands.specs.declared.ending.Ending.TheVariants as e
+use Rattle.site_commands.specs.Outputs.{output_of, manifest_output, sequence_text}
+use Rattle.site_commands.specs.declared.output.Output.{Output}
+use Rattle.site_commands.specs.declared.output.Output.TheVariants as a
+use Rattle.site_commands.specs.Limits.{limit_of}
+use Rattle.site_commands.specs.Puppet.{puppet, listed}
+use Rattle.site_sequence.specs.Sequence.{Outcome, outcome_of}
+use Rattle.site_commands.specs.Words.{CommandLine, manifest, sequence, usage, bad_word, asked_of}
+use Rattle.site_commands.specs.Work.{Works, SaysOnly, too_long}
+use Rattle.site_commands.specs.World.{World, line}
+
+-- what the error stream gets where the words are faulty
+abbrev pub complaint : CommandLine → List ℕ
+complaint (manifest node) = []
+complaint sequence = []
+complaint usage = line (codes "usage: manifest NODE")
+complaint (bad_word word) = codes "bad word " ++ line word
+
+abbrev pub IsComplaint : CommandLine → Type 0
+IsComplaint (manifest node) = ⊥
+IsComplaint sequence = ⊥
+IsComplaint usage = Unit {0}
+IsComplaint (bad_word word) = Unit {0}
+
+abbrev pub IsCommand : CommandLine → Type 0
+IsCommand (manifest node) = Unit {0}
+IsCommand sequence = Unit {0}
+IsCommand usage = ⊥
+IsCommand (bad_word word) = ⊥
+
+-- the words name no command; nothing was read, and only the complaint was written
+pub record Complains (words : List (List ℕ)) (before after : World) : Type 0 where
+  pub unasked : IsComplaint (asked_of words)
+  pub source : after.source ≡ before.source
+  pub said : SaysOnly (complaint (asked_of words)) before.out after.out before.err after.err
+
+-- the words name a command, the input was read to its end, and the work on it ended so
+pub record HasWorked (ending : Ending) (words : List (List ℕ)) (before after : World) : Type 0 where
+  pub asked : IsCommand (asked_of words)
+  pub input : List ℕ
+  pub source : HasReadAll input (limit_of (asked_of words)) before.source after.source
+  pub work : Works ending (asked_of words) input before.out after.out before.err after.err
+
+-- the words name a command, reading stopped before the end of input, and only this line was written
+pub record HasStopped (text : List ℕ) (Read : Stream → Stream → Type 0) (words : List (List ℕ)) (before after : World) : Type 0 where
+  pub asked : IsCommand (asked_of words)
+  pub source : Read before.source after.source
+  pub said : SaysOnly (line text) before.out after.out before.err after.err
+
+abbrev pub HasFailedRead : ℕ → Stream → Stream → Type 0
+HasFailedRead limit before after = Rose before.faults after.faults × HasReadWithin limit before after
+
+abbrev pub Ends : Ending → List (List ℕ) → World → World → Type 0
+Ends e.Done words before after = HasWorked e.Done words before after
+Ends e.Refused words before after = HasWorked e.Refused words before after
+Ends e.WriteFault words before after = HasWorked e.WriteFault words before after
+Ends e.BadWords words before after = Complains words before after
+Ends e.BadInput words before after =
+    HasWorked e.BadInput words before after
+    ⊎ HasStopped (too_long (asked_of words)) (HasReadPast (limit_of (asked_of words))) words before after
+Ends e.ReadFault words before after = HasStopped (codes "read fault") (HasFailedRead (limit_of (asked_of words))) words before after
+Ends e.Memory words before after =
+    HasWorked e.Memory words before after ⊎ HasStopped (codes "memory") HasReadSome words before after
+
+-- the status of a run that writes this output
+abbrev pub output_status : Output → ℕ
+output_status (a.Done text) = 0
+output_status (a.Refused text) = 1
+output_status (a.Short text) = 16
+output_status (a.Fault text) = 1
+output_status (a.BadInput text) = 11
+
+-- there is an outcome, since a history has a site
+abbrev pub outcome_status : List requests.Asked → Option (Outcome SiteView Catalog Fault) → ℕ
+outcome_status asked (Some o) = output_status (output_of o.replies (sequence_text asked o.replies o.history))
+outcome_status asked None = 16
+
+abbrev pub bundle_status : Result Bundle Refusal → ℕ
+bundle_status (Ok bundle) = outcome_status bundle.requests (outcome_of puppet listed MOST_ENTRIES (opens bundle.site ∷ []) bundle.requests)
+bundle_status (Err refusal) = 11
+
+-- The status of a command on this input, where nothing fails and memory is had. For `manifest`: 0 where its meaning is a
+-- catalog, 1 where it is a fault, 11 where the input is too long or no text. For `sequence`: 0 where no request is refused,
+-- 1 where one is, 11 where the input is no bundle. 10 where the words are faulty.
+abbrev pub status_for : CommandLine → List ℕ → ℕ
+status_for (manifest node) input = if nat_le (length input) MOST_FILE_BYTES then output_status (manifest_output node input) else 11
+status_for sequence input = bundle_status (bundle_of input)
+status_for usage input = 10
+status_for (bad_word word) input = 10
+
+-- the input decides the status, unless reading failed, writing failed, or memory was wanting
+abbrev pub IsSettled : ℕ → CommandLine → List ℕ → Type 0
+IsSettled status asked input = (status ≡ status_for asked input) ⊎ ((status ≡ 12) ⊎ ((status ≡ 13) ⊎ (status ≡ 16)))

@@ -1,0 +1,10 @@
+pub mod Outputs
+pub mod Program
+pub mod Endings
+pub mod Limits
+pub mod Puppet
+pub mod Status
+pub mod Stops
+pub mod Words
+pub mod Work
+pub mod World

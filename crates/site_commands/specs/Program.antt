@@ -1,0 +1,35 @@
+-- What a run of the program means, from the words that the system hands to it to the status that it exits with.
+use Rattle.std.specs.Prelude.{◌≡◌, ◌⊎◌, ℕ, List, [], ◌∷◌, Result, Ok, Err, codes}
+use Rattle.std.specs.declared.alloc.Global.{Global}
+use Rattle.std.specs.declared.io.Error.{Error}
+use Rattle.std.specs.declared.string.String.{String}
+use Rattle.std.specs.declared.vec.Vec.{Vec}
+use Rattle.site_commands.specs.declared.ending.Ending.{Ending}
+use Rattle.site_commands.specs.Endings.{Ends}
+use Rattle.site_commands.specs.Status.{status_of}
+use Rattle.site_commands.specs.Words.{texts_of}
+use Rattle.site_commands.specs.Work.{SaysOnly}
+use Rattle.site_commands.specs.World.{World, line}
+
+-- a run on these words ended with this status
+pub record HasEnded (status : ℕ) (words : List (List ℕ)) (before after : World) : Type 0 where
+  pub ending : Ending
+  pub is : status ≡ status_of ending
+  pub ends : Ends ending words before after
+
+-- memory was wanting for the words: nothing was read, and only this was said
+pub record LacksMemory (status : ℕ) (before after : World) : Type 0 where
+  pub is : status ≡ 16
+  pub source : after.source ≡ before.source
+  pub said : SaysOnly (line (codes "memory")) before.out after.out before.err after.err
+
+-- all that stands behind the program's name
+abbrev pub without_name : {T : Type 0} → List T → List T
+without_name [] = []
+without_name (name ∷ words) = words
+
+-- The program ran on the words of its command line, without its name. Words that are no texts are those of no command; there may be
+-- no memory for them.
+abbrev pub HasRunOn : ℕ → Result (Vec (String Global) Global) Error → World → World → Type 0
+HasRunOn status (Ok line) before after = HasEnded status (texts_of (without_name line.items)) before after
+HasRunOn status (Err e) before after = HasEnded status [] before after ⊎ LacksMemory status before after

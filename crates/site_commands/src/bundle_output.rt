@@ -1,0 +1,156 @@
+//! The output to a bundle: the history that its requests made, and the replies.
+ghost use Rattle.std.specs.Prelude.{◌≡◌, ◌≤◌, ◌++◌, IfOk, OnOk, IsTrue, length, string_bytes};
+ghost use Rattle.std.specs.List.{list_any};
+ghost use Rattle.res_core.specs.RequestViews.{all_asked};
+ghost use Rattle.res_core.specs.AskedFacts.{give_facts};
+ghost use Rattle.site_bundle.specs.declared.limits.TheConstants.{MOST_REQUESTS};
+ghost use Rattle.site_bundle.specs.Bundles.{bundle_of};
+ghost use Rattle.site_commands.specs.Outputs.{HasRun, IsBundleOutput, is_refusal, output_of, sequence_text, reply_lines};
+ghost use Rattle.site_sequence.specs.SequenceLaws.{is_memory};
+ghost use Rattle.site_commands.specs.Stops.{TellsStop};
+
+use crate::output::Output;
+use crate::lines::line;
+use site_sequence::replies::Replies;
+use site_sequence::sequence::{SequenceResult, run_sequence};
+use compile_core::language::PuppetLanguage;
+use pp_values::memory::Memory;
+use pp_values::text::Text;
+use res_core::request::Request;
+use res_core::requests::Requests;
+use site_bundle::bundle::Bundle;
+use site_bundle::bundle_stop::BundleStop;
+use site_bundle::reading::read_bundle;
+use site_bundle::stop_lines::stop_text;
+use site_core::language::Language;
+use site_core::reply::{Reply, ReplyOf};
+use site_docs::journals::write_journal;
+use site_docs::replies::write_reply;
+use std::alloc::Global;
+
+/// The output to a bundle of these bytes.
+pub fn bundle_output(alloc: Global, input: &[u8]) -> Result<Output, Memory>
+    ensures { IfOk result (λ output. IsBundleOutput output (bundle_of input.now)) }
+{
+    match read_bundle(alloc, input) {
+        Ok(bundle) => run_bundle(alloc, bundle),
+        Err(stop) => refuse_bundle(alloc, &stop),
+    }
+}
+
+fn refuse_bundle(alloc: Global, stop: &BundleStop) -> Result<Output, Memory>
+    ensures { IfOk result (λ output. TellsStop output stop.now) }
+{
+    match stop {
+        BundleStop::Memory => Err(Memory),
+        _ => Ok(Output::BadInput(line(stop_text(alloc, stop)?)?)),
+    }
+}
+
+fn run_bundle(alloc: Global, bundle: Bundle) -> Result<Output, Memory>
+    requires facts { IsTrue (give_facts bundle.requests) }
+    requires few { length bundle.requests ≤ MOST_REQUESTS }
+    ensures { IfOk result (λ output. HasRun output bundle) }
+{
+    let Bundle { site, requests } = bundle;
+    let came = run_sequence(alloc, &PuppetLanguage, site, &requests)?;
+    let text = sequence_text(alloc, &requests, &came)?;
+    Ok(output_of(&came.replies, text))
+}
+
+/// The journal, and then the lines of the replies.
+fn sequence_text(
+    alloc: Global,
+    requests: &Requests,
+    made: &SequenceResult<PuppetLanguage>,
+) -> Result<Text, Memory>
+    requires { length requests.now ≤ MOST_REQUESTS }
+    ensures { IfOk result (λ text. text ≡ sequence_text requests.now made.now.replies made.now.history.entries) }
+{
+    let mut out = write_journal(alloc, &made.history)?.into_string();
+    write_replies(
+        alloc,
+        &mut out,
+        requests.as_slice(),
+        made.replies.as_slice(),
+    )?;
+    Ok(Text::new(out))
+}
+
+#[tactic(auto, unfolding(crate::specs::Output::reply_lines))]
+fn write_replies(
+    alloc: Global,
+    out: &mut String,
+    requests: &[Request],
+    replies: &[Reply<PuppetLanguage>],
+) -> Result<(), Memory>
+    requires { length requests.now ≤ MOST_REQUESTS }
+    ensures { OnOk result (string_bytes out.new ≡ string_bytes out.old ++ reply_lines 0 (all_asked requests.now) replies.now) }
+{
+    let mut number: u32 = 0;
+    let mut asked = requests;
+    let mut left = replies;
+    while let [request, others @ ..] = asked {
+        let [reply, after @ ..] = left else {
+            break;
+        };
+        let line = write_reply(alloc, &PuppetLanguage, number, request, reply)?;
+        out.push_str(line.as_str())?;
+        number += 1;
+        asked = others;
+        left = after;
+    }
+    Ok(())
+}
+
+/// The output, by what its replies tell of.
+fn output_of<L: Language>(replies: &Replies<L>, text: Text) -> Output
+    ensures { result ≡ output_of replies.now text }
+{
+    if want_memory(replies.as_slice()) {
+        return Output::Short(text);
+    }
+    if tell_of_refusal(replies.as_slice()) {
+        return Output::Refused(text);
+    }
+    Output::Done(text)
+}
+
+fn want_memory<C, F>(replies: &[ReplyOf<C, F>]) -> bool
+    ensures { result ≡ list_any is_memory replies.now }
+{
+    replies.iter().any(is_memory)
+}
+
+fn tell_of_refusal<C, F>(replies: &[ReplyOf<C, F>]) -> bool
+    ensures { result ≡ list_any is_refusal replies.now }
+{
+    replies.iter().any(is_refusal)
+}
+
+fn is_memory<C, F>(reply: &ReplyOf<C, F>) -> bool
+    ensures { result ≡ is_memory reply.now }
+{
+    match reply {
+        ReplyOf::Memory => true,
+        ReplyOf::Served { .. }
+        | ReplyOf::Refused { .. }
+        | ReplyOf::HistoryFull { .. }
+        | ReplyOf::SeenAhead { .. }
+        | ReplyOf::UnknownNode { .. }
+        | ReplyOf::Deactivated { .. } => false,
+    }
+}
+
+/// Whether what was asked for can't be had.
+fn is_refusal<C, F>(reply: &ReplyOf<C, F>) -> bool
+    ensures { result ≡ is_refusal reply.now }
+{
+    match reply {
+        ReplyOf::Refused { .. }
+        | ReplyOf::HistoryFull { .. }
+        | ReplyOf::SeenAhead { .. }
+        | ReplyOf::UnknownNode { .. } => true,
+        ReplyOf::Served { .. } | ReplyOf::Deactivated { .. } | ReplyOf::Memory => false,
+    }
+}

@@ -1,0 +1,18 @@
+//! The commands of the site's program: words and streams in, a status out.
+#![tactic(auto)]
+
+pub mod bundle_output;
+pub mod ending;
+mod lines;
+pub mod manifest_output;
+pub mod output;
+pub mod program;
+mod say;
+pub mod site;
+pub mod stack;
+pub mod words;
+
+pub use ending::Ending;
+pub use program::run_program;
+pub use site::site_main;
+pub use stack::on_large_stack;

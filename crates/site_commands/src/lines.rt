@@ -1,0 +1,14 @@
+ghost use Rattle.std.specs.Prelude.{◌≡◌, IfOk};
+ghost use Rattle.site_commands.specs.World.{line};
+
+use pp_values::memory::Memory;
+use pp_values::text::Text;
+
+/// The text with a line feed at its end.
+pub fn line(text: Text) -> Result<Text, Memory>
+    ensures { IfOk result (λ ended. ended ≡ line text) }
+{
+    let mut string = text.into_string();
+    string.push('\n')?;
+    Ok(Text::new(string))
+}

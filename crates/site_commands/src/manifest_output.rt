@@ -1,0 +1,77 @@
+//! The output to a manifest: the node's catalog, or its fault.
+ghost use Rattle.std.specs.Prelude.{◌≡◌, ◌≤◌, IfOk, length};
+ghost use Rattle.site_core.specs.Meaning.{Answers};
+ghost use Rattle.site_docs.specs.CatalogText.{catalog_text};
+ghost use Rattle.site_docs.specs.FaultText.{fault_text};
+ghost use Rattle.site_commands.specs.Outputs.{output_meant, manifest_output};
+ghost use Rattle.site_bundle.specs.declared.limits.TheConstants.{MOST_FILE_BYTES};
+ghost use Rattle.site_commands.specs.Puppet.{manifest_meaning};
+ghost use Rattle.site_commands.specs.World.{line};
+
+use crate::output::Output;
+use crate::lines::line;
+use compile_core::language::PuppetLanguage;
+use export_store::version::Version;
+use pp_values::fault::Fault;
+use pp_values::memory::Memory;
+use pp_values::pairs::Pairs;
+use pp_values::text::Text;
+use pp_values::value::Value;
+use res_core::catalog::Catalog;
+use res_core::export_set::ExportSet;
+use site_bundle::site::Site;
+use site_core::compile_stop::CompileStop;
+use site_core::language::Language;
+use site_docs::catalog_texts::catalog_text;
+use site_docs::fault_texts::fault_text;
+use site_io::Bytes;
+use std::alloc::Global;
+
+/// The output for a node under a manifest of these bytes.
+pub fn manifest_output(alloc: Global, node: &str, input: Bytes) -> Result<Output, Memory>
+    requires { length input ≤ MOST_FILE_BYTES }
+    ensures { IfOk result (λ output. output ≡ manifest_output node.now input) }
+{
+    match String::from_utf8(input.into_vec()) {
+        Ok(manifest) => output_of_text(alloc, node, Text::new(manifest)),
+        Err(_) => Ok(Output::BadInput(Text::from_str(alloc, "B2 manifests/site.pp\n")?)),
+    }
+}
+
+fn output_of_text(alloc: Global, node: &str, manifest: Text) -> Result<Output, Memory>
+    requires { length manifest ≤ MOST_FILE_BYTES }
+    ensures { IfOk result (λ output. output ≡ output_meant (manifest_meaning node.now manifest)) }
+{
+    match compile_alone(alloc, node, manifest) {
+        Ok((catalog, _)) => Ok(Output::Done(catalog_line(alloc, &catalog)?)),
+        Err(CompileStop::Fault(fault)) => Ok(Output::Fault(fault_line(alloc, &fault)?)),
+        Err(CompileStop::Memory) => Err(Memory),
+    }
+}
+
+/// The node's catalog, with empty facts, where no node exports anything.
+fn compile_alone(
+    alloc: Global,
+    node: &str,
+    manifest: Text,
+) -> Result<(Catalog, ExportSet), CompileStop<Fault>>
+    requires { length manifest ≤ MOST_FILE_BYTES }
+    ensures { Answers result (manifest_meaning node.now manifest) }
+{
+    let node = Text::from_str(alloc, node)?;
+    let site = Site::new(alloc, manifest);
+    let facts = Value::Hash(Pairs::new(alloc));
+    PuppetLanguage.compile(alloc, &site, &node, &facts, &Version::empty(alloc))
+}
+
+fn catalog_line(alloc: Global, catalog: &Catalog) -> Result<Text, Memory>
+    ensures { IfOk result (λ text. text ≡ line (catalog_text catalog.now)) }
+{
+    line(catalog_text(alloc, catalog)?)
+}
+
+fn fault_line(alloc: Global, fault: &Fault) -> Result<Text, Memory>
+    ensures { IfOk result (λ text. text ≡ line (fault_text fault.now)) }
+{
+    line(fault_text(alloc, fault)?)
+}

@@ -1,0 +1,20 @@
+use pp_values::text::Text;
+
+/// What an input gives, as the text that is to be written.
+#[derive(Drop)]
+pub enum Output {
+    /// The output.
+    Done(Text),
+
+    /// The output, which tells of a refusal.
+    Refused(Text),
+
+    /// The output, which tells of a want of memory.
+    Short(Text),
+
+    /// There is no output but this line of a fault.
+    Fault(Text),
+
+    /// The input is not what the command reads, as this line tells.
+    BadInput(Text),
+}

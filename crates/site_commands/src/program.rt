@@ -1,0 +1,53 @@
+//! A run of the program, from what the system hands to it to the code that it exits with.
+ghost use Rattle.std.specs.Prelude.{◌≡◌, codes};
+ghost use Rattle.std.specs.Process.{exit_status};
+ghost use Rattle.site_commands.specs.Program.{without_name, HasRunOn};
+ghost use Rattle.site_commands.specs.World.{world, line, Says};
+
+use crate::ending::Ending;
+use crate::site::{refuse, site_main};
+use site_io::{Sink, Source};
+use std::alloc::Global;
+use std::io;
+use std::io::ErrorKind;
+use std::process::ExitCode;
+
+/// Runs the program on its command line, whose first word is the program's name, and gives the code to exit with.
+///
+/// A word that is no text makes them faulty words.
+pub fn run_program<S: Source, K: Sink, E: Sink>(
+    alloc: Global,
+    line: io::Result<Vec<String>>,
+    source: &mut S,
+    out: &mut K,
+    err: &mut E,
+) -> ExitCode
+    ensures { HasRunOn (exit_status result) line
+        (world (S.stream source.old) (K.stream out.old) (E.stream err.old))
+        (world (S.stream source.new) (K.stream out.new) (E.stream err.new)) }
+{
+    let status = match line {
+        Ok(line) => site_main(alloc, without_name(line.as_slice()), source, out, err),
+        Err(error) if error.kind() == ErrorKind::OutOfMemory => lack_memory(err),
+        Err(_) => site_main(alloc, &[], source, out, err),
+    };
+    ExitCode::from(status)
+}
+
+/// The words behind the program's name, all of them.
+fn without_name(line: &[String]) -> &[String]
+    ensures { result.now ≡ without_name line.now }
+{
+    match line {
+        [] => &[],
+        [_, words @ ..] => words,
+    }
+}
+
+/// Says that memory is wanting, and gives that status.
+fn lack_memory<E: Sink>(err: &mut E) -> u8
+    ensures ending { result ≡ 16 }
+    ensures said { Says (line (codes "memory")) (E.stream err.old) (E.stream err.new) }
+{
+    refuse(err, Ending::Memory, "memory\n").status()
+}

@@ -1,0 +1,217 @@
+ghost use Rattle.std.specs.Prelude.{◌≡◌, ◌↔◌, ◌⊎◌, ◌≤◌, List, ℕ, IfOk, length, Some};
+ghost use Rattle.site_commands.specs.Words.{asked_of, asked_by, texts_of};
+ghost use Rattle.site_io.specs.Stream.{Rose};
+ghost use Rattle.site_commands.specs.World.{world, line, Says};
+ghost use Rattle.site_commands.specs.Status.{IsStatus};
+ghost use Rattle.site_commands.specs.Outputs.{IsOutput};
+ghost use Rattle.site_commands.specs.Work.{Works, Delivers, GivesUp, too_long};
+ghost use Rattle.site_commands.specs.Limits.{limit_of};
+ghost use Rattle.site_commands.specs.Program.{HasEnded};
+ghost use Rattle.site_commands.specs.Endings.{Ends, IsComplaint, IsSettled};
+
+use crate::output::Output;
+use crate::bundle_output::bundle_output;
+use crate::ending::Ending;
+use crate::manifest_output::manifest_output;
+use crate::say::{say, say_word};
+use crate::words::{Command, Complaint, read_words};
+use pp_values::memory::Memory;
+use site_bundle::limits::{MOST_BUNDLE_BYTES, MOST_FILE_BYTES};
+use site_io::{Bytes, ReadStop, Sink, Source, read_all, write_all};
+use std::alloc::Global;
+
+/// Runs the program on its words, which come without the program's name, and gives the exit status.
+///
+/// | Status | When | Error line |
+/// |-|-|-|
+/// | 0 | the catalog was written, or journal and replies were, none of which is a refusal | none |
+/// | 1 | the manifest has no catalog | its fault |
+/// | 1 | journal and replies were written, one of which is a refusal | none |
+/// | 10 | the words are faulty | `usage: manifest NODE` or `bad word WORD` |
+/// | 11 | the manifest is longer than 4 MiB, or no text in UTF-8 | `B3 manifests/site.pp`, `B2 manifests/site.pp` |
+/// | 11 | the input of `sequence` is no bundle | `B1`, `B2 PATH` or `B3 PATH` |
+/// | 12 | the input could not be read | `read fault` |
+/// | 13 | the output, or the line of a fault, could not be written | none, or a front of the fault's line |
+/// | 16 | want of memory, in the program or in a reply that was written | `memory` |
+///
+/// The first that is met decides, in the order: words (10), input (12, 11), work, output (0, 1 or 13).
+/// An error line of statuses 10, 11, 12 and 16 that can't be written changes no status.
+pub fn site_main<S: Source, K: Sink, E: Sink>(
+    alloc: Global,
+    words: &[String],
+    source: &mut S,
+    out: &mut K,
+    err: &mut E,
+) -> u8
+    // What each status means: what was asked, what was read, and what was written.
+    ensures done { result ≡ 0 → Ends Ending.Done (texts_of words.now)
+        (world (S.stream source.old) (K.stream out.old) (E.stream err.old))
+        (world (S.stream source.new) (K.stream out.new) (E.stream err.new)) }
+    ensures refused { result ≡ 1 → Ends Ending.Refused (texts_of words.now)
+        (world (S.stream source.old) (K.stream out.old) (E.stream err.old))
+        (world (S.stream source.new) (K.stream out.new) (E.stream err.new)) }
+    ensures complaint { result ≡ 10 → Ends Ending.BadWords (texts_of words.now)
+        (world (S.stream source.old) (K.stream out.old) (E.stream err.old))
+        (world (S.stream source.new) (K.stream out.new) (E.stream err.new)) }
+    ensures input { result ≡ 11 → Ends Ending.BadInput (texts_of words.now)
+        (world (S.stream source.old) (K.stream out.old) (E.stream err.old))
+        (world (S.stream source.new) (K.stream out.new) (E.stream err.new)) }
+    ensures read_fault { result ≡ 12 → Ends Ending.ReadFault (texts_of words.now)
+        (world (S.stream source.old) (K.stream out.old) (E.stream err.old))
+        (world (S.stream source.new) (K.stream out.new) (E.stream err.new)) }
+    ensures write_fault { result ≡ 13 → Ends Ending.WriteFault (texts_of words.now)
+        (world (S.stream source.old) (K.stream out.old) (E.stream err.old))
+        (world (S.stream source.new) (K.stream out.new) (E.stream err.new)) }
+    ensures memory { result ≡ 16 → Ends Ending.Memory (texts_of words.now)
+        (world (S.stream source.old) (K.stream out.old) (E.stream err.old))
+        (world (S.stream source.new) (K.stream out.new) (E.stream err.new)) }
+
+    // Faulty words are told exactly, and where the source tells its input, so is every other status.
+    ensures words { (result ≡ 10) ↔ IsComplaint (asked_of (texts_of words.now)) }
+    ensures settled { (input : List ℕ) → (S.stream source.old).left ≡ Some input → IsSettled result (asked_of (texts_of words.now)) input }
+    ensures statuses { IsStatus result }
+    ensures ended { HasEnded result (texts_of words.now)
+        (world (S.stream source.old) (K.stream out.old) (E.stream err.old))
+        (world (S.stream source.new) (K.stream out.new) (E.stream err.new)) }
+
+    // Faults of the outside are answered only where its counts rose.
+    ensures source_rose { result ≡ 12 → Rose (S.stream source.old).faults (S.stream source.new).faults }
+    ensures sink_rose { result ≡ 13 → Rose (K.stream out.old).faults (K.stream out.new).faults
+        ⊎ Rose (E.stream err.old).faults (E.stream err.new).faults }
+{
+    run(alloc, words, source, out, err).status()
+}
+
+fn run<S: Source, K: Sink, E: Sink>(
+    alloc: Global,
+    words: &[String],
+    source: &mut S,
+    out: &mut K,
+    err: &mut E,
+) -> Ending
+    ensures { Ends result (texts_of words.now)
+        (world (S.stream source.old) (K.stream out.old) (E.stream err.old))
+        (world (S.stream source.new) (K.stream out.new) (E.stream err.new)) }
+{
+    match read_words(words) {
+        Ok(command) => run_command(alloc, command, source, out, err),
+        Err(Complaint::Usage) => {
+            say(err, "usage: manifest NODE\n");
+            Ending::BadWords
+        }
+        Err(Complaint::BadWord(word)) => {
+            say_word(err, "bad word ", word);
+            Ending::BadWords
+        }
+    }
+}
+
+fn run_command<S: Source, K: Sink, E: Sink>(
+    alloc: Global,
+    command: Command<'_>,
+    source: &mut S,
+    out: &mut K,
+    err: &mut E,
+) -> Ending
+    ensures { (words : List (List ℕ)) → asked_of words ≡ asked_by command.entry → Ends result words
+        (world (S.stream source.old) (K.stream out.old) (E.stream err.old))
+        (world (S.stream source.new) (K.stream out.new) (E.stream err.new)) }
+{
+    match read_all(alloc, source, limit_of(command)) {
+        Ok(input) => work(alloc, command, input, out, err),
+        Err(stop) => give_up(command, stop, err),
+    }
+}
+
+/// The most bytes that a command reads.
+fn limit_of(command: Command<'_>) -> usize
+    ensures { result ≡ limit_of (asked_by command.entry) }
+{
+    match command {
+        Command::Manifest { .. } => MOST_FILE_BYTES,
+        Command::Sequence => MOST_BUNDLE_BYTES,
+    }
+}
+
+/// Does the work on the input that was read, and writes what comes of it.
+fn work<K: Sink, E: Sink>(
+    alloc: Global,
+    command: Command<'_>,
+    input: Bytes,
+    out: &mut K,
+    err: &mut E,
+) -> Ending
+    requires { length input ≤ limit_of (asked_by command) }
+    ensures { Works result (asked_by command.entry) input (K.stream out.old) (K.stream out.new) (E.stream err.old) (E.stream err.new) }
+{
+    match output_for(alloc, command, input) {
+        Ok(output) => deliver(&output, out, err),
+        Err(_) => refuse(err, Ending::Memory, "memory\n"),
+    }
+}
+
+/// The output to a command by this input.
+fn output_for(alloc: Global, command: Command<'_>, input: Bytes) -> Result<Output, Memory>
+    requires { length input ≤ limit_of (asked_by command) }
+    ensures { IfOk result (λ output. IsOutput (asked_by command.entry) output input) }
+{
+    match command {
+        Command::Manifest { node } => manifest_output(alloc, node, input),
+        Command::Sequence => bundle_output(alloc, input.as_slice()),
+    }
+}
+
+/// Says why the input was not read.
+fn give_up<E: Sink>(command: Command<'_>, stop: ReadStop, err: &mut E) -> Ending
+    ensures { GivesUp (asked_by command.entry) stop result (E.stream err.old) (E.stream err.new) }
+{
+    match stop {
+        ReadStop::Fault => refuse(err, Ending::ReadFault, "read fault\n"),
+        ReadStop::TooLong => refuse_long(command, err),
+        ReadStop::Memory => refuse(err, Ending::Memory, "memory\n"),
+    }
+}
+
+fn refuse_long<E: Sink>(command: Command<'_>, err: &mut E) -> Ending
+    ensures ending { result ≡ Ending.BadInput }
+    ensures line { Says (line (too_long (asked_by command.entry))) (E.stream err.old) (E.stream err.new) }
+{
+    match command {
+        Command::Manifest { .. } => refuse(err, Ending::BadInput, "B3 manifests/site.pp\n"),
+        Command::Sequence => refuse(err, Ending::BadInput, "B3 bundle\n"),
+    }
+}
+
+/// Says why the run ends so, as far as the error stream takes it.
+pub fn refuse<E: Sink>(err: &mut E, ending: Ending, line: &str) -> Ending
+    ensures ending { result ≡ ending }
+    ensures line { Says line.now (E.stream err.old) (E.stream err.new) }
+{
+    say(err, line);
+    ending
+}
+
+/// Writes the output.
+fn deliver<K: Sink, E: Sink>(output: &Output, out: &mut K, err: &mut E) -> Ending
+    ensures { Delivers result output.now (K.stream out.old) (K.stream out.new) (E.stream err.old) (E.stream err.new) }
+{
+    match output {
+        Output::Done(text) => match write_all(out, text.as_str().as_bytes()) {
+            Ok(()) => Ending::Done,
+            Err(_) => Ending::WriteFault,
+        },
+        Output::Refused(text) => match write_all(out, text.as_str().as_bytes()) {
+            Ok(()) => Ending::Refused,
+            Err(_) => Ending::WriteFault,
+        },
+        Output::Short(text) => match write_all(out, text.as_str().as_bytes()) {
+            Ok(()) => refuse(err, Ending::Memory, "memory\n"),
+            Err(_) => Ending::WriteFault,
+        },
+        Output::Fault(line) => match write_all(err, line.as_str().as_bytes()) {
+            Ok(()) => Ending::Refused,
+            Err(_) => Ending::WriteFault,
+        },
+        Output::BadInput(line) => refuse(err, Ending::BadInput, line.as_str()),
+    }
+}

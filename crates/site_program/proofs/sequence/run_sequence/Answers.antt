@@ -1,7 +1,0 @@
-use Rattle.site_program.proofs.Runs.{has_run_all}
-use Rattle.site_program.proofs.sequence.run_sequence.Goals as goal
-
-pub returns-clause-runs : goal.returns-clause-runs
-returns-clause-runs g c =
-    has_run_all g.L.Language.meaning g.L.Language.listed _ _ _ c.loop-left.replies _ _ _ c.in_default.len_below c.loop-left.invariant.0
-    c.into_history.ensures.history

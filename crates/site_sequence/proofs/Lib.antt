@@ -1,0 +1,3 @@
+mod GoingOn
+mod TurnExamples
+pub mod Turns

@@ -1,0 +1,3 @@
+pub mod Attempts
+pub mod Sequence
+pub mod SequenceLaws

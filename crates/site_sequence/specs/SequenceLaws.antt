@@ -1,0 +1,76 @@
+-- What holds of requests that are answered in turn.
+use Rattle.std.specs.Prelude.{◌≡◌, ℕ, ◌+◌, Bool, true, false, ◌==◌, ◌&&◌, IsTrue, List, [], ◌∷◌, length, Option, None, Some}
+use Rattle.std.specs.List.{list_any, filter_map}
+use Rattle.pp_values.specs.Datum.{Datum}
+use Rattle.res_core.specs.Asked.{Asked}
+use Rattle.site_core.specs.Meaning.{Meaning}
+use Rattle.site_core.specs.Events.{Event, opens, publishes, deactivates}
+use Rattle.site_core.specs.declared.reply.ReplyOf.{ReplyOf}
+use Rattle.site_core.specs.declared.reply.ReplyOf.TheVariants as a
+use Rattle.site_sequence.specs.Sequence.{AnsweredInTurn, Outcome, outcome_of}
+
+module _ {C F : Type 0} where
+  abbrev pub is_memory : ReplyOf C F → Bool
+  is_memory (a.Served entry k catalog) = false
+  is_memory (a.Refused k fault) = false
+  is_memory (a.HistoryFull length) = false
+  is_memory (a.SeenAhead length) = false
+  is_memory (a.UnknownNode k) = false
+  is_memory (a.Deactivated entry) = false
+  is_memory a.Memory = true
+
+  -- the number of the entry that the reply names
+  abbrev pub named_entry : ReplyOf C F → Option ℕ
+  named_entry (a.Served entry k catalog) = Some entry
+  named_entry (a.Refused k fault) = None
+  named_entry (a.HistoryFull length) = None
+  named_entry (a.SeenAhead length) = None
+  named_entry (a.UnknownNode k) = None
+  named_entry (a.Deactivated entry) = Some entry
+  named_entry a.Memory = None
+
+-- the numbers from n up to, and without, m
+abbrev pub CountUp : ℕ → ℕ → List ℕ → Type 0
+CountUp n m [] = n ≡ m
+CountUp n m (x ∷ xs) = (x ≡ n) × CountUp (n + 1) m xs
+
+module _ {S : Type 0} where
+  -- it was made from as many entries as this
+  abbrev pub is_made_from : ℕ → Event S → Bool
+  is_made_from n (opens site) = true
+  is_made_from n (publishes p) = p.k == n
+  is_made_from n (deactivates d) = true
+
+  -- each publication was made from all entries before it, where the first entry has the number n
+  abbrev pub are_made_in_turn : ℕ → List (Event S) → Bool
+  are_made_in_turn n [] = true
+  are_made_in_turn n (e ∷ es) = is_made_from n e && are_made_in_turn (n + 1) es
+
+module _ {S C F : Type 0} (meaning : Meaning S C F) (listed : S → List ℕ → Option Datum) (limit : ℕ) where
+  -- where no reply is want of memory, replies and history are the ones that the requests mean
+  abbrev pub AnswersAreMeant : Type 0
+  AnswersAreMeant =
+      (h after : List (Event S)) (requests : List Asked) (replies : List (ReplyOf C F)) →
+      AnsweredInTurn meaning listed limit h requests replies after → list_any is_memory replies ≡ false →
+      outcome_of meaning listed limit h requests ≡ Some (record { replies = replies; history = after })
+
+  -- the other way around
+  abbrev pub MeantIsAnswered : Type 0
+  MeantIsAnswered =
+      (h : List (Event S)) (requests : List Asked) (o : Outcome S C F) →
+      outcome_of meaning listed limit h requests ≡ Some o →
+      AnsweredInTurn meaning listed limit h requests o.replies o.history × (list_any is_memory o.replies ≡ false)
+
+  -- the replies name the entries that came, in order, each one once
+  abbrev pub RepliesNameEntries : Type 0
+  RepliesNameEntries =
+      (h after : List (Event S)) (requests : List Asked) (replies : List (ReplyOf C F)) →
+      AnsweredInTurn meaning listed limit h requests replies after →
+      CountUp (length h) (length after) (filter_map named_entry replies)
+
+  -- in a history whose publications were made in turn, those that come are so too
+  abbrev pub PublicationsAreInTurn : Type 0
+  PublicationsAreInTurn =
+      (h after : List (Event S)) (requests : List Asked) (replies : List (ReplyOf C F)) →
+      AnsweredInTurn meaning listed limit h requests replies after →
+      IsTrue (are_made_in_turn 0 h) → IsTrue (are_made_in_turn 0 after)

@@ -1,0 +1,9 @@
+//! Requests to a site that are answered one after another, over any language.
+#![tactic(auto)]
+
+pub mod laws;
+pub mod replies;
+pub mod sequence;
+
+pub use replies::Replies;
+pub use sequence::{SequenceResult, run_sequence};

@@ -12,9 +12,9 @@ mod exported;
 #[cfg(test)]
 mod history;
 #[cfg(test)]
-mod journals;
-#[cfg(test)]
 mod jobs;
+#[cfg(test)]
+mod journals;
 #[cfg(test)]
 mod json;
 #[cfg(test)]

@@ -68,7 +68,7 @@ pub fn run_sequence<L: Language>(
 }
 
 /// Answers a request.
-fn answer<L: Language>(
+pub fn answer<L: Language>(
     alloc: Global,
     language: &L,
     core: &mut CoreState<L>,

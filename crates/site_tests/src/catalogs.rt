@@ -21,7 +21,7 @@ use std::alloc::Global;
 use std::test::Fail;
 
 fn tags(alloc: Global, name: &str, title: &str, container: &Tags) -> Result<Tags, Memory> {
-    let kind = kind(alloc, name)?;
+    let kind = Text::from_str(alloc, name)?;
     let title = Text::from_str(alloc, title)?;
     tags_of(alloc, &kind, &title, &Texts::new(alloc), container)
 }

@@ -1,17 +1,13 @@
-use crate::puppet::{made, made_alone};
-use crate::samples::{kind, says, site};
-use compile_core::compiling::compile;
+use crate::puppet::made_alone;
+use crate::samples::says;
 use compile_core::language::PuppetLanguage;
-use export_store::version::Version;
-use pp_values::fault::{Fault, Stop};
+use pp_values::fault::Fault;
 use pp_values::memory::Memory;
 use pp_values::text::Text;
 use res_core::catalog::Catalog;
 use res_core::export_set::ExportSet;
 use site_core::compile_stop::CompileStop;
 use site_core::language::Language;
-use site_docs::catalog_texts::catalog_text;
-use site_docs::fault_texts::fault_text;
 use std::alloc::Global;
 use std::test::Fail;
 

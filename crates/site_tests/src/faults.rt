@@ -117,7 +117,7 @@ fn fault(alloc: Global, sort: Sort, number: u32, detail: &str) -> Result<Fault, 
     let file = Text::from_str(alloc, "m.pp")?;
     let what = what(alloc, sort, number, detail)?;
     let at = Place { file, line: 7 };
-    Ok(Fault { at, what })
+    Fault::new(alloc, at, what)
 }
 
 fn tells_as(

@@ -10,7 +10,7 @@ use pp_values::text::Text;
 use site_core::compile_stop::CompileStop;
 use site_core::done_stop::DoneStop;
 use site_core::language::Language;
-use site_core::reply::{Answer, Reply};
+use site_core::reply::{Reply, ReplyOf};
 use site_core::snapshot::Snapshot;
 use site_core::state::CoreState;
 use std::alloc::Global;
@@ -50,15 +50,15 @@ fn finish<L: Language>(
     let k = snapshot.k;
     match language.compile(alloc, &snapshot.site, &node, &facts, &snapshot.version) {
         Ok((catalog, set)) => match core.done(alloc, author, node, facts, snapshot, set) {
-            Ok(entry) => Ok(Answer::Served { entry, k, catalog }),
-            Err(DoneStop::Full(length)) => Ok(Answer::HistoryFull { length }),
-            Err(DoneStop::Memory) => Ok(Answer::Memory),
+            Ok(entry) => Ok(ReplyOf::Served { entry, k, catalog }),
+            Err(DoneStop::Full(length)) => Ok(ReplyOf::HistoryFull { length }),
+            Err(DoneStop::Memory) => Ok(ReplyOf::Memory),
         },
         Err(CompileStop::Fault(fault)) => {
             core.drop_call(snapshot);
-            Ok(Answer::Refused { k, fault })
+            Ok(ReplyOf::Refused { k, fault })
         }
-        Err(CompileStop::Memory) => Ok(Answer::Memory),
+        Err(CompileStop::Memory) => Ok(ReplyOf::Memory),
     }
 }
 
@@ -70,9 +70,9 @@ fn remove(
 ) -> Result<Reply<Toy>, Memory> {
     let node = Text::from_str(alloc, node)?;
     Ok(match core.deactivate(alloc, author, node) {
-        Ok(entry) => Answer::Deactivated { entry },
-        Err(DoneStop::Full(length)) => Answer::HistoryFull { length },
-        Err(DoneStop::Memory) => Answer::Memory,
+        Ok(entry) => ReplyOf::Deactivated { entry },
+        Err(DoneStop::Full(length)) => ReplyOf::HistoryFull { length },
+        Err(DoneStop::Memory) => ReplyOf::Memory,
     })
 }
 

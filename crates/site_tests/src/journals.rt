@@ -6,7 +6,7 @@ use crate::puppet::exports;
 use crate::samples::{no_facts, says, site};
 use pp_values::memory::Memory;
 use pp_values::text::Text;
-use site_bundle::site::Site;
+use site_bundle::Site;
 use site_core::entries::Entries;
 use site_core::entry::Entry;
 use site_core::history::History;

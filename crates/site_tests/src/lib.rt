@@ -8,6 +8,8 @@ mod catalogs;
 #[cfg(test)]
 mod collecting;
 #[cfg(test)]
+mod commands;
+#[cfg(test)]
 mod compiling;
 #[cfg(test)]
 mod exported;
@@ -33,6 +35,8 @@ mod replies;
 mod resources;
 #[cfg(test)]
 mod samples;
+#[cfg(test)]
+mod sequences;
 #[cfg(test)]
 mod sites;
 #[cfg(test)]

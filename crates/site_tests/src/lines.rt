@@ -1,19 +1,19 @@
 //! Replies and entries of histories over the toy language, as words.
 use crate::toy::{Toy, ToySite};
 use site_core::entry::Entry;
-use site_core::reply::{Answer, Reply};
+use site_core::reply::{Reply, ReplyOf};
 use std::alloc::AllocError;
 
 /// A reply, such as `served 1 1 false;`.
 pub fn write_reply(out: &mut String, reply: &Reply<Toy>) -> Result<(), AllocError> {
     match reply {
-        Answer::Served { entry, k, catalog } => write!(out, "served {entry} {k} {catalog};"),
-        Answer::Refused { k, fault } => write!(out, "refused {k} {fault};"),
-        Answer::HistoryFull { length } => write!(out, "full {length};"),
-        Answer::SeenAhead { length } => write!(out, "ahead {length};"),
-        Answer::UnknownNode { k } => write!(out, "unknown {k};"),
-        Answer::Deactivated { entry } => write!(out, "deactivated {entry};"),
-        Answer::Memory => out.push_str("memory;"),
+        ReplyOf::Served { entry, k, catalog } => write!(out, "served {entry} {k} {catalog};"),
+        ReplyOf::Refused { k, fault } => write!(out, "refused {k} {fault};"),
+        ReplyOf::HistoryFull { length } => write!(out, "full {length};"),
+        ReplyOf::SeenAhead { length } => write!(out, "ahead {length};"),
+        ReplyOf::UnknownNode { k } => write!(out, "unknown {k};"),
+        ReplyOf::Deactivated { entry } => write!(out, "deactivated {entry};"),
+        ReplyOf::Memory => out.push_str("memory;"),
     }
 }
 

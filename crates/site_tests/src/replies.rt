@@ -5,7 +5,7 @@ use pp_values::memory::Memory;
 use pp_values::text::Text;
 use res_core::request::{CompileRequest, Request};
 use site_core::compile_stop::CompileStop;
-use site_core::reply::{Answer, Reply};
+use site_core::reply::{Reply, ReplyOf};
 use site_docs::replies::write_reply;
 use std::alloc::Global;
 use std::test::Fail;
@@ -42,9 +42,9 @@ fn compiled(
     manifest: &str,
 ) -> Reply<PuppetLanguage> {
     match made_alone(alloc, node, manifest) {
-        Ok((catalog, _)) => Answer::Served { entry, k, catalog },
-        Err(CompileStop::Fault(fault)) => Answer::Refused { k, fault },
-        Err(CompileStop::Memory) => Answer::Memory,
+        Ok((catalog, _)) => ReplyOf::Served { entry, k, catalog },
+        Err(CompileStop::Fault(fault)) => ReplyOf::Refused { k, fault },
+        Err(CompileStop::Memory) => ReplyOf::Memory,
     }
 }
 
@@ -108,11 +108,11 @@ enum Plain {
 
 fn plain(reply: Plain) -> Reply<PuppetLanguage> {
     match reply {
-        Plain::Unknown(k) => Answer::UnknownNode { k },
-        Plain::Ahead(length) => Answer::SeenAhead { length },
-        Plain::Full(length) => Answer::HistoryFull { length },
-        Plain::Deactivated(entry) => Answer::Deactivated { entry },
-        Plain::Memory => Answer::Memory,
+        Plain::Unknown(k) => ReplyOf::UnknownNode { k },
+        Plain::Ahead(length) => ReplyOf::SeenAhead { length },
+        Plain::Full(length) => ReplyOf::HistoryFull { length },
+        Plain::Deactivated(entry) => ReplyOf::Deactivated { entry },
+        Plain::Memory => ReplyOf::Memory,
     }
 }
 

@@ -15,8 +15,6 @@ use res_core::tags::Tags;
 use std::alloc::Global;
 use std::test::Fail;
 
-use crate::samples::kind;
-
 // The words as a list of texts.
 fn texts(alloc: Global, words: &str) -> Result<Texts, Memory> {
     let mut items = Texts::new(alloc);
@@ -43,7 +41,7 @@ fn tags_in(
     given: &str,
     container: &Tags,
 ) -> Result<Tags, Memory> {
-    let kind = kind(alloc, name)?;
+    let kind = Text::from_str(alloc, name)?;
     let title = Text::from_str(alloc, title)?;
     let given = texts(alloc, given)?;
     tags_of(alloc, &kind, &title, &given, container)

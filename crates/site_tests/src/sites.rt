@@ -1,8 +1,7 @@
 use crate::samples::{says, site};
 use pp_values::memory::Memory;
 use pp_values::text::Text;
-use site_bundle::node_name::is_node_name;
-use site_bundle::site::Site;
+use site_bundle::{Site, is_node_name};
 use site_core::entries::Entries;
 use site_docs::site_texts::site_text;
 use std::alloc::Global;

@@ -1,7 +1,7 @@
 //! A small language of sites, for the tests of histories.
 ghost use Rattle.std.specs.Prelude.{IsTrue};
 ghost use Rattle.pp_values.specs.Views.{view};
-ghost use Rattle.site_core.specs.Facts.{are_facts};
+ghost use Rattle.pp_values.specs.Facts.{are_facts};
 
 use export_store::version::Version;
 use pp_values::memory::Memory;

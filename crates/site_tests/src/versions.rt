@@ -84,7 +84,7 @@ fn places(
     tag: &str,
     but_node: &str,
 ) -> Result<String, Memory> {
-    let kind = kind(alloc, name)?;
+    let kind = Text::from_str(alloc, name)?;
     let asked = Text::from_str(alloc, tag)?;
     let but_node = Text::from_str(alloc, but_node)?;
     let tag = if tag.is_empty() { None } else { Some(&asked) };

@@ -1,0 +1,437 @@
+//! The commands of the program, over streams in memory.
+use site_commands::site_main;
+use site_io::{Bytes, MemSink, MemSource};
+use std::alloc::{AllocError, Global};
+use std::test::Fail;
+
+/// `Class[main]` in the catalog of every node.
+const MAIN: &str = r#"{"attrs":{},"in":[],"tags":["class","main"],"title":"main","type":"Class"}"#;
+
+/// How a run ended, and what it wrote.
+#[derive(Drop)]
+struct Outcome {
+    status: u8,
+    out: Bytes,
+    err: Bytes,
+}
+
+/// Which call of source, output and error stream is to fail, counted from 1; 0 is none.
+type Failing = (u64, u64, u64);
+
+const NONE: Failing = (0, 0, 0);
+
+/// The words between the bars; an empty text has none.
+fn words_of(alloc: Global, words: &str) -> Result<Vec<String>, AllocError> {
+    let mut found = Vec::new(alloc);
+    if !words.is_empty() {
+        for word in words.split('|') {
+            found.push(String::from_str(alloc, word)?)?;
+        }
+    }
+    Ok(found)
+}
+
+fn run(
+    alloc: Global,
+    words: &str,
+    input: &[u8],
+    failing: Failing,
+) -> Result<Outcome, AllocError> {
+    let words = words_of(alloc, words)?;
+    let (source, out, err) = failing;
+    let mut source = MemSource::new(alloc, input, &[source])?;
+    let mut out = MemSink::new(alloc, 4096, &[out])?;
+    let mut err = MemSink::new(alloc, 4096, &[err])?;
+    let status = site_main(alloc, words.as_slice(), &mut source, &mut out, &mut err);
+    Ok(Outcome {
+        status,
+        out: out.into_written(),
+        err: err.into_written(),
+    })
+}
+
+fn is_outcome(outcome: &Outcome, status: u8, out: &str, err: &str) -> bool {
+    outcome.status == status
+        && outcome.out.as_slice() == out.as_bytes()
+        && outcome.err.as_slice() == err.as_bytes()
+}
+
+/// Whether a run whose streams do not fail ends so.
+fn ends_as(
+    alloc: Global,
+    words: &str,
+    input: &[u8],
+    status: u8,
+    out: &str,
+    err: &str,
+) -> Result<bool, AllocError> {
+    let outcome = run(alloc, words, input, NONE)?;
+    Ok(is_outcome(&outcome, status, out, err))
+}
+
+/// The catalog line of a node whose resources after `Class[main]` are these.
+fn catalog(alloc: Global, node: &str, resources: &str) -> Result<String, AllocError> {
+    format!(in alloc;
+        "{{\"catalog\":1,\"edges\":[],\"node\":\"{node}\",\"resources\":[{MAIN}{resources}]}}\n"
+    )
+}
+
+fn writes_catalog(
+    alloc: Global,
+    words: &str,
+    node: &str,
+    manifest: &str,
+    resources: &str,
+) -> Result<bool, AllocError> {
+    let line = catalog(alloc, node, resources)?;
+    ends_as(alloc, words, manifest.as_bytes(), 0, line.as_str(), "")
+}
+
+const CATALOGS: [(&str, &str, &str, &str); 4] = [
+    (
+        "manifest|n1",
+        "n1",
+        "notify { 'hi': message => 'hello' }",
+        r#",{"attrs":{"message":"hello"},"in":[0],"tags":["class","hi","main","notify"],"title":"hi","type":"Notify"}"#,
+    ),
+    ("manifest|n", "n", "", ""),
+    (
+        "manifest|web-1.example_0",
+        "web-1.example_0",
+        " # nothing\r\n\t/* at\rall */",
+        "",
+    ),
+    (
+        "manifest|n",
+        "n",
+        "notify{'b':}#",
+        r#",{"attrs":{},"in":[0],"tags":["b","class","main","notify"],"title":"b","type":"Notify"}"#,
+    ),
+];
+
+#[test]
+fn catalogs_are_written(rt: HostRuntime) -> Result<(), Fail> {
+    for (words, node, manifest, resources) in CATALOGS {
+        assert!(rt; writes_catalog(rt.alloc(), words, node, manifest, resources)?, "{manifest}");
+    }
+    Ok(())
+}
+
+fn tells_fault(alloc: Global, manifest: &str, line: &str) -> Result<bool, AllocError> {
+    ends_as(alloc, "manifest|n", manifest.as_bytes(), 1, "", line)
+}
+
+const FAULTS: [(&str, &str); 7] = [
+    (
+        "notify { 'a': }\nnotify { 'a': }",
+        "F14 manifests/site.pp:2 Duplicate Notify[a] manifests/site.pp:1\n",
+    ),
+    ("notify { 'a'", "F1 manifests/site.pp:1 Syntax\n"),
+    ("notify {\n'a\n\n", "F1 manifests/site.pp:4 Syntax\n"),
+    ("\nnotify { 'a': \0}", "F1 manifests/site.pp:2 Syntax\n"),
+    ("$x = 1", "F31 manifests/site.pp:1 NotBuilt\n"),
+    ("\u{feff}notify { 'a': }", "F1 manifests/site.pp:1 Syntax\n"),
+    (
+        "notify { 'a': }\n/* open\n",
+        "F1 manifests/site.pp:3 Syntax\n",
+    ),
+];
+
+#[test]
+fn faults_are_told(rt: HostRuntime) -> Result<(), Fail> {
+    for (manifest, line) in FAULTS {
+        assert!(rt; tells_fault(rt.alloc(), manifest, line)?, "{line}");
+    }
+    Ok(())
+}
+
+/// A message of so many lists within one another.
+fn nested_message(alloc: Global, lists: usize) -> Result<String, AllocError> {
+    let mut manifest = String::from_str(alloc, "notify { 'a': message => ")?;
+    for _ in 0..lists {
+        manifest.push_str("[")?;
+    }
+    for _ in 0..lists {
+        manifest.push_str("]")?;
+    }
+    manifest.push_str(" }")?;
+    Ok(manifest)
+}
+
+fn tells_nested(alloc: Global, lists: usize, line: &str) -> Result<bool, AllocError> {
+    let manifest = nested_message(alloc, lists)?;
+    tells_fault(alloc, manifest.as_str(), line)
+}
+
+const NESTED: [(usize, &str); 2] = [
+    (199, "F31 manifests/site.pp:1 NotBuilt\n"),
+    (200, "F29 manifests/site.pp:1 DepthLimit\n"),
+];
+
+#[test]
+fn nesting_is_bounded(rt: HostRuntime) -> Result<(), Fail> {
+    for (lists, line) in NESTED {
+        assert!(rt; tells_nested(rt.alloc(), lists, line)?, "{lists}");
+    }
+    Ok(())
+}
+
+const USAGE: &str = "usage: manifest NODE\n";
+
+const WORDS: [(&str, &str); 9] = [
+    ("", USAGE),
+    ("manifest", USAGE),
+    ("manifest|n|n", USAGE),
+    ("Manifest|n", USAGE),
+    ("sequence|n", USAGE),
+    ("Sequence", USAGE),
+    ("manifest|Web", "bad word Web\n"),
+    ("manifest|", "bad word \n"),
+    ("manifest|a/b", "bad word a/b\n"),
+];
+
+#[test]
+fn words_are_refused(rt: HostRuntime) -> Result<(), Fail> {
+    for (words, line) in WORDS {
+        assert!(rt; ends_as(rt.alloc(), words, b"", 10, "", line)?, "{words}");
+    }
+    Ok(())
+}
+
+/// The words for a node whose name is so many letters.
+fn long_name(alloc: Global, count: usize) -> Result<String, AllocError> {
+    let mut words = String::from_str(alloc, "manifest|")?;
+    for _ in 0..count {
+        words.push_str("n")?;
+    }
+    Ok(words)
+}
+
+fn ends_long_name(alloc: Global, count: usize, status: u8) -> Result<bool, AllocError> {
+    let words = long_name(alloc, count)?;
+    Ok(run(alloc, words.as_str(), b"", NONE)?.status == status)
+}
+
+const LENGTHS: [(usize, u8); 2] = [(255, 0), (256, 10)];
+
+#[test]
+fn the_length_of_a_name_is_bounded(rt: HostRuntime) -> Result<(), Fail> {
+    for (count, status) in LENGTHS {
+        assert!(rt; ends_long_name(rt.alloc(), count, status)?, "{count}");
+    }
+    Ok(())
+}
+
+/// A text of the letters below U+0100 as their numbers.
+fn bytes_of(alloc: Global, text: &str) -> Result<Vec<u8>, AllocError> {
+    let mut bytes = Vec::new(alloc);
+    for letter in text.chars() {
+        bytes.push(u8::try_from(u32::from(letter)).unwrap_or(b'?'))?;
+    }
+    Ok(bytes)
+}
+
+fn refuses_input(
+    alloc: Global,
+    words: &str,
+    input: &str,
+    line: &str,
+) -> Result<bool, AllocError> {
+    let bytes = bytes_of(alloc, input)?;
+    ends_as(alloc, words, bytes.as_slice(), 11, "", line)
+}
+
+const INPUTS: [(&str, &str, &str); 9] = [
+    ("manifest|n", "notify { '\u{c3}", "B2 manifests/site.pp\n"),
+    ("manifest|n", "\u{ff}", "B2 manifests/site.pp\n"),
+    ("sequence", "", "B1\n"),
+    ("sequence", "{", "B1\n"),
+    ("sequence", "\u{ff}", "B1\n"),
+    ("sequence", "{\"bundle\":2}", "B2 bundle\n"),
+    ("sequence", "[]", "B2 bundle\n"),
+    ("sequence", "{\"bundle\":1}", "B2 files\n"),
+    (
+        "sequence",
+        "{\"bundle\":1,\"files\":{\"manifests/site.pp\":\"\"},\"requests\":[{}]}",
+        "B2 requests.0\n",
+    ),
+];
+
+#[test]
+fn input_is_refused(rt: HostRuntime) -> Result<(), Fail> {
+    for (words, input, line) in INPUTS {
+        assert!(rt; refuses_input(rt.alloc(), words, input, line)?, "{input}");
+    }
+    Ok(())
+}
+
+fn ends_long_input(
+    alloc: Global,
+    byte: u8,
+    count: usize,
+    status: u8,
+    line: &str,
+) -> Result<bool, AllocError> {
+    let input = vec![in alloc; byte; count]?;
+    let outcome = run(alloc, "manifest|n", input.as_slice(), NONE)?;
+    Ok(outcome.status == status && outcome.err.as_slice() == line.as_bytes())
+}
+
+const LONG: [(u8, usize, u8, &str); 3] = [
+    (b' ', 4_194_304, 0, ""),
+    (b' ', 4_194_305, 11, "B3 manifests/site.pp\n"),
+    (b'\xff', 4_194_305, 11, "B3 manifests/site.pp\n"),
+];
+
+#[test]
+fn the_length_of_input_is_bounded(rt: HostRuntime) -> Result<(), Fail> {
+    for (byte, count, status, line) in LONG {
+        assert!(rt; ends_long_input(rt.alloc(), byte, count, status, line)?, "{byte} {count}");
+    }
+    Ok(())
+}
+
+const BUNDLES: [(&str, u8, &str); 5] = [
+    (
+        r#"{"bundle": 1, "files": {"manifests/site.pp": ""}, "nodes": {"a": {}}, "requests": [{"node": "a"}]}"#,
+        0,
+        r#"{"entry":0,"journal":1,"kind":"open","site":{"files":{"manifests/site.pp":""},"nodes":{"a":{}}}}
+{"author":0,"call":0,"entry":1,"facts":{},"k":1,"kind":"publish","node":"a","set":[]}
+{"entries":2}
+{"catalog":{"catalog":1,"edges":[],"node":"a","resources":[{"attrs":{},"in":[],"tags":["class","main"],"title":"main","type":"Class"}]},"entry":1,"k":1,"reply":0}
+"#,
+    ),
+    (
+        r#"{"bundle": 1, "files": {"manifests/site.pp": "@@notify { 'me': }\nNotify <<| |>>"}, "nodes": {"a": {}}, "requests": [{"node": "a"}, {"node": "a"}]}"#,
+        0,
+        r#"{"entry":0,"journal":1,"kind":"open","site":{"files":{"manifests/site.pp":"@@notify { 'me': }\nNotify <<| |>>"},"nodes":{"a":{}}}}
+{"author":0,"call":0,"entry":1,"facts":{},"k":1,"kind":"publish","node":"a","set":[{"at":"manifests/site.pp:1","attrs":{},"tags":["class","main","me","notify"],"title":"me","type":"Notify"}]}
+{"author":0,"call":1,"entry":2,"facts":{},"k":2,"kind":"publish","node":"a","set":[{"at":"manifests/site.pp:1","attrs":{},"tags":["class","main","me","notify"],"title":"me","type":"Notify"}]}
+{"entries":3}
+{"catalog":{"catalog":1,"edges":[],"node":"a","resources":[{"attrs":{},"in":[],"tags":["class","main"],"title":"main","type":"Class"},{"attrs":{},"in":[0],"tags":["class","main","me","notify"],"title":"me","type":"Notify"}]},"entry":1,"k":1,"reply":0}
+{"catalog":{"catalog":1,"edges":[],"node":"a","resources":[{"attrs":{},"in":[],"tags":["class","main"],"title":"main","type":"Class"},{"attrs":{},"in":[0],"tags":["class","main","me","notify"],"title":"me","type":"Notify"}]},"entry":2,"k":2,"reply":1}
+"#,
+    ),
+    (
+        r#"{"bundle": 1, "files": {"manifests/site.pp": "@@notify { 'me': }\nNotify <<| |>>"}, "nodes": {"a": {}, "b": {}}, "requests": [{"node": "a"}, {"node": "b"}]}"#,
+        1,
+        r#"{"entry":0,"journal":1,"kind":"open","site":{"files":{"manifests/site.pp":"@@notify { 'me': }\nNotify <<| |>>"},"nodes":{"a":{},"b":{}}}}
+{"author":0,"call":0,"entry":1,"facts":{},"k":1,"kind":"publish","node":"a","set":[{"at":"manifests/site.pp:1","attrs":{},"tags":["class","main","me","notify"],"title":"me","type":"Notify"}]}
+{"entries":2}
+{"catalog":{"catalog":1,"edges":[],"node":"a","resources":[{"attrs":{},"in":[],"tags":["class","main"],"title":"main","type":"Class"},{"attrs":{},"in":[0],"tags":["class","main","me","notify"],"title":"me","type":"Notify"}]},"entry":1,"k":1,"reply":0}
+{"fault":"F14 manifests/site.pp:1 Duplicate Notify[me] manifests/site.pp:1","k":2,"reply":1}
+"#,
+    ),
+    (
+        r#"{"bundle": 1, "files": {"manifests/site.pp": ""}, "nodes": {"a": {}}, "requests": [{"node": "z"}, {"node": "a", "seen": 2}]}"#,
+        1,
+        r#"{"entry":0,"journal":1,"kind":"open","site":{"files":{"manifests/site.pp":""},"nodes":{"a":{}}}}
+{"entries":1}
+{"k":1,"reply":0,"unknown":"z"}
+{"length":1,"reply":1,"seen":2}
+"#,
+    ),
+    (
+        r#"{"bundle": 1, "files": {"manifests/site.pp": "notify { 'a'"}, "requests": [{"deactivate": "b"}, {"node": "b", "facts": {}}]}"#,
+        1,
+        r#"{"entry":0,"journal":1,"kind":"open","site":{"files":{"manifests/site.pp":"notify { 'a'"},"nodes":{}}}
+{"author":0,"call":0,"entry":1,"kind":"deactivate","node":"b"}
+{"entries":2}
+{"entry":1,"reply":0}
+{"fault":"F1 manifests/site.pp:1 Syntax","k":2,"reply":1}
+"#,
+    ),
+];
+
+
+fn answers_bundle(alloc: Global, bundle: &str, status: u8, out: &str) -> Result<bool, AllocError> {
+    ends_as(alloc, "sequence", bundle.as_bytes(), status, out, "")
+}
+
+#[test]
+fn bundles_are_answered(rt: HostRuntime) -> Result<(), Fail> {
+    for (bundle, status, out) in BUNDLES {
+        assert!(rt; answers_bundle(rt.alloc(), bundle, status, out)?, "{bundle}");
+    }
+    Ok(())
+}
+
+/// Whether a run whose streams fail so ends with this status and line; there is output with status 0 and 1 alone.
+fn fails_as(
+    alloc: Global,
+    words: &str,
+    input: &str,
+    failing: Failing,
+    status: u8,
+    line: &str,
+) -> Result<bool, AllocError> {
+    let outcome = run(alloc, words, input.as_bytes(), failing)?;
+    let is_told = outcome.err.as_slice() == line.as_bytes();
+    Ok(outcome.status == status && is_told && outcome.out.is_empty() != (status == 0))
+}
+
+const GOOD: &str = "notify { 'a': }";
+
+const BAD: &str = "notify { 'a'";
+
+const BUNDLE: &str = r#"{"bundle": 1, "files": {"manifests/site.pp": ""}, "nodes": {"a": {}}}"#;
+
+const STREAMS: [(&str, &str, Failing, u8, &str); 13] = [
+    ("manifest|n", GOOD, (1, 0, 0), 12, "read fault\n"),
+    ("manifest|n", GOOD, (2, 0, 0), 12, "read fault\n"),
+    ("manifest|n", GOOD, (0, 1, 0), 13, ""),
+    ("manifest|n", GOOD, (0, 0, 1), 0, ""),
+    ("manifest|n", BAD, (0, 0, 1), 13, ""),
+    (
+        "manifest|n",
+        BAD,
+        (0, 1, 0),
+        1,
+        "F1 manifests/site.pp:1 Syntax\n",
+    ),
+    // The line that says why is lost, and the status stays.
+    ("manifest|n", GOOD, (1, 1, 1), 12, ""),
+    ("", "", (0, 0, 1), 10, ""),
+    ("sequence", BUNDLE, (1, 0, 0), 12, "read fault\n"),
+    ("sequence", BUNDLE, (2, 0, 0), 12, "read fault\n"),
+    ("sequence", BUNDLE, (0, 1, 0), 13, ""),
+    ("sequence", BUNDLE, (0, 0, 1), 0, ""),
+    ("sequence", "{", (0, 0, 1), 11, ""),
+];
+
+#[test]
+fn faults_of_streams_are_told(rt: HostRuntime) -> Result<(), Fail> {
+    for (words, input, failing, status, line) in STREAMS {
+        assert!(rt; fails_as(rt.alloc(), words, input, failing, status, line)?, "{words} {status}");
+    }
+    Ok(())
+}
+
+/// A bundle with a request of a node that is not known.
+const UNKNOWN: &str =
+    r#"{"bundle": 1, "files": {"manifests/site.pp": ""}, "requests": [{"node": "z"}]}"#;
+
+/// The status and whether there is output, where a reply is a refusal.
+fn refuses_as(
+    alloc: Global,
+    failing: Failing,
+    status: u8,
+    is_written: bool,
+) -> Result<bool, AllocError> {
+    let outcome = run(alloc, "sequence", UNKNOWN.as_bytes(), failing)?;
+    Ok(outcome.status == status && outcome.out.is_empty() != is_written)
+}
+
+const REFUSED: [(Failing, u8, bool); 3] = [
+    ((0, 0, 0), 1, true),
+    ((0, 1, 0), 13, false),
+    ((0, 0, 1), 1, true),
+];
+
+#[test]
+fn refusals_are_written(rt: HostRuntime) -> Result<(), Fail> {
+    for (failing, status, is_written) in REFUSED {
+        assert!(rt; refuses_as(rt.alloc(), failing, status, is_written)?, "{status}");
+    }
+    Ok(())
+}

@@ -1,18 +1,19 @@
 //! What the collectors import.
 ghost use Rattle.std.specs.Prelude.{◌≡◌, IfOk, option_copied, option_map, ◌∷◌, []};
 ghost use Rattle.res_core.specs.AttributeViews.{settings};
-ghost use Rattle.compile_core.specs.Declarations.{in_turn};
+
 ghost use Rattle.compile_core.specs.DeclarationViews.{seen, collectors_at};
 ghost use Rattle.compile_core.specs.Imports.{all_found, found_by, unknown_name as name_unknown, unknown_parameter as parameter_unknown};
 ghost use Rattle.compile_core.specs.ImportPlaces.{exported_at as at_place, all_placed_at, is_own_import as own_import, import_by_title};
-ghost use Rattle.compile_core.specs.Meaning.{Answers};
+ghost use Rattle.pp_values.specs.Answers.{Answers, in_turn};
 
 use crate::declaration::Declaration;
 use crate::declarations::Declarations;
-use crate::form::Collector;
+use crate::step::Collector;
 use export_store::export_place::ExportPlace;
 use export_store::version::Version;
 use pp_values::fault::{Fault, Stop, What};
+use pp_values::kind::Kind;
 use pp_values::memory::Memory;
 use pp_values::reference::Reference;
 use pp_values::text::Text;
@@ -135,13 +136,10 @@ fn unknown_name(attributes: &[Attribute]) -> Option<&Text>
 fn unknown_parameter(alloc: Global, exported: &Exported, name: &Text) -> Result<Fault, Memory>
     ensures { IfOk result (λ f. f ≡ parameter_unknown exported.now name.now) }
 {
-    let kind = Text::from_str(alloc, "notify")?;
+    let kind = Kind::from_str(alloc, "notify")?;
     let title = exported.item.title.copy(alloc)?;
     let reference = Reference { kind, title };
     let name = name.copy(alloc)?;
     let at = exported.node_place.copy(alloc)?;
-    Ok(Fault {
-        at,
-        what: What::UnknownParameter { reference, name },
-    })
+    Fault::new(alloc, at, What::UnknownParameter { reference, name })
 }

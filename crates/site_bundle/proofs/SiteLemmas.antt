@@ -1,5 +1,5 @@
 -- The files and nodes of a site as maps: what is found in them, and what is put in.
-use Rattle.std.proofs.Common.{◌≡◌, Bor, ℕ, Bool, true, false, ◌&&◌, T, IsTrue, cond, None, Some, Option, List, [], ◌∷◌, refl, sym, ap, subst, ◌∙◌}
+use Rattle.std.proofs.Common.{◌≡◌, Bor, ℕ, Bool, true, false, ◌&&◌, T, IsTrue, cond, None, Some, Option, List, [], ◌∷◌, ◌++◌, refl, sym, ap, subst, ◌∙◌}
 use Rattle.std.specs.Prelude.{option_map, option_copied, IfSome, if◌then◌else◌}
 use Rattle.std.specs.declared.cmp.Ordering.{Ordering}
 use Rattle.std.specs.declared.cmp.Ordering.TheVariants.{Less, Equal, Greater}
@@ -20,7 +20,7 @@ use Rattle.pp_values.specs.Views.{view}
 use Rattle.pp_values.specs.Facts.{are_facts}
 use Rattle.pp_values.specs.Rising.{text_cmp}
 use Rattle.site_bundle.specs.declared.site_files.SiteFile.{SiteFile}
-use Rattle.site_bundle.specs.SiteView.{Listed, are_rising, have_facts}
+use Rattle.site_bundle.specs.SiteView.{Listed, are_rising, have_facts, put_in}
 use Rattle.site_bundle.specs.Listing.{shown, listed, IsRead, AreRead}
 
 true_of : (b : Bool) → T b → IsTrue b
@@ -77,6 +77,16 @@ rising-put k v es rising = true_of _ (is_sorted-put text_cmp nat_list_cmp_total 
 pub still : {X : Type 0} (P : List X → Type 0) (b : Bool) (old new with : List X) → P old → P with → new ≡ (if b then with else old) → P new
 still P true old new with before after is = subst P (sym is) after
 still P false old new with before after is = subst P (sym is) before
+
+-- the last of the pairs is put in first
+pub put_in-last : {X : Type 0} (es ps : List (List ℕ × X)) (p : List ℕ × X) → put_in es (ps ++ p ∷ []) ≡ put_in (put text_cmp p.0 p.1 es) ps
+unfolding put_in
+put_in-last es [] p = refl
+put_in-last es (q ∷ ps) p = ap (put text_cmp q.0 q.1) (put_in-last es ps p)
+
+pub put_in-none : {X : Type 0} (es : List (List ℕ × X)) → put_in es [] ≡ es
+unfolding put_in
+put_in-none es = refl
 
 -- ---- facts
 

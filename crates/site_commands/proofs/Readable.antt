@@ -7,7 +7,7 @@ use Rattle.pp_values.specs.declared.memory.Memory.{Memory}
 use Rattle.site_commands.specs.declared.output.Output.{Output}
 use Rattle.site_commands.specs.declared.output.Output.TheVariants as a
 use Rattle.site_commands.specs.Outputs.{output_meant, manifest_output}
-use Rattle.site_commands.specs.Puppet.{manifest_meaning}
+use Rattle.compile_core.specs.Puppet.{manifest_meaning}
 use Rattle.site_commands.specs.World.{line}
 use Rattle.site_commands.proofs.Told.{is_utf8-no_text}
 

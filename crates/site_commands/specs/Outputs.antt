@@ -21,7 +21,7 @@ use Rattle.site_docs.specs.JournalText.{journal_text}
 use Rattle.site_docs.specs.ReplyText.{reply_line}
 use Rattle.site_commands.specs.declared.output.Output.{Output}
 use Rattle.site_commands.specs.declared.output.Output.TheVariants as a
-use Rattle.site_commands.specs.Puppet.{puppet, listed, manifest_meaning}
+use Rattle.compile_core.specs.Puppet.{puppet, listed, manifest_meaning}
 use Rattle.site_sequence.specs.Sequence.{AnsweredInTurn}
 use Rattle.site_sequence.specs.SequenceLaws.{is_memory}
 use Rattle.site_commands.specs.Words.{CommandLine, manifest, sequence, usage, bad_word}

@@ -1,7 +1,7 @@
 -- To go on with the places that are left gives the whole.
 use Rattle.std.proofs.Common.{◌≡◌, length}
 use Rattle.std.specs.Vec.Iter.{into_iter_items, into_iter_len}
-use Rattle.compile_core.specs.Declarations.{in_turn}
+use Rattle.pp_values.specs.Answers.{in_turn}
 use Rattle.compile_core.specs.ImportPlaces.{all_placed_at, import_by_title}
 use Rattle.compile_core.proofs.importing.import_places.Given as goal
 

@@ -119,7 +119,7 @@ pub fn declare_locals<'a>(alloc: Global, steps: &'a [Step]) -> Result<Declaratio
 fn evaluate<'a>(
     alloc: Global,
     declarations: Declarations<'a>,
-    form: &'a Step,
+    step: &'a Step,
 ) -> Result<Declarations<'a>, Stop>
     ensures { Answers result (evaluate declarations.entry step.now) }
 {

@@ -88,11 +88,11 @@ fn push_if_live(
             if notify.exported && !is_collected(collectors, &resource.tags) {
                 return Ok(());
             }
-            resources.push(in_main(alloc, resource)?)
+            Ok(resources.push(in_main(alloc, resource)?)?)
         }
         Declaration::Imported(_, exported) => {
             let resource = copy_resource(alloc, &exported.item)?;
-            resources.push(in_main(alloc, resource)?)
+            Ok(resources.push(in_main(alloc, resource)?)?)
         }
     }
 }
@@ -173,7 +173,7 @@ fn push_if_exported(
 {
     if let Declaration::Local(notify) = declaration {
         if notify.exported {
-            return items.push(exported_notify(alloc, notify, container)?);
+            items.push(exported_notify(alloc, notify, container)?)?;
         }
     }
     Ok(())

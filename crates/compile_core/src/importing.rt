@@ -49,16 +49,16 @@ fn import_found<'a>(
 {
     let kind = Text::from_str(alloc, "notify")?;
     let places = sets.exported(alloc, &kind, collector.tag.as_ref(), node)?;
-    import_places(alloc, declarations, places.into_vec(), sets)
+    import_places(alloc, declarations, places.as_slice(), sets)
 }
 
 fn import_places<'a>(
     alloc: Global,
     mut declarations: Declarations<'a>,
-    places: Vec<ExportPlace>,
+    places: &[ExportPlace],
     sets: &'a Version,
 ) -> Result<Declarations<'a>, Stop>
-    ensures { Answers result (in_turn import_by_title declarations.entry (all_placed_at sets.now places.items)) }
+    ensures { Answers result (in_turn import_by_title declarations.entry (all_placed_at sets.now places.now)) }
 {
     for place in places {
         declarations = import_at(alloc, declarations, place, sets)?;
@@ -70,12 +70,12 @@ fn import_places<'a>(
 fn import_at<'a>(
     alloc: Global,
     declarations: Declarations<'a>,
-    place: ExportPlace,
+    place: &ExportPlace,
     sets: &'a Version,
 ) -> Result<Declarations<'a>, Stop>
-    ensures { Answers result (in_turn import_by_title declarations.entry (all_placed_at sets.now (place ∷ []))) }
+    ensures { Answers result (in_turn import_by_title declarations.entry (all_placed_at sets.now (place.now ∷ []))) }
 {
-    match exported_at(sets, &place) {
+    match exported_at(sets, place) {
         Some(exported) => import_one(alloc, declarations, place, exported),
         None => Ok(declarations),
     }
@@ -93,18 +93,28 @@ fn exported_at<'a>(sets: &'a Version, place: &ExportPlace) -> Option<&'a Exporte
 fn import_one<'a>(
     alloc: Global,
     declarations: Declarations<'a>,
-    place: ExportPlace,
+    place: &ExportPlace,
     exported: &'a Exported,
 ) -> Result<Declarations<'a>, Stop>
-    ensures { Answers result (import_by_title declarations.entry (place, exported.now)) }
+    ensures { Answers result (import_by_title declarations.entry (place.now, exported.now)) }
 {
-    if is_own_import(&place, declarations.find(&exported.item.title)) {
+    if is_own_import(place, declarations.find(&exported.item.title)) {
         return Ok(declarations);
     }
     if let Some(name) = unknown_name(exported.item.attributes.as_slice()) {
         return Err(Stop::Fault(unknown_parameter(alloc, exported, name)?));
     }
+    let place = copy_place(alloc, place)?;
     declarations.declare(alloc, Declaration::Imported(place, exported))
+}
+
+fn copy_place(alloc: Global, place: &ExportPlace) -> Result<ExportPlace, Memory>
+    ensures { IfOk result (λ p. p ≡ place.now) }
+{
+    Ok(ExportPlace {
+        node: place.node.copy(alloc)?,
+        place: place.place,
+    })
 }
 
 /// Whether the declaration is the import of the resource at this place.

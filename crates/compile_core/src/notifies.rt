@@ -25,7 +25,7 @@ pub fn notify_of(alloc: Global, resource: &Resource) -> Result<Option<Notify>, M
     if !resource.kind.is("notify") {
         return Ok(None);
     }
-    match (is_exported(resource.step), only(resource.bodies.as_slice())) {
+    match (is_exported(resource.form), only(resource.bodies.as_slice())) {
         (Some(exported), Some(body)) => notify_in(alloc, exported, body),
         _ => Ok(None),
     }
@@ -33,9 +33,9 @@ pub fn notify_of(alloc: Global, resource: &Resource) -> Result<Option<Notify>, M
 
 /// Whether a resource is exported, which is none where it is virtual.
 fn is_exported(form: ResourceForm) -> Option<bool>
-    ensures { result ≡ notify.is_exported step }
+    ensures { result ≡ notify.is_exported form }
 {
-    match step {
+    match form {
         ResourceForm::Plain => Some(false),
         ResourceForm::Virtual => None,
         ResourceForm::Exported => Some(true),
@@ -72,7 +72,7 @@ fn notify_titled(
     }))
 }
 
-/// The attributes, unless one is of another step or comes twice.
+/// The attributes, unless one is of another form or comes twice.
 #[tactic(auto, unfolding(crate::specs::Notifies::given_from))]
 fn given_in(alloc: Global, attributes: &[Attribute]) -> Result<Option<Given>, Memory>
     ensures { IfOk result (λ g. g ≡ notify.given_from notify.nothing_given attributes.now) }

@@ -156,8 +156,8 @@ in_order : site_of ((MAIN_MANIFEST.now, codes "x") ∷ (codes "a.pp", codes "y")
 unfolding put_in
 in_order = refl
 
-given : (are_distinct ((codes "a", tt) ∷ (codes "b", tt) ∷ []) ≡ true)
-    × (are_distinct ((codes "a", tt) ∷ (codes "b", tt) ∷ (codes "a", tt) ∷ []) ≡ false)
+given : (are_distinct ((codes "a", 0) ∷ (codes "b", 0) ∷ []) ≡ true)
+    × (are_distinct ((codes "a", 0) ∷ (codes "b", 0) ∷ (codes "a", 0) ∷ []) ≡ false)
     × (has_main ((MAIN_MANIFEST.now, []) ∷ []) ≡ true)
     × (has_main ((codes "site.pp", []) ∷ []) ≡ false)
     × (is_manifest_path (codes "modules/a/manifests/init.pp") ≡ true)

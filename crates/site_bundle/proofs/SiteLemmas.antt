@@ -12,12 +12,15 @@ use Rattle.std.specs.BTreeMap.{insert_entry, is_at}
 use Rattle.std.specs.Map.{lookup}
 use Rattle.std.specs.FinMap.{find, put}
 use Rattle.std.specs.FinMap.Entries.{by_order, is_sorted-put}
-use Rattle.std.specs.List.{All}
+use Rattle.std.proofs.lemmas.List.{map-append}
+use Rattle.std.proofs.lemmas.List.Folds.{list_all-append}
+use Rattle.std.specs.List.{All, list_all}
 use Rattle.pp_parser.specs.Manifest.{file_of}
 use Rattle.pp_values.specs.declared.value.Value.{Value}
 use Rattle.pp_values.specs.Datum.{Datum}
 use Rattle.pp_values.specs.Views.{view}
 use Rattle.pp_values.specs.Facts.{are_facts}
+use Rattle.pp_values.specs.PairLists.{fact_view, fact_views}
 use Rattle.pp_values.specs.Rising.{text_cmp}
 use Rattle.site_bundle.specs.declared.site_files.SiteFile.{SiteFile}
 use Rattle.site_bundle.specs.SiteView.{Listed, are_rising, have_facts, put_in}
@@ -87,6 +90,25 @@ put_in-last es (q ∷ ps) p = ap (put text_cmp q.0 q.1) (put_in-last es ps p)
 pub put_in-none : {X : Type 0} (es : List (List ℕ × X)) → put_in es [] ≡ es
 unfolding put_in
 put_in-none es = refl
+
+-- after the last one was put in, the others give the whole
+pub put_step : {X : Type 0} (done more left rest all : List (List ℕ × X)) (p : List ℕ × X) → left ≡ rest ++ p ∷ [] → more ≡ put text_cmp p.0 p.1 done →
+    put_in done left ≡ put_in [] all → put_in more rest ≡ put_in [] all
+put_step done more left rest all p parts is held =
+    ap (λ es. put_in es rest) is ∙ sym (put_in-last done rest p) ∙ ap (put_in done) (sym parts) ∙ held
+
+pub put_end : {X : Type 0} (done left all : List (List ℕ × X)) → left ≡ [] → put_in done left ≡ put_in [] all → done ≡ put_in [] all
+put_end done left all none held = sym (put_in-none done) ∙ ap (put_in done) (sym none) ∙ held
+
+-- what holds of each element holds of the last one, and of the others
+pub each_before : {X : Type 0} (p : X → Bool) (xs all : List X) (x : X) → all ≡ xs ++ x ∷ [] → IsTrue (list_all p all) → IsTrue (list_all p xs)
+each_before p xs all x parts h = first _ _ (sym (ap (list_all p) parts ∙ list_all-append p xs (x ∷ [])) ∙ h)
+
+pub last_too : {X : Type 0} (p : X → Bool) (xs all : List X) (x : X) → all ≡ xs ++ x ∷ [] → IsTrue (list_all p all) → IsTrue (p x)
+last_too p xs all x parts h = first _ _ (second (list_all p xs) _ (sym (ap (list_all p) parts ∙ list_all-append p xs (x ∷ [])) ∙ h))
+
+pub views_parts : (xs all : List (List ℕ × Value)) (x : List ℕ × Value) → all ≡ xs ++ x ∷ [] → fact_views all ≡ fact_views xs ++ fact_view x ∷ []
+views_parts xs all x parts = ap fact_views parts ∙ map-append fact_view xs (x ∷ [])
 
 -- ---- facts
 

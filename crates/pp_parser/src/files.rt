@@ -112,8 +112,8 @@ impl<F: Fn(Global, &mut Cursor<'_>, usize, Goal) -> Result<Part, Refusal>> Rules
                 return Ok(found);
             }
             let item = self.item(tokens, pending)?;
-            tokens.eat(Kind::Semicolon)?;
             pending = found.put(item)?;
+            tokens.eat(Kind::Semicolon)?;
         }
         Err(tokens.refusal())
     }
@@ -149,8 +149,8 @@ impl<F: Fn(Global, &mut Cursor<'_>, usize, Goal) -> Result<Part, Refusal>> Rules
                 return Ok(found);
             }
             let definition = self.module_item(tokens)?;
-            tokens.eat(Kind::Semicolon)?;
             found.put_definition(definition)?;
+            tokens.eat(Kind::Semicolon)?;
         }
         Err(tokens.refusal())
     }

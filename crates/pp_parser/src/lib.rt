@@ -28,3 +28,5 @@ pub mod resources;
 pub mod started;
 pub mod statements;
 pub mod texts;
+
+pub use manifest::parse;

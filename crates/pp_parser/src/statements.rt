@@ -198,9 +198,9 @@ impl<F: Fn(Global, &mut Cursor<'_>, usize, Goal) -> Result<Part, Refusal>> Rules
                 return Ok(found);
             }
             let (statement, next) = self.statement(tokens, pending)?;
-            tokens.eat(Kind::Semicolon)?;
             found.push(statement)?;
             pending = next;
+            tokens.eat(Kind::Semicolon)?;
         }
         Err(tokens.refusal())
     }

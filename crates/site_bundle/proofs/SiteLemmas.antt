@@ -1,6 +1,6 @@
 -- The files and nodes of a site as maps: what is found in them, and what is put in.
-use Rattle.std.proofs.Common.{◌≡◌, Bor, ℕ, Bool, true, false, ◌&&◌, T, IsTrue, cond, None, Some, Option, List, [], ◌∷◌, ◌++◌, refl, sym, ap, subst, ◌∙◌}
-use Rattle.std.specs.Prelude.{option_map, option_copied, IfSome, if◌then◌else◌}
+use Rattle.std.proofs.Common.{◌≡◌, Bor, ℕ, Bool, true, false, ◌&&◌, ◌||◌, T, IsTrue, cond, None, Some, Option, List, [], ◌∷◌, ◌++◌, refl, sym, ap, subst, ◌∙◌}
+use Rattle.std.specs.Prelude.{option_map, option_copied, IsSome, IfSome, if◌then◌else◌}
 use Rattle.std.specs.declared.cmp.Ordering.{Ordering}
 use Rattle.std.specs.declared.cmp.Ordering.TheVariants.{Less, Equal, Greater}
 use Rattle.std.specs.Ordering.{eq_by_cmp, is_eq, match_ordering}
@@ -10,8 +10,9 @@ use Rattle.std.proofs.lemmas.Slice.Eq.{bytes_eq-Decides}
 use Rattle.std.specs.Cmp.Lexicographic.{nat_list_cmp_total}
 use Rattle.std.specs.BTreeMap.{insert_entry, is_at}
 use Rattle.std.specs.Map.{lookup}
+use Rattle.std.specs.Str.{bytes_eq}
 use Rattle.std.specs.FinMap.{find, put}
-use Rattle.std.specs.FinMap.Entries.{by_order, is_sorted-put}
+use Rattle.std.specs.FinMap.Entries.{by_order, find-put, is_sorted-put}
 use Rattle.std.proofs.lemmas.List.{map-append}
 use Rattle.std.proofs.lemmas.List.Folds.{list_all-append}
 use Rattle.std.specs.List.{All, list_all}
@@ -23,6 +24,7 @@ use Rattle.pp_values.specs.Facts.{are_facts}
 use Rattle.pp_values.specs.PairLists.{fact_view, fact_views}
 use Rattle.pp_values.specs.Rising.{text_cmp}
 use Rattle.site_bundle.specs.declared.site_files.SiteFile.{SiteFile}
+use Rattle.site_bundle.specs.Given.{has_key}
 use Rattle.site_bundle.specs.SiteView.{Listed, are_rising, have_facts, put_in}
 use Rattle.site_bundle.specs.Listing.{shown, listed, IsRead, AreRead}
 
@@ -99,6 +101,23 @@ put_step done more left rest all p parts is held =
 
 pub put_end : {X : Type 0} (done left all : List (List ℕ × X)) → left ≡ [] → put_in done left ≡ put_in [] all → done ≡ put_in [] all
 put_end done left all none held = sym (put_in-none done) ∙ ap (put_in done) (sym none) ∙ held
+
+-- a key that is given is found
+some_if : {X : Type 0} (b : Bool) (v : X) (o : Option X) → (b ≡ false → IsSome o) → IsSome (cond b (Some v) o)
+some_if true v o h = refl
+some_if false v o h = h refl
+
+or_right : (a b : Bool) → a ≡ false → IsTrue (a || b) → IsTrue b
+or_right true b e h = absurd cc
+or_right false b e h = h
+
+pub found_if_given : {X : Type 0} (key : List ℕ) (ps : List (List ℕ × X)) → IsTrue (has_key key ps) → IsSome (find text_cmp key (put_in [] ps))
+unfolding put_in
+found_if_given key [] h = absurd cc
+found_if_given key (p ∷ ps) h =
+    subst (λ o. IsSome o) (sym (find-put text_cmp nat_list_cmp_total key p.0 p.1 (put_in [] ps)))
+    (some_if (eq_by_cmp text_cmp key p.0) p.1 (find text_cmp key (put_in [] ps))
+    (λ other. found_if_given key ps (or_right (bytes_eq key p.0) (has_key key ps) (sym (is_eq-slice_cmp key p.0) ∙ other) h)))
 
 -- what holds of each element holds of the last one, and of the others
 pub each_before : {X : Type 0} (p : X → Bool) (xs all : List X) (x : X) → all ≡ xs ++ x ∷ [] → IsTrue (list_all p all) → IsTrue (list_all p xs)

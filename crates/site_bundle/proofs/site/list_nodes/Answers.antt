@@ -1,4 +1,4 @@
-use Rattle.std.proofs.Common.{ap}
+use Rattle.std.proofs.Common.{sym, ap, ◌∙◌}
 use Rattle.std.proofs.lemmas.List.{nil_from_length}
 use Rattle.pp_values.specs.Facts.{are_facts}
 use Rattle.pp_values.specs.PairLists.{fact_views}
@@ -24,4 +24,4 @@ loop-name-preserved c =
 pub returns : goal.returns
 returns c =
     put_end c.loop-name.listed (fact_views c.loop-name.left.items) c.args.nodes
-    (ap fact_views (nil_from_length c.loop-name.left.items c.in_default.ensures.cases.0)) c.loop-name.invariant.0
+    (ap fact_views (nil_from_length c.loop-name.left.items (sym c.loop-name.left.ok.0 ∙ c.in_default.ensures.cases.0))) c.loop-name.invariant.0

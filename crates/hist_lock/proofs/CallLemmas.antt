@@ -4,9 +4,10 @@ use mathlib.Core.List.{IsPrefix}
 use mathlib.Core.Logic.{dite}
 use native.Mathlib.Decide.{ℕ_discrete, dec_le}
 use Rattle.std.proofs.lemmas.Option.{slice_get_past, slice_get_within, get_or_from_slice_get}
-use Rattle.hist_lock.specs.Counts.{same, times}
+use Rattle.list_sums.specs.Counts.{same, times}
 use Rattle.hist_lock.specs.Calls.{stands, wrote, AreCalls}
-use Rattle.hist_lock.proofs.Sums.{total-append, same_yes, same_no}
+use Rattle.list_sums.proofs.Totals.{total-append}
+use Rattle.list_sums.proofs.Marks.{same_yes, same_no}
 use Rattle.hist_lock.proofs.Fronts.{at_front, at_append, at_end}
 
 -- Calls that stand before a place

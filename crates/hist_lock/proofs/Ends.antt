@@ -5,12 +5,13 @@ use mathlib.Core.Option.{Option as Maybe, some, some-ne-none}
 use lib.ListN.{get_elem?}
 use Rattle.atomic_table.specs.Table.{State, opening, Final, Seen}
 use Rattle.atomic_table.proofs.Lists.{at_snoc}
-use Rattle.hist_lock.specs.Counts.{bit, total, same, below, times}
+use Rattle.list_sums.specs.Counts.{bit, total, same, below, times}
 use Rattle.hist_lock.specs.Calls.{stands, count_author, wrote, has_author, AreCalls, AreAllCalls}
 use Rattle.hist_lock.specs.Views.{waiting, holding, room_of, held_of, has_number, first_view}
 use Rattle.hist_lock.specs.Turned.{Fits, Turned}
 use Rattle.hist_lock.specs.declared.view.View.{View}
-use Rattle.hist_lock.proofs.Sums.{term_le, totals_le, gap, below_yes, below_no, below_next, times_le}
+use Rattle.list_sums.proofs.Totals.{term_le, totals_le, gap}
+use Rattle.list_sums.proofs.Marks.{below_yes, below_no, below_next, times_le}
 use Rattle.hist_lock.proofs.Fronts.{prefix_self}
 use Rattle.hist_lock.proofs.CallLemmas.{calls_new, at_all}
 use Rattle.hist_lock.proofs.Tickets.{waiting_no}

@@ -1,6 +1,6 @@
 -- The definitions on small values. An entry is here its author's number, or none.
 use Rattle.std.proofs.Common.{◌≡◌, ℕ, ◌+◌, List, [], ◌∷◌, Option, Some, None, slice_get, refl, arith}
-use Rattle.hist_lock.specs.Counts.{below, times}
+use Rattle.list_sums.specs.Counts.{below, times}
 use Rattle.hist_lock.specs.Calls.{wrote, has_author, AreCalls, IsLonger}
 use Rattle.hist_lock.specs.Held.{Held, LockId, held, first_pass, taking, adding, splitting, split_off, joining}
 use Rattle.hist_lock.specs.Views.{first_view, joined}

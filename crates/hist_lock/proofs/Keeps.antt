@@ -9,13 +9,14 @@ use lib.Seq.{set-get_or}
 use Rattle.std.proofs.lemmas.Option.{slice_get_past}
 use Rattle.atomic_table.specs.Table.{State, Me, step, keeps, takes, gives, stepped, Allows}
 use Rattle.atomic_table.proofs.Lists.{at_set, set_again}
-use Rattle.hist_lock.specs.Counts.{total, same, below, times}
+use Rattle.list_sums.specs.Counts.{total, same, below, times}
 use Rattle.hist_lock.specs.Calls.{stands, AreCalls}
 use Rattle.hist_lock.specs.Views.{waiting, holding, has_ticket, room_of, held_of, has_number, drawing, seizing, giving}
 use Rattle.hist_lock.specs.Turned.{Fits, Turned}
 use Rattle.hist_lock.specs.Steps.{Drew, Looked, Gave, Added, Settled}
 use Rattle.hist_lock.specs.declared.view.View.{View}
-use Rattle.hist_lock.proofs.Sums.{total-append, total-set, term_le, terms_le, someone, totals_le, same_yes, same_no, below_yes, below_next, below_le, below_lt, first_in, first_some}
+use Rattle.list_sums.proofs.Totals.{total-append, total-set, term_le, terms_le, someone, totals_le}
+use Rattle.list_sums.proofs.Marks.{same_yes, same_no, below_yes, below_next, below_le, below_lt, first_in, first_some}
 use Rattle.hist_lock.proofs.Fronts.{prefix_self, prefix_trans, prefix_length, prefix_shorter, at_append, at_end}
 use Rattle.hist_lock.proofs.CallLemmas.{calls_front, calls_kept, calls_added}
 use Rattle.hist_lock.proofs.Tickets.{mod_next, served_is, waiting_yes, waiting_no, holding_yes, holding_no, holds_yes, holds_no, ticket_yes, ticket_no, ticket_own}

@@ -1,4 +1,3 @@
-pub mod Sums
 pub mod Fronts
 pub mod CallLemmas
 pub mod Tickets

@@ -8,12 +8,13 @@ use native.Mathlib.Decide.{dec_le}
 use lib.ListN.{get_elem?}
 use Rattle.atomic_table.specs.Table.{Splits, Joins}
 use Rattle.atomic_table.proofs.Lists.{at_set, at_snoc, set_else}
-use Rattle.hist_lock.specs.Counts.{total, same, below, times}
+use Rattle.list_sums.specs.Counts.{total, same, below, times}
 use Rattle.hist_lock.specs.Calls.{AreCalls}
 use Rattle.hist_lock.specs.Views.{waiting, holding, has_ticket, room_of, held_of, has_number, note_view, spent, dividing, divided, joined}
 use Rattle.hist_lock.specs.Turned.{Fits, Turned}
 use Rattle.hist_lock.specs.declared.view.View.{View}
-use Rattle.hist_lock.proofs.Sums.{total-append, total-set, terms_le, below_next}
+use Rattle.list_sums.proofs.Totals.{total-append, total-set, terms_le}
+use Rattle.list_sums.proofs.Marks.{below_next}
 use Rattle.hist_lock.proofs.Fronts.{prefix_whole}
 use Rattle.hist_lock.proofs.CallLemmas.{calls_new, calls_nobody, calls_joined}
 use Rattle.hist_lock.proofs.Tickets.{waiting_no, holding_no, ticket_no}

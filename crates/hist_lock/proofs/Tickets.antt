@@ -2,10 +2,10 @@
 use Rattle.std.proofs.Common.{◌≡◌, ℕ, ◌+◌, ◌%◌, ◌<◌, ◌≤◌, Bool, true, false, cond, refl, ap, sym, ◌∙◌, arith}
 use Rattle.std.proofs.Math.Nat.{mod-add-mod}
 use Rattle.atomic_table.proofs.Lists.{one_turn}
-use Rattle.hist_lock.specs.Counts.{bit, same}
+use Rattle.list_sums.specs.Counts.{bit, same}
 use Rattle.hist_lock.specs.Views.{waiting, holding, has_ticket}
 use Rattle.hist_lock.specs.declared.view.View.{View}
-use Rattle.hist_lock.proofs.Sums.{same_yes}
+use Rattle.list_sums.proofs.Marks.{same_yes}
 
 pub mod_next : (n : ℕ) → (n % 18446744073709551616 + 1) % 18446744073709551616 ≡ (n + 1) % 18446744073709551616
 mod_next n = mod-add-mod n 18446744073709551616 1

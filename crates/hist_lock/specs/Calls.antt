@@ -1,7 +1,7 @@
 -- Which entries of a list some authors wrote. A call is the place of an entry in the list.
 use Rattle.std.specs.Prelude.{◌≡◌, ℕ, ◌<◌, ◌≤◌, List, length, Option, Some, None, slice_get}
 use mathlib.Core.List.{IsPrefix}
-use Rattle.hist_lock.specs.Counts.{times}
+use Rattle.list_sums.specs.Counts.{times}
 
 -- of two lists one begins the other, and the third is the longer one
 abbrev pub IsLonger : {E : Type 0} → List E → List E → List E → Type 0

@@ -5,7 +5,7 @@ use mathlib.Core.Option.{some, none}
 use mathlib.Core.List.{IsPrefix}
 use lib.ListN.{get_elem?}
 use Rattle.atomic_table.specs.Table.{State}
-use Rattle.hist_lock.specs.Counts.{total, below, times}
+use Rattle.list_sums.specs.Counts.{total, below, times}
 use Rattle.hist_lock.specs.Calls.{AreCalls}
 use Rattle.hist_lock.specs.Views.{waiting, holding, has_ticket, room_of, held_of, has_number}
 use Rattle.hist_lock.specs.declared.view.View.{View}

@@ -1,6 +1,6 @@
 -- A view read in numbers, and what each step makes of it.
 use Rattle.std.specs.Prelude.{ℕ, ◌+◌, ◌-◌, true, false, cond, nat_le, List, [], ◌∷◌, ◌++◌, length}
-use Rattle.hist_lock.specs.Counts.{bit, same, times}
+use Rattle.list_sums.specs.Counts.{bit, same, times}
 use Rattle.hist_lock.specs.declared.view.View.{View}
 
 module _ {E : Type 0} where

@@ -13,6 +13,3 @@ pub use lock::HistLock;
 pub use pass::{Note, Pass};
 pub use stands_for::StandsFor;
 pub use turn::Turn;
-
-#[cfg(test)]
-mod tests;

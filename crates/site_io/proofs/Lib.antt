@@ -1,3 +1,4 @@
 pub mod Streams
 mod Sources
+mod Retries
 mod Examples

@@ -1,5 +1,5 @@
 -- Reads and writes one after another, and what a stream that tells its bytes says of them.
-use Rattle.std.proofs.Common.{◌≡◌, ℕ, ◌-◌, ◌≤◌, List, [], ◌∷◌, ◌++◌, length, take, drop, Option, Some, None, refl, sym, ◌∙◌, ap, subst, append_assoc, append-nil, length-drop, arith}
+use Rattle.std.proofs.Common.{◌≡◌, ℕ, ◌+◌, ◌-◌, ◌≤◌, List, [], ◌∷◌, ◌++◌, length, take, drop, Option, Some, None, refl, sym, ◌∙◌, ap, subst, append_assoc, append-nil, length-append, length-drop, arith}
 use Rattle.std.proofs.lemmas.List.{take-append-drop, take_all, length-take-le}
 use Rattle.std.specs.Io.KnownBytes.{Consumes, append_known}
 use Rattle.std.proofs.KnownBytes.{Consumes-nil, Consumes-trans}
@@ -68,6 +68,13 @@ written_then_failed {xs} {s} {t} {u} first second = record {
   written = second.written ∙ first.written;
   shut = second.shut ∙ first.shut;
 }
+
+-- What was within a limit is past it by the bytes of one more read at most.
+pub near_limit : (limit chunk count : ℕ) (bytes buffer : List ℕ)
+    → length bytes ≤ limit → count ≤ length buffer → length buffer ≡ chunk → length (bytes ++ take count buffer) ≤ limit + chunk
+near_limit limit chunk count bytes buffer within fits room =
+    let sum = length-append bytes (take count buffer) in let front = length-take-le count buffer fits in
+    omega (arith, sum, front)
 
 -- The count rises over a whole in which it rises at the end, or at the beginning.
 pub Rose-after : (a b c : ℕ) → a ≤ b → Rose b c → Rose a c

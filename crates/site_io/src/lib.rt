@@ -25,6 +25,3 @@ pub use sure_sink::SureSink;
 pub use sure_source::SureSource;
 pub use transfer::{ReadStop, WriteFault, read_all, write_all};
 pub use writer_sink::{StandardError, StandardOutput, WriterSink};
-
-#[cfg(test)]
-mod tests;

@@ -12,9 +12,13 @@ mod exported;
 #[cfg(test)]
 mod history;
 #[cfg(test)]
+mod jobs;
+#[cfg(test)]
 mod journals;
 #[cfg(test)]
 mod json;
+#[cfg(test)]
+mod locks;
 #[cfg(test)]
 mod manifests;
 #[cfg(test)]
@@ -25,6 +29,8 @@ mod resources;
 mod samples;
 #[cfg(test)]
 mod sites;
+#[cfg(test)]
+mod streams;
 #[cfg(test)]
 mod tokens;
 pub mod toy;

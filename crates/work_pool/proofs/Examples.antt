@@ -1,6 +1,6 @@
 -- The definitions on small values.
 use Rattle.std.proofs.Common.{◌≡◌, ℕ, ◌+◌, List, [], ◌∷◌, Some, None, refl, arith}
-use Rattle.work_pool.specs.Counts.{Once}
+use Rattle.work_pool.specs.Groups.{run_count, share}
 use Rattle.work_pool.specs.Seats.{ClaimsId, Claimant, first_seat, Draws, splitting, split_off, joining}
 
 module _ (claims : ClaimsId) where
@@ -38,9 +38,12 @@ not_past claims h = omega (arith, h.0)
 not_yet : (claims : ClaimsId) → Draws None (drawn claims (0 ∷ []) 1) (drawn claims (0 ∷ []) 1) → ⊥
 not_yet claims h = omega (arith, h.0)
 
--- a list with a number twice is refused, and an empty one is not
-twice : Once (3 ∷ 5 ∷ 3 ∷ []) → ⊥
-twice h = omega (arith, h 3)
+-- jobs on 64 threads: one thread each while there are enough, then even runs
+few_jobs : (run_count 5 64 ≡ 5) × (share 5 5 ≡ 1)
+few_jobs = (refl, refl)
 
-nothing : Once []
-nothing k = omega arith
+no_job : (run_count 0 64 ≡ 1) × (share 0 1 ≡ 0)
+no_job = (refl, refl)
+
+many_jobs : (run_count 1000 64 ≡ 64) × (share 1000 64 ≡ 16) × (share 65 64 ≡ 2)
+many_jobs = (refl, refl, refl)

@@ -7,12 +7,13 @@ use lib.ListN.{get_elem?}
 use lib.Seq.{set-get_or}
 use Rattle.atomic_table.specs.Table.{State, Me, step, keeps, Allows}
 use Rattle.atomic_table.proofs.Lists.{at_set}
-use Rattle.work_pool.specs.Counts.{same, below, times, Once}
+use Rattle.list_sums.specs.Counts.{same, below, times, Once}
 use Rattle.work_pool.specs.Views.{has_number, room_of, held_of, past_of, looking, claiming, passing}
 use Rattle.work_pool.specs.Claimed.{Fits, Claimed}
 use Rattle.work_pool.specs.Steps.{HasAll, Looked, Drew, Settled}
 use Rattle.work_pool.specs.declared.view.View.{View}
-use Rattle.work_pool.proofs.Sums.{total-append, total-set, term_le, totals_le, gap, below_next, below_le}
+use Rattle.list_sums.proofs.Totals.{total-append, total-set, term_le, totals_le, gap}
+use Rattle.list_sums.proofs.Marks.{below_next, below_le}
 
 -- one view changes, and the word grows
 remade : (count : ℕ) (s : State (Unit {0}) View) (r : Claimed count s) (id : ℕ) (v w : View) (word : ℕ) (ws : List ℕ)

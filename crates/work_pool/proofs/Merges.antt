@@ -6,11 +6,11 @@ use native.Mathlib.Decide.{dec_le}
 use lib.ListN.{get_elem?}
 use Rattle.atomic_table.specs.Table.{Splits, Joins}
 use Rattle.atomic_table.proofs.Lists.{at_set, at_snoc, set_else}
-use Rattle.work_pool.specs.Counts.{total, same}
+use Rattle.list_sums.specs.Counts.{total, same}
 use Rattle.work_pool.specs.Views.{has_number, room_of, held_of, past_of, dividing, divided, joined, spent}
 use Rattle.work_pool.specs.Claimed.{Fits, Claimed}
 use Rattle.work_pool.specs.declared.view.View.{View}
-use Rattle.work_pool.proofs.Sums.{total-append, total-set}
+use Rattle.list_sums.proofs.Totals.{total-append, total-set}
 
 pub divides : (count id : ℕ) (v : View) → 0 < v.room → 0 < v.held → Splits (Claimed count) id v (dividing v) (divided v)
 divides count id v room some_ s r me =

@@ -3,7 +3,7 @@ use Rattle.std.specs.Prelude.{◌≡◌, ℕ, ◌+◌, ◌^◌, ◌<◌, ◌≤�
 use mathlib.Core.Option.{some}
 use lib.ListN.{get_elem?}
 use Rattle.atomic_table.specs.Table.{State}
-use Rattle.work_pool.specs.Counts.{total, below}
+use Rattle.list_sums.specs.Counts.{total, below}
 use Rattle.work_pool.specs.Views.{has_number, room_of, held_of, past_of}
 use Rattle.work_pool.specs.declared.view.View.{View}
 

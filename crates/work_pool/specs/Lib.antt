@@ -1,4 +1,3 @@
-pub mod Counts
 pub mod Views
 pub mod Claimed
 pub mod Steps

@@ -2,7 +2,7 @@
 use Rattle.std.specs.Prelude.{◌≡◌, ℕ, ◌+◌, ◌-◌, ◌<◌, ◌≤◌, max, All, List, [], ◌∷◌, ◌++◌, Option, Some, None}
 use Rattle.atomic_table.specs.Seated.{TableId}
 use Rattle.atomic_table.specs.declared.shared.Seat.{Seat}
-use Rattle.work_pool.specs.Counts.{below, times}
+use Rattle.list_sums.specs.Counts.{below, times}
 use Rattle.work_pool.specs.declared.view.View.{View}
 
 -- which claims they are, and how many numbers there are: 0 up to, and without, the count

@@ -1,7 +1,7 @@
 -- What each step of the claims tells the seat that makes it: the seat afterwards, from the seat before and the number found.
 use Rattle.std.specs.Prelude.{◌≡◌, ℕ, ◌+◌, ◌<◌, ◌≤◌}
 use Rattle.atomic_table.specs.Table.{Me, Step}
-use Rattle.work_pool.specs.Counts.{below, times, Once}
+use Rattle.list_sums.specs.Counts.{below, times, Once}
 use Rattle.work_pool.specs.Views.{looking, claiming, passing}
 use Rattle.work_pool.specs.declared.view.View.{View}
 

@@ -1,6 +1,6 @@
 -- A view read in numbers, and what each step makes of it.
 use Rattle.std.specs.Prelude.{ℕ, ◌+◌, ◌-◌, max, [], ◌∷◌, ◌++◌}
-use Rattle.work_pool.specs.Counts.{times}
+use Rattle.list_sums.specs.Counts.{times}
 use Rattle.work_pool.specs.declared.view.View.{View}
 
 abbrev pub has_number : ℕ → View → ℕ

@@ -1,5 +1,5 @@
 ghost use Rattle.std.specs.Prelude.{◌≡◌, ◌<◌, IsOk, IfOk};
-ghost use Rattle.work_pool.specs.Counts.{Once};
+ghost use Rattle.list_sums.specs.Counts.{Once};
 ghost use Rattle.work_pool.specs.Seats.{first_seat, Draws, splitting, split_off, joining};
 
 use crate::rule::{ClaimRule, Divide, Draw, Look, Merge, Settle};

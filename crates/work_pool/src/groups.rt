@@ -1,19 +1,24 @@
 // Lists cut into runs of neighbours, and results put together again.
 ghost use Rattle.std.specs.Prelude.{◌≡◌, ◌<◌, ◌≤◌, length, IfOk};
-ghost use Rattle.work_pool.specs.Groups.{together, gathered, AreOk};
+ghost use Rattle.work_pool.specs.Groups.{together, run_count, share, AreWithin, gathered, AreOk};
 
 use std::alloc::{AllocError, Global};
 
-/// So many runs of neighbours, the last run first. Their lengths differ by 1 at most.
+/// A run of neighbours for each thread, or for each item where these are fewer, the last run first. No run is
+/// longer than an even share, rounded up.
+#[tactic(auto, using(crate::proofs::Shares::shares_cover))]
 pub fn grouped<T: Drop>(
     alloc: Global,
     mut items: Vec<T>,
-    count: usize,
+    threads: usize,
 ) -> Result<Vec<Vec<T>>, AllocError>
-    requires { 0 < count }
+    requires { 0 < threads }
     ensures items { IfOk result (λ groups. together groups.items ≡ items.items) }
-    ensures count { IfOk result (λ groups. length groups.items ≡ count) }
+    ensures count { IfOk result (λ groups. length groups.items ≡ run_count (length items.items) threads) }
+    ensures even { IfOk result (λ groups.
+        AreWithin (share (length items.items) (run_count (length items.items) threads)) groups.items) }
 {
+    let count = threads.min(items.len().max(1));
     let mut groups = Vec::with_capacity(alloc, count)?;
     let mut left = count;
     while left > 1 {

@@ -6,11 +6,10 @@ mod groups;
 mod jobs;
 mod rule;
 mod run;
+mod side;
 mod view;
 
 pub use claims::{ClaimSeat, Claims};
 pub use jobs::{Job, WaitingJob};
 pub use run::{run_all, run_waiting};
-
-#[cfg(test)]
-mod tests;
+pub use side::STACK_SIZE;

@@ -3,6 +3,7 @@ ghost use Rattle.std.specs.List.{AllZip};
 
 use crate::groups::{grouped, put_together};
 use crate::jobs::{Job, WaitingJob};
+use crate::side::run_side_by_side;
 use std::alloc::{AllocError, Global};
 use std::sync::Wait;
 use std::thread;
@@ -34,23 +35,6 @@ where
     Ok(done)
 }
 
-// Runs each job, one after another.
-fn run_waiting_in_turn<J: WaitingJob + Drop, R: Wait>(
-    rt: &R,
-    alloc: Global,
-    jobs: Vec<J>,
-) -> Result<Vec<J::Out>, AllocError>
-where
-    J::Out: Drop,
-    ensures { IfOk result (λ done. AllZip J.promise jobs.items done.items) }
-{
-    let mut done = Vec::with_capacity(alloc, jobs.len())?;
-    for job in jobs {
-        done.push(job.run(rt))?;
-    }
-    Ok(done)
-}
-
 /// Runs each job once, side by side where threads can be had, in at most as many as there are processors and
 /// at most 64, and gives the results in the jobs' order. Where memory is wanting some jobs may not have run.
 pub fn run_all<J: Job + Send + Drop, R: Threads + Sync>(
@@ -62,8 +46,7 @@ where
     J::Out: Send + Drop,
     ensures { IfOk result (λ done. AllZip J.promise jobs.items done.items) }
 {
-    let count = processors(rt).min(jobs.len().max(1));
-    let groups = grouped(alloc, jobs, count)?;
+    let groups = grouped(alloc, jobs, processors(rt))?;
     let parts = thread::map_vec(
         rt,
         groups,
@@ -75,7 +58,8 @@ where
 }
 
 /// Runs each job once, as `run_all` does, and the jobs may wait, for one another too: up to 64 jobs have a
-/// thread each, where threads can be had.
+/// thread each, where threads can be had, with a stack of [`STACK_SIZE`](crate::STACK_SIZE) bytes. The jobs for
+/// which no thread can be had run in this one, once the threads are started.
 pub fn run_waiting<J: WaitingJob + Send + Drop, R: Threads + Wait + Sync>(
     rt: &R,
     alloc: Global,
@@ -85,14 +69,7 @@ where
     J::Out: Send + Drop,
     ensures { IfOk result (λ done. AllZip J.promise jobs.items done.items) }
 {
-    let count = THREADS.min(jobs.len().max(1));
-    let groups = grouped(alloc, jobs, count)?;
-    let parts = thread::map_vec(
-        rt,
-        groups,
-        &|group: Vec<J>| -> Result<Vec<J::Out>, AllocError>
-            ensures { IfOk result (λ done. AllZip J.promise group.items done.items) }
-        { run_waiting_in_turn(rt, alloc, group) },
-    )?;
+    let groups = grouped(alloc, jobs, THREADS)?;
+    let parts = run_side_by_side(rt, alloc, groups)?;
     put_together(alloc, parts)
 }

@@ -75,7 +75,7 @@ Ends e.BadInput words before after =
     ⊎ HasStopped (too_long (asked_of words)) (HasReadPast (limit_of (asked_of words))) words before after
 Ends e.ReadFault words before after = HasStopped (codes "read fault") (HasFailedRead (limit_of (asked_of words))) words before after
 Ends e.Memory words before after =
-    HasWorked e.Memory words before after ⊎ HasStopped (codes "memory") HasReadSome words before after
+    HasWorked e.Memory words before after ⊎ HasStopped (codes "memory") (HasReadSome (limit_of (asked_of words))) words before after
 
 -- the status of a run that writes this output
 abbrev pub output_status : Output → ℕ

@@ -4,7 +4,7 @@ use Rattle.std.proofs.Math.ListN.{drop_of_length-le}
 use Rattle.std.specs.List.{slice_get}
 use Rattle.std.specs.Option.{option_or}
 use Rattle.pp_tree.specs.Tables.{Entries}
-use Rattle.compile_core.specs.Forms.{node_line, first_node}
+use Rattle.compile_core.specs.Steps.{node_line, first_node}
 
 abbrev pub line_at : Entries → ℕ → Option ℕ
 line_at es i = option_and_then (λ e. node_line e.1) (slice_get es i)

@@ -11,7 +11,7 @@ use Rattle.std.specs.List.{slice_get, cons_option}
 use Rattle.pp_values.specs.Rising.{text_cmp}
 use Rattle.res_core.specs.declared.exported.Exported.{Exported}
 use Rattle.res_core.specs.declared.export_set.ExportSet.{ExportSet}
-use Rattle.compile_core.specs.declared.form.Collector.{Collector}
+use Rattle.compile_core.specs.declared.step.Collector.{Collector}
 use Rattle.export_store.specs.declared.export_place.ExportPlace.{ExportPlace}
 use Rattle.export_store.specs.ExportQueries.{Placed, placed, all_placed, exports_of, is_found, places_of, found}
 use Rattle.export_store.specs.Rows.{Entry}

@@ -2,7 +2,7 @@
 use Rattle.std.proofs.Common.{◌≡◌, ℕ, suc, ◌+◌, ◌<◌, ◌≤◌, List, [], ◌∷◌, ◌++◌, length, get_or, drop, sym, ap, add-one, drop-cons}
 use Rattle.std.proofs.Math.ListN.{drop_of_length-le}
 use denote.Ref.{Bor}
-use Rattle.compile_core.specs.declared.form.Collector.{Collector}
+use Rattle.compile_core.specs.declared.step.Collector.{Collector}
 use Rattle.export_store.specs.Sets.{Sets}
 use Rattle.compile_core.specs.DeclarationViews.{collectors_at}
 use Rattle.compile_core.specs.Imports.{found_by, all_found}

@@ -10,7 +10,7 @@ use Rattle.pp_tree.specs.declared.resource.Resource.{Resource}
 use Rattle.pp_tree.specs.declared.resource.ResourceForm.{ResourceForm}
 use Rattle.pp_tree.specs.declared.resource.ResourceForm.TheVariants as marked
 use Rattle.pp_tree.specs.declared.resource.Setting.{Setting}
-use Rattle.compile_core.specs.declared.form.Notify.{Notify}
+use Rattle.compile_core.specs.declared.step.Notify.{Notify}
 use Rattle.compile_core.specs.declared.notifies.Given.{Given}
 use Rattle.compile_core.specs.Parts.{only, written_text, written_title}
 use Rattle.compile_core.specs.Places.{main_place}
@@ -58,7 +58,7 @@ notify_titled exported b title = option_map (notify_with exported b.at title) (g
 abbrev pub notify_in : Bool → Body Expr → Option Notify
 notify_in exported b = option_and_then (notify_titled exported b) (written_title b.title)
 
-abbrev pub is_exported : ResourceForm → Option Bool
+abbrev pub is_exported : ResourceStep → Option Bool
 is_exported marked.Plain = Some false
 is_exported marked.Virtual = None
 is_exported marked.Exported = Some true

@@ -18,7 +18,7 @@ use Rattle.site_commands.specs.declared.ending.Ending.TheVariants as e
 use Rattle.site_commands.specs.Outputs.{IsOutput, IsBundleOutput, HasRun, manifest_output, is_refusal, sequence_text}
 use Rattle.site_commands.specs.Endings.{Ends, IsComplaint, IsCommand, IsSettled, status_for, output_status, outcome_status, bundle_status}
 use Rattle.site_commands.specs.Limits.{limit_of}
-use Rattle.site_commands.specs.Puppet.{puppet, listed}
+use Rattle.compile_core.specs.Puppet.{puppet, listed}
 use Rattle.site_sequence.specs.SequenceLaws.{is_memory}
 use Rattle.site_commands.specs.Status.{status_of}
 use Rattle.site_commands.specs.Words.{CommandLine, manifest, sequence, usage, bad_word, asked_of}

@@ -18,7 +18,7 @@ use Rattle.site_commands.specs.Outputs.{output_of, manifest_output, sequence_tex
 use Rattle.site_commands.specs.declared.output.Output.{Output}
 use Rattle.site_commands.specs.declared.output.Output.TheVariants as a
 use Rattle.site_commands.specs.Limits.{limit_of}
-use Rattle.site_commands.specs.Puppet.{puppet, listed}
+use Rattle.compile_core.specs.Puppet.{puppet, listed}
 use Rattle.site_sequence.specs.Sequence.{Outcome, outcome_of}
 use Rattle.site_commands.specs.Words.{CommandLine, manifest, sequence, usage, bad_word, asked_of}
 use Rattle.site_commands.specs.Work.{Works, SaysOnly, too_long}
@@ -75,7 +75,7 @@ Ends e.BadInput words before after =
     ⊎ HasStopped (too_long (asked_of words)) (HasReadPast (limit_of (asked_of words))) words before after
 Ends e.ReadFault words before after = HasStopped (codes "read fault") (HasFailedRead (limit_of (asked_of words))) words before after
 Ends e.Memory words before after =
-    HasWorked e.Memory words before after ⊎ HasStopped (codes "memory") HasReadSome words before after
+    HasWorked e.Memory words before after ⊎ HasStopped (codes "memory") (HasReadSome (limit_of (asked_of words))) words before after
 
 -- the status of a run that writes this output
 abbrev pub output_status : Output → ℕ

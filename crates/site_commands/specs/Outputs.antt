@@ -3,6 +3,7 @@ use Rattle.std.specs.Prelude.{◌≡◌, ℕ, ◌+◌, if◌then◌else◌, Bool
 use Rattle.std.specs.List.{list_any}
 use Rattle.std.specs.Str.{is_utf8}
 use Rattle.pp_values.specs.declared.fault.Fault.{Fault}
+use Rattle.pp_values.specs.declared.place.TheConstants.{MAIN_MANIFEST}
 use Rattle.res_core.specs.Asked as requests
 use Rattle.res_core.specs.declared.catalog.Catalog.{Catalog}
 use Rattle.res_core.specs.declared.export_set.ExportSet.{ExportSet}
@@ -21,11 +22,17 @@ use Rattle.site_docs.specs.JournalText.{journal_text}
 use Rattle.site_docs.specs.ReplyText.{reply_line}
 use Rattle.site_commands.specs.declared.output.Output.{Output}
 use Rattle.site_commands.specs.declared.output.Output.TheVariants as a
-use Rattle.site_commands.specs.Puppet.{puppet, listed, manifest_meaning}
+use Rattle.compile_core.specs.Puppet.{puppet, listed, manifest_meaning}
 use Rattle.site_sequence.specs.Sequence.{AnsweredInTurn}
 use Rattle.site_sequence.specs.SequenceLaws.{is_memory}
 use Rattle.site_commands.specs.Words.{CommandLine, manifest, sequence, usage, bad_word}
 use Rattle.site_commands.specs.World.{line}
+
+-- the line that tells why an input is not what a command reads
+abbrev pub refusal_line : Refusal → List ℕ
+refusal_line not_json = line (codes "B1")
+refusal_line (bad_shape path) = line (codes "B2 " ++ path)
+refusal_line (too_large path) = line (codes "B3 " ++ path)
 
 -- `manifest`: what the meaning of a manifest is told by
 abbrev pub output_meant : Result (Catalog × ExportSet) Fault → Output
@@ -34,7 +41,7 @@ output_meant (Err fault) = a.Fault (line (fault_text fault))
 
 abbrev pub manifest_output : List ℕ → List ℕ → Output
 manifest_output node input =
-    if is_utf8 input then output_meant (manifest_meaning node input) else a.BadInput (line (codes "B2 manifests/site.pp"))
+    if is_utf8 input then output_meant (manifest_meaning node input) else a.BadInput (refusal_line (bad_shape MAIN_MANIFEST.now))
 
 -- `sequence`: whether a reply tells that what was asked for can't be had
 abbrev pub is_refusal : {C F : Type 0} → ReplyOf C F → Bool
@@ -68,12 +75,6 @@ pub record HasRun (output : Output) (bundle : Bundle) : Type 0 where
   pub in_turn : AnsweredInTurn puppet listed MOST_ENTRIES (opens bundle.site ∷ []) bundle.requests replies history
   pub legal : Legal puppet history
   pub is : output ≡ output_of replies (sequence_text bundle.requests replies history)
-
--- the line that tells why bytes are no bundle
-abbrev pub refusal_line : Refusal → List ℕ
-refusal_line not_json = line (codes "B1")
-refusal_line (bad_shape path) = line (codes "B2 " ++ path)
-refusal_line (too_large path) = line (codes "B3 " ++ path)
 
 abbrev pub IsBundleOutput : Output → Result Bundle Refusal → Type 0
 IsBundleOutput output (Ok bundle) = HasRun output bundle

@@ -1,5 +1,6 @@
 -- The work of a command on an input that was read, and what each of its endings means.
-use Rattle.std.specs.Prelude.{◌≡◌, ◌⊎◌, ℕ, List, codes}
+use Rattle.std.specs.Prelude.{◌≡◌, ◌⊎◌, ℕ, List, ◌++◌, codes}
+use Rattle.pp_values.specs.declared.place.TheConstants.{MAIN_MANIFEST}
 use Rattle.site_io.specs.Stream.{Stream, HasWritten}
 use Rattle.site_io.specs.declared.transfer.ReadStop.{ReadStop}
 use Rattle.site_io.specs.declared.transfer.ReadStop.TheVariants as r
@@ -49,7 +50,7 @@ Works ending asked input out out' err err' = Serves ending asked input out out' 
 
 -- the line for an input that is longer than the command reads
 abbrev pub too_long : CommandLine → List ℕ
-too_long (manifest node) = codes "B3 manifests/site.pp"
+too_long (manifest node) = codes "B3 " ++ MAIN_MANIFEST.now
 too_long sequence = codes "B3 bundle"
 too_long usage = codes ""
 too_long (bad_word word) = codes ""

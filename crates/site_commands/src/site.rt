@@ -16,6 +16,7 @@ use crate::manifest_output::manifest_output;
 use crate::say::{say, say_word};
 use crate::words::{Command, Complaint, read_words};
 use pp_values::memory::Memory;
+use pp_values::place::MAIN_MANIFEST;
 use site_bundle::limits::{MOST_BUNDLE_BYTES, MOST_FILE_BYTES};
 use site_io::{Bytes, ReadStop, Sink, Source, read_all, write_all};
 use std::alloc::Global;
@@ -177,9 +178,10 @@ fn refuse_long<E: Sink>(command: Command<'_>, err: &mut E) -> Ending
     ensures line { Says (line (too_long (asked_by command.entry))) (E.stream err.old) (E.stream err.new) }
 {
     match command {
-        Command::Manifest { .. } => refuse(err, Ending::BadInput, "B3 manifests/site.pp\n"),
-        Command::Sequence => refuse(err, Ending::BadInput, "B3 bundle\n"),
+        Command::Manifest { .. } => say_word(err, "B3 ", MAIN_MANIFEST),
+        Command::Sequence => say_word(err, "B3 ", "bundle"),
     }
+    Ending::BadInput
 }
 
 /// Says why the run ends so, as far as the error stream takes it.

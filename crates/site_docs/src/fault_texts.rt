@@ -28,7 +28,7 @@ fn plain_line(alloc: Global, fault: &Fault) -> Result<String, Memory>
     let mut line = String::new(alloc);
     write_head(&mut line, fault)?;
     let mut rest = String::new(alloc);
-    write_details(&mut rest, &fault.what)?;
+    write_details(&mut rest, fault.what.get())?;
     write_spaced(&mut line, rest.as_str())?;
     Ok(line)
 }
@@ -38,11 +38,11 @@ fn write_head(out: &mut String, fault: &Fault) -> Result<(), Memory>
     ensures { OnOk result (string_bytes out.new ≡ string_bytes out.old
         ++ (codes "F" ++ (decimal (number_of fault.now.what) ++ (codes " " ++ (place_text fault.now.at ++ (codes " " ++ name_of fault.now.what)))))) }
 {
-    let number = fault_number(&fault.what);
+    let number = fault_number(fault.what.get());
     write!(out, "F{number} ")?;
     write_place(out, &fault.at)?;
     out.push_str(" ")?;
-    out.push_str(fault_name(&fault.what))?;
+    out.push_str(fault_name(fault.what.get()))?;
     Ok(())
 }
 

@@ -8,10 +8,8 @@ use Rattle.res_core.specs.declared.export_set.ExportSet.{ExportSet}
 use Rattle.site_core.specs.Meaning.{Meaning}
 use Rattle.site_core.specs.Events.{Event, opens, publishes, deactivates}
 use Rattle.site_core.specs.declared.reply.ReplyOf.TheVariants as r
-use Rattle.site_commands.specs.Outputs.{answer_of}
 use Rattle.site_sequence.specs.Sequence.{turn, turn_for, outcome_of}
 use Rattle.site_sequence.specs.SequenceLaws.{are_made_in_turn}
-use Rattle.site_commands.specs.declared.output.Output.TheVariants as a
 
 -- A site is a number, which is each catalog. Node `bad` has a fault, and each other one exports nothing. The site lists node `a`.
 
@@ -80,15 +78,3 @@ three = refl
 
 made_from_too_few : are_made_in_turn 0 (opens 5 ∷ published 0 1 (codes "a") ∷ published 1 1 (codes "a") ∷ []) ≡ false
 made_from_too_few = refl
-
-abbrev served_and : r.the_data ℕ (List ℕ) → List (r.the_data ℕ (List ℕ))
-served_and reply = r.Served 1 1 5 ∷ reply ∷ []
-
-refusals : (answer_of (served_and (r.Refused 2 (codes "bad"))) (codes "x") ≡ a.Refused (codes "x"))
-    × (answer_of (served_and (r.HistoryFull 2)) (codes "x") ≡ a.Refused (codes "x"))
-    × (answer_of (served_and (r.SeenAhead 2)) (codes "x") ≡ a.Refused (codes "x"))
-    × (answer_of (served_and (r.UnknownNode 2)) (codes "x") ≡ a.Refused (codes "x"))
-    × (answer_of (served_and (r.Deactivated 2)) (codes "x") ≡ a.Done (codes "x"))
-    × (answer_of (served_and r.Memory) (codes "x") ≡ a.Short (codes "x"))
-    × (answer_of (r.UnknownNode 1 ∷ served_and r.Memory) (codes "x") ≡ a.Short (codes "x"))
-refusals = (refl, refl, refl, refl, refl, refl, refl)

@@ -1,6 +1,7 @@
 use Rattle.std.proofs.Common.{sym, ap, subst, ◌∙◌}
 use Rattle.pp_parser.specs.Manifest.{file_of}
-use Rattle.compile_core.specs.Meaning.{meaning, meaning_if_read, Answers}
+use Rattle.compile_core.specs.Meaning.{meaning, meaning_if_read}
+use Rattle.pp_values.specs.Answers.{Answers}
 use Rattle.compile_core.proofs.compiling.compile.Goals as goal
 
 pub returns : goal.returns

@@ -1,9 +1,9 @@
 use Rattle.std.proofs.Common.{sym, ap, subst, ◌∙◌}
-use Rattle.compile_core.specs.Declarations.{and_then, in_turn, collectors}
+use Rattle.compile_core.specs.Declarations.{collectors}
 use Rattle.compile_core.specs.DeclarationViews.{collectors_at}
-use Rattle.compile_core.specs.Forms.{first_node}
+use Rattle.compile_core.specs.Steps.{first_node}
 use Rattle.compile_core.specs.Imports.{import_one, all_found}
-use Rattle.compile_core.specs.Meaning.{Answers}
+use Rattle.pp_values.specs.Answers.{Answers, and_then, in_turn}
 use Rattle.compile_core.proofs.ImportLaws.{by_title}
 use Rattle.compile_core.proofs.compiling.declarations_of.Goals as goal
 

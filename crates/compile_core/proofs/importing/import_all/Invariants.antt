@@ -1,6 +1,6 @@
 -- To go on with the collectors from the index on gives the whole.
 use Rattle.std.proofs.Common.{◌≡◌, drop}
-use Rattle.compile_core.specs.Declarations.{in_turn}
+use Rattle.pp_values.specs.Answers.{in_turn}
 use Rattle.compile_core.specs.DeclarationViews.{collectors_at}
 use Rattle.compile_core.specs.Imports.{all_found}
 use Rattle.compile_core.specs.ImportPlaces.{import_by_title}

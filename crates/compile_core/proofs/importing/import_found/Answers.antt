@@ -1,6 +1,6 @@
 use Rattle.std.proofs.Common.{subst}
-use Rattle.compile_core.specs.Declarations.{in_turn}
-use Rattle.compile_core.specs.Meaning.{Answers}
+
+use Rattle.pp_values.specs.Answers.{Answers, in_turn}
 use Rattle.compile_core.specs.ImportPlaces.{import_by_title}
 use Rattle.compile_core.proofs.PlaceLemmas.{found_items}
 use Rattle.compile_core.proofs.importing.import_found.Goals as goal

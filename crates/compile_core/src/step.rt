@@ -1,18 +1,18 @@
 //! What a statement of the main manifest is to the compiler.
-use pp_tree::items::Items;
+use pp_values::Items;
 use pp_values::place::Place;
 use pp_values::text::Text;
 
 /// A statement that is evaluated, or the line of one that is not yet.
 #[derive(Drop)]
-pub enum Form {
+pub enum Step {
     Notify(Notify),
     Collector(Collector),
     NotBuilt(u32),
 }
 
-/// The forms of the statements of a file, in its order.
-pub type Forms = Items<Form>;
+/// The steps of the statements of a file, in its order.
+pub type Steps = Items<Step>;
 
 /// `notify { 'title': message => 'text', tag => 'word' }`, or the same behind `@@`. Its place is that of its title.
 #[derive(Drop)]

@@ -19,12 +19,12 @@ use Rattle.pp_tree.specs.declared.statement.Operand.TheVariants as operand
 use Rattle.pp_tree.specs.declared.statement.Statement.TheVariants as statement
 use Rattle.pp_tree.specs.declared.table.DefinitionName.TheVariants as name
 use Rattle.pp_tree.specs.Building.{expr_at, chain, link, words, resource, body, setting, splat, comparison, name_at, class_of, define_of, node_of}
-use Rattle.compile_core.specs.declared.form.Form.TheVariants as form
-use Rattle.compile_core.specs.declared.form.Notify.{Notify}
+use Rattle.compile_core.specs.declared.step.Step.TheVariants as step
+use Rattle.compile_core.specs.declared.step.Notify.{Notify}
 use Rattle.compile_core.specs.Parts.{text_by, written_text, not_empty, written_title}
 use Rattle.compile_core.specs.Notifies.{nothing_given, with_text, with_attribute, given_from, notify_titled, notify_of}
 use Rattle.compile_core.specs.Collectors.{tag_by, collector_from}
-use Rattle.compile_core.specs.Forms.{built_by, built, form_by, form_of, first_node}
+use Rattle.compile_core.specs.Steps.{built_by, built, step_by, step_of, first_node}
 use Rattle.compile_core.specs.Places.{main_place}
 
 -- ---- whole trees
@@ -61,12 +61,12 @@ is_tagged =
     (option_and_then (λ now. Some now) (option_and_then (with_text nothing_given (codes "tag")) o))) (says (codes "web"))
 
 -- `@@notify { 'x': tag => 'web' }`, at the line of its title
-exported : form_of (statement.Chain (chain (operand.Resource (of_body marked.Exported (codes "notify") tagged)) [] 1)) ≡ form.Notify notify_x
-unfolding form_of built
+exported : step_of (statement.Chain (chain (operand.Resource (of_body marked.Exported (codes "notify") tagged)) [] 1)) ≡ step.Notify notify_x
+unfolding step_of built
 exported =
-    ap form_by (statement.outs-Chain (chain (operand.Resource (of_body marked.Exported (codes "notify") tagged)) [] 1))
-    ∙ ap (λ o. unwrap_or (built_by o) (form.NotBuilt 1)) (operand.outs-Resource (of_body marked.Exported (codes "notify") tagged))
-    ∙ ap (λ o. unwrap_or (option_map form.Notify o) (form.NotBuilt 1)) is_tagged
+    ap step_by (statement.outs-Chain (chain (operand.Resource (of_body marked.Exported (codes "notify") tagged)) [] 1))
+    ∙ ap (λ o. unwrap_or (built_by o) (step.NotBuilt 1)) (operand.outs-Resource (of_body marked.Exported (codes "notify") tagged))
+    ∙ ap (λ o. unwrap_or (option_map step.Notify o) (step.NotBuilt 1)) is_tagged
 
 -- ---- resources
 
@@ -107,8 +107,8 @@ collectors = (refl, refl, refl, refl, says (codes "web"), refl, refl, λ q. refl
 
 -- an arrow, a statement function, an operand of another sort
 others :
-    (form_by (Statement-F.Chain (chain (operand.Expr (said (codes "a"))) (link arrow.InEdge (operand.Expr (said (codes "b"))) ∷ []) 3)) ≡ form.NotBuilt 3)
-    × (form_by (Statement-F.Words (words (codes "include") (said (codes "a") ∷ []) 4)) ≡ form.NotBuilt 4)
+    (step_by (Statement-F.Chain (chain (operand.Expr (said (codes "a"))) (link arrow.InEdge (operand.Expr (said (codes "b"))) ∷ []) 3)) ≡ step.NotBuilt 3)
+    × (step_by (Statement-F.Words (words (codes "include") (said (codes "a") ∷ []) 4)) ≡ step.NotBuilt 4)
     × (built_by (Operand-F.Expr (said (codes "a"))) ≡ None)
 others = (refl, refl, refl)
 

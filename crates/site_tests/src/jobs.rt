@@ -214,13 +214,19 @@ struct Digger {
     depth: u32,
 }
 
-/// The depth, counted by calls within calls.
-fn dug(depth: u32) -> u64 {
-    let mut frame = [0u8; 1024];
-    let place = depth as usize % 1024;
-    frame[place] = 1;
-    let below = if depth == 0 { 0 } else { dug(depth - 1) };
-    below.wrapping_add(frame[place] as u64)
+/// The bytes of a level.
+const FRAME: usize = 1024;
+
+/// The levels from this one down, where each counts a byte that the level above it left on the stack.
+fn dug(depth: u32, above: &[u8; FRAME]) -> u64 {
+    let mut frame = [0; FRAME];
+    frame[depth as usize % FRAME] = 1;
+    let below = if depth == 0 {
+        0
+    } else {
+        dug(depth - 1, &frame)
+    };
+    below.wrapping_add(above[(depth as usize + 1) % FRAME] as u64)
 }
 
 impl WaitingJob for Digger {
@@ -231,7 +237,7 @@ impl WaitingJob for Digger {
     ghost promise = { λ _ _. ⊤ };
 
     fn run<R: Wait>(self, _rt: &R) -> u64 {
-        dug(self.depth)
+        dug(self.depth, &[1; FRAME])
     }
 }
 

@@ -240,12 +240,12 @@ fn woken<R: Threads + Wait + Clock + Sync>(rt: &R, alloc: Global) -> Result<Log,
     let (second, mut first) = thread::join(
         rt,
         || -> Pass<Log>
-            requires { IsShare lock.now 1 second }
-            ensures { IsShare lock.entry.now 1 result }
+            requires { IsShare lock 1 second }
+            ensures { IsShare lock 1 result }
         { write_lines(rt, &lock, second, 1) },
         || -> Pass<Log>
-            requires { (first.lock ≡ lock.now) × (first.turn ≡ true) × (first.room + held first ≡ 65535) × (turn.value.lines.items ≡ first.front) }
-            ensures { IsShare lock.entry.now 65535 result }
+            requires { (first.lock ≡ lock) × (first.turn ≡ true) × (first.room + held first ≡ 65535) × (turn.value.lines.items ≡ first.front) }
+            ensures { IsShare lock 65535 result }
         { give_late(rt, &lock, first, turn) },
     );
     lock.join(&mut first, second);

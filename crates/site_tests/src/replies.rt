@@ -98,7 +98,7 @@ fn catalogs_and_faults(rt: HostRuntime) -> Result<(), Fail> {
 
 /// A reply that has numbers alone.
 #[derive(Clone, Copy)]
-enum Plain {
+enum NumberReply {
     Unknown(u32),
     Ahead(u32),
     Full(u32),
@@ -106,39 +106,39 @@ enum Plain {
     Memory,
 }
 
-fn plain(reply: Plain) -> Reply<PuppetLanguage> {
+fn reply_of(reply: NumberReply) -> Reply<PuppetLanguage> {
     match reply {
-        Plain::Unknown(k) => ReplyOf::UnknownNode { k },
-        Plain::Ahead(length) => ReplyOf::SeenAhead { length },
-        Plain::Full(length) => ReplyOf::HistoryFull { length },
-        Plain::Deactivated(entry) => ReplyOf::Deactivated { entry },
-        Plain::Memory => ReplyOf::Memory,
+        NumberReply::Unknown(k) => ReplyOf::UnknownNode { k },
+        NumberReply::Ahead(length) => ReplyOf::SeenAhead { length },
+        NumberReply::Full(length) => ReplyOf::HistoryFull { length },
+        NumberReply::Deactivated(entry) => ReplyOf::Deactivated { entry },
+        NumberReply::Memory => ReplyOf::Memory,
     }
 }
 
-fn plain_says(
+fn other_says(
     alloc: Global,
     index: u32,
     node: &str,
-    reply: Plain,
+    reply: NumberReply,
     want: &str,
 ) -> Result<bool, Memory> {
-    reply_says(alloc, index, node, &plain(reply), want)
+    reply_says(alloc, index, node, &reply_of(reply), want)
 }
 
-const PLAIN: [(u32, &str, Plain, &str); 6] = [
-    (0, "z", Plain::Unknown(1), "{\"k\":1,\"reply\":0,\"unknown\":\"z\"}\n"),
-    (1, "a", Plain::Ahead(1), "{\"length\":1,\"reply\":1,\"seen\":2}\n"),
-    (4294967295, "a", Plain::Full(3), "{\"full\":3,\"reply\":4294967295}\n"),
-    (5, "a", Plain::Memory, "{\"memory\":true,\"reply\":5}\n"),
-    (2, "-a", Plain::Deactivated(9), "{\"entry\":9,\"reply\":2}\n"),
-    (2, "-a", Plain::Full(9), "{\"full\":9,\"reply\":2}\n"),
+const OTHERS: [(u32, &str, NumberReply, &str); 6] = [
+    (0, "z", NumberReply::Unknown(1), "{\"k\":1,\"reply\":0,\"unknown\":\"z\"}\n"),
+    (1, "a", NumberReply::Ahead(1), "{\"length\":1,\"reply\":1,\"seen\":2}\n"),
+    (4294967295, "a", NumberReply::Full(3), "{\"full\":3,\"reply\":4294967295}\n"),
+    (5, "a", NumberReply::Memory, "{\"memory\":true,\"reply\":5}\n"),
+    (2, "-a", NumberReply::Deactivated(9), "{\"entry\":9,\"reply\":2}\n"),
+    (2, "-a", NumberReply::Full(9), "{\"full\":9,\"reply\":2}\n"),
 ];
 
 #[test]
 fn other_replies(rt: HostRuntime) -> Result<(), Fail> {
-    for (index, node, reply, want) in PLAIN {
-        assert!(rt; plain_says(rt.alloc(), index, node, reply, want)?, "{want}");
+    for (index, node, reply, want) in OTHERS {
+        assert!(rt; other_says(rt.alloc(), index, node, reply, want)?, "{want}");
     }
     Ok(())
 }

@@ -1,5 +1,5 @@
 -- What stands at the places that a query finds.
-use Rattle.std.proofs.Common.{◌≡◌, ℕ, ◌+◌, Bool, true, false, ◌&&◌, T, cond, List, [], ◌∷◌, ◌++◌, length, filter, Option, None, Some, option_map, option_and_then, refl, sym, ap, subst, ◌∙◌, append_assoc, length-append}
+use Rattle.std.proofs.Common.{◌≡◌, ℕ, ◌+◌, ◌<◌, Bool, true, false, ◌&&◌, T, cond, List, [], ◌∷◌, ◌++◌, length, get_or, drop, filter, Option, None, Some, option_map, option_and_then, refl, sym, ap, subst, ◌∙◌, append_assoc, length-append}
 use Rattle.std.specs.FinMap.{entries, find, get, get-entries, is_sorted, entries_sorted}
 use Rattle.std.specs.FinMap.Entries.{below_all}
 use Rattle.std.specs.declared.cmp.Ordering.{Ordering}
@@ -19,6 +19,7 @@ use Rattle.export_store.specs.Sets.{Sets}
 use Rattle.compile_core.specs.Declarations.{kind}
 use Rattle.compile_core.specs.Imports.{found_by}
 use Rattle.compile_core.specs.ImportPlaces.{placed_at, all_placed_at}
+use Rattle.compile_core.proofs.Statements.{at_front}
 
 -- each of these stands at its place
 abbrev pub StandAt : Sets → List Placed → Type 0
@@ -101,3 +102,7 @@ append_option (Some x) xs = refl
 
 pub at_places : (sets : Sets) (all : List ExportPlace) (p : ExportPlace) (ps : List ExportPlace) → all ≡ p ∷ ps → all_placed_at sets all ≡ all_placed_at sets (p ∷ []) ++ all_placed_at sets ps
 at_places sets all p ps parts = ap (all_placed_at sets) parts ∙ append_option (placed_at sets p) (all_placed_at sets ps)
+
+pub places_from : (sets : Sets) (all : List ExportPlace) (i : ℕ) (p : ExportPlace) → i < length all → p ≡ get_or all i p →
+    all_placed_at sets (drop i all) ≡ all_placed_at sets (p ∷ []) ++ all_placed_at sets (drop (i + 1) all)
+places_from sets all i p low is = at_places sets (drop i all) p (drop (i + 1) all) (at_front all i p low is)

@@ -25,7 +25,7 @@ abbrev pub finished : List ℕ → List Collector → Result (List DeclaredNotif
 finished node cs (Ok ds) = Ok (catalog_of node cs ds, exports_of ds)
 finished node cs (Err f) = Err f
 
--- what statements of these forms mean, in a file whose first node definition stands at this line, if there is one
+-- what these steps mean, in a file whose first node definition stands at this line, if there is one
 abbrev pub meaning_of_steps : List Step → Option ℕ → List ℕ → Sets → Result (Catalog × ExportSet) Fault
 meaning_of_steps fs first node sets = finished node (collectors fs) (declarations_of node fs first sets)
 

@@ -1,5 +1,5 @@
 -- Documents, and their texts.
-use Rattle.std.proofs.Common.{◌≡◌, ℕ, true, List, [], ◌∷◌, ◌++◌, None, refl, codes}
+use Rattle.std.proofs.Common.{◌≡◌, ℕ, true, List, [], ◌∷◌, ◌++◌, None, map, refl, codes}
 use Rattle.std.specs.Fmt.{digits}
 use Rattle.serde_json.proofs.OnLiterals.{serde_json_on_literals}
 use Rattle.pp_values.specs.Datum as d
@@ -19,12 +19,24 @@ use Rattle.site_core.specs.declared.reply.ReplyOf.TheVariants.{Served, Refused, 
 use Rattle.site_bundle.specs.SiteView.{SiteView}
 use Rattle.site_docs.specs.CatalogText.{held_object, held_data, edge_data, catalog_object, catalog_data, catalog_text}
 use Rattle.site_docs.specs.FaultText.{plain_line, fault_text}
+use Rattle.site_docs.specs.declared.fault_names.TheConstants.{FAULT_NAMES}
 use Rattle.site_docs.specs.SiteText.{site_object, site_data, site_text}
 use Rattle.site_docs.specs.JournalText.{export_object, export_data, opening_object, publication_object, deactivation_object, count_object, entry_data, entry_lines, journal_text}
 use Rattle.site_docs.specs.ReplyText.{served_text, refused_object, full_object, ahead_object, unknown_object, deactivated_object, memory_object, reply_text, reply_line}
 
 abbrev fault : What → Fault
 fault what = record { at = record { file = codes "m.pp"; line = 7 }; what = what }
+
+-- the names, whole
+names : map (λ name. name.now) FAULT_NAMES ≡
+    codes "Syntax" ∷ codes "UnknownVariable" ∷ codes "Reassigned" ∷ codes "UnknownClass" ∷ codes "UnknownType" ∷
+    codes "UnknownFunction" ∷ codes "WrongArguments" ∷ codes "TypeMismatch" ∷ codes "MissingParameter" ∷ codes "UnknownParameter" ∷
+    codes "BadOperand" ∷ codes "NumberRange" ∷ codes "ZeroDivisor" ∷ codes "Duplicate" ∷ codes "AlreadySet" ∷
+    codes "NoOverrideTarget" ∷ codes "NoRelationTarget" ∷ codes "Cycle" ∷ codes "NoNode" ∷ codes "LookupMissing" ∷
+    codes "LookupLoop" ∷ codes "MergeMismatch" ∷ codes "BadData" ∷ codes "BadInterpolation" ∷ codes "Failed" ∷
+    codes "ClassVirtual" ∷ codes "RoundLimit" ∷ codes "ResourceLimit" ∷ codes "DepthLimit" ∷ codes "SameNamevar" ∷
+    codes "NotBuilt" ∷ []
+names = refl
 
 -- details that are none, or empty; a line feed within; a cycle; an earlier place
 lines : (fault_text (fault Syntax) ≡ codes "F1 m.pp:7 Syntax")

@@ -11,7 +11,7 @@ pub returns : goal.returns
 returns c =
     let sets = c.args.sets.now in
     let node = c.args.node.now in
-    let fs = c.args.forms.now in
+    let fs = c.args.steps.now in
     subst (Answers c.import_all.result)
     (sym (
     ap (λ r. and_then r (λ ds. in_turn import_one ds (all_found sets node (collectors fs)))) c.in_ok-locals.ensures

@@ -144,7 +144,8 @@ fn write_text(out: &mut String, text: &Text) -> Result<(), Memory>
 }
 
 fn write_parameter(out: &mut String, reference: &Reference, name: &Text) -> Result<(), Memory>
-    ensures { OnOk result (string_bytes out.new ≡ string_bytes out.old ++ (reference_text reference.now ++ (codes " " ++ name.now))) }
+    ensures { OnOk result (string_bytes out.new ≡ string_bytes out.old ++
+        (reference_text reference.now ++ (codes " " ++ name.now))) }
 {
     write_reference(out, reference)?;
     out.push_str(" ")?;
@@ -152,7 +153,8 @@ fn write_parameter(out: &mut String, reference: &Reference, name: &Text) -> Resu
 }
 
 fn write_duplicate(out: &mut String, reference: &Reference, earlier: &Place) -> Result<(), Memory>
-    ensures { OnOk result (string_bytes out.new ≡ string_bytes out.old ++ (reference_text reference.now ++ (codes " " ++ place_text earlier.now))) }
+    ensures { OnOk result (string_bytes out.new ≡ string_bytes out.old ++
+        (reference_text reference.now ++ (codes " " ++ place_text earlier.now))) }
 {
     write_reference(out, reference)?;
     out.push_str(" ")?;
@@ -160,7 +162,8 @@ fn write_duplicate(out: &mut String, reference: &Reference, earlier: &Place) -> 
 }
 
 fn write_already_set(out: &mut String, about: &Subject, name: &Text) -> Result<(), Memory>
-    ensures { OnOk result (string_bytes out.new ≡ string_bytes out.old ++ (subject_text about.now ++ (codes " " ++ name.now))) }
+    ensures { OnOk result (string_bytes out.new ≡ string_bytes out.old ++
+        (subject_text about.now ++ (codes " " ++ name.now))) }
 {
     write_subject(out, about)?;
     out.push_str(" ")?;
@@ -168,7 +171,8 @@ fn write_already_set(out: &mut String, about: &Subject, name: &Text) -> Result<(
 }
 
 fn write_two(out: &mut String, later: &Reference, earlier: &Reference) -> Result<(), Memory>
-    ensures { OnOk result (string_bytes out.new ≡ string_bytes out.old ++ (reference_text later.now ++ (codes " " ++ reference_text earlier.now))) }
+    ensures { OnOk result (string_bytes out.new ≡ string_bytes out.old ++
+        (reference_text later.now ++ (codes " " ++ reference_text earlier.now))) }
 {
     write_reference(out, later)?;
     out.push_str(" ")?;
@@ -209,7 +213,8 @@ fn write_links(out: &mut String, references: &[Reference]) -> Result<(), Memory>
 }
 
 fn write_link(out: &mut String, reference: &Reference) -> Result<(), Memory>
-    ensures { OnOk result (string_bytes out.new ≡ string_bytes out.old ++ (codes " -> " ++ reference_text reference.now)) }
+    ensures { OnOk result (string_bytes out.new ≡ string_bytes out.old ++
+        (codes " -> " ++ reference_text reference.now)) }
 {
     out.push_str(" -> ")?;
     write_reference(out, reference)

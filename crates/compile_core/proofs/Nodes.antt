@@ -17,7 +17,8 @@ step (e ∷ es) zero = refl
 step (e ∷ es) (suc i) = step es i
 
 -- what stands at the index is the first, or it is among the rest
-pub node_step : (es : Entries) (i : ℕ) → first_node (drop i es) ≡ option_or (line_at es i) (first_node (drop (i + 1) es))
+pub node_step : (es : Entries) (i : ℕ) → first_node (drop i es) ≡ option_or (line_at es i)
+    (first_node (drop (i + 1) es))
 node_step es i = rw add-one (step es i)
 
 pub no_node : (es : Entries) (i : ℕ) → length es ≤ i → first_node (drop i es) ≡ None

@@ -1,4 +1,5 @@
--- Which statements are evaluated, and what of the others, on small trees. What goes through a whole tree is by the equations that
+-- Which statements are evaluated, and what of the others, on small trees. What goes through a whole tree is by the
+-- equations that
 -- open a tree; the rest computes.
 use Rattle.std.proofs.Common.{◌≡◌, ℕ, true, false, List, [], ◌∷◌, Some, None, option_map, option_and_then, refl, ap, ◌∙◌, codes}
 use Rattle.std.specs.Prelude.{unwrap_or}
@@ -34,7 +35,8 @@ said text = expr_at 1 (Text text)
 
 says : (text : List ℕ) → written_text (said text) ≡ Some text
 unfolding written_text
-says text = ap (λ x. text_by (out-Form x.form)) (out-roll-Expr (record { at = 1; form = Text text })) ∙ ap text_by (outs-Text text)
+says text = ap (λ x. text_by (out-Form x.form)) (out-roll-Expr (record { at = 1; form = Text text }))
+    ∙ ap text_by (outs-Text text)
 
 title_says : (text : List ℕ) → written_title (said text) ≡ not_empty text
 unfolding written_title
@@ -57,15 +59,19 @@ is_tagged : notify_of (of_body marked.Exported (codes "notify") tagged) ≡ Some
 unfolding notify_of given_from
 is_tagged =
     ap (option_and_then (notify_titled true tagged)) (title_says (codes "x"))
-    ∙ ap (λ o. option_map (λ given. record { exported = true; title = codes "x"; message = given.message; tag = given.tag; at = main_place 2 })
-    (option_and_then (λ now. Some now) (option_and_then (with_text nothing_given (codes "tag")) o))) (says (codes "web"))
+    ∙ ap (λ o. option_map (λ given. record { exported = true; title = codes "x"; message = given.message;
+        tag = given.tag; at = main_place 2 })
+    (option_and_then (λ now. Some now) (option_and_then (with_text nothing_given (codes "tag")) o)))
+        (says (codes "web"))
 
 -- `@@notify { 'x': tag => 'web' }`, at the line of its title
-exported : step_of (statement.Chain (chain (operand.Resource (of_body marked.Exported (codes "notify") tagged)) [] 1)) ≡ step.Notify notify_x
+exported : step_of (statement.Chain (chain (operand.Resource (of_body marked.Exported (codes "notify") tagged)) []
+    1)) ≡ step.Notify notify_x
 unfolding step_of built
 exported =
     ap step_by (statement.outs-Chain (chain (operand.Resource (of_body marked.Exported (codes "notify") tagged)) [] 1))
-    ∙ ap (λ o. unwrap_or (built_by o) (step.NotBuilt 1)) (operand.outs-Resource (of_body marked.Exported (codes "notify") tagged))
+    ∙ ap (λ o. unwrap_or (built_by o) (step.NotBuilt 1))
+        (operand.outs-Resource (of_body marked.Exported (codes "notify") tagged))
     ∙ ap (λ o. unwrap_or (option_map step.Notify o) (step.NotBuilt 1)) is_tagged
 
 -- ---- resources
@@ -73,7 +79,8 @@ exported =
 -- each of the two attributes once, in any order, by `=>`
 attributes :
     (with_text nothing_given (codes "message") (codes "a") ≡ Some (record { message = Some (codes "a"); tag = None }))
-    × (with_text (record { message = None; tag = Some (codes "b") }) (codes "message") [] ≡ Some (record { message = Some []; tag = Some (codes "b") }))
+    × (with_text (record { message = None; tag = Some (codes "b") }) (codes "message") [] ≡ Some
+        (record { message = Some []; tag = Some (codes "b") }))
     × (with_text (record { message = None; tag = Some (codes "b") }) (codes "tag") (codes "b") ≡ None)
     × (with_text nothing_given (codes "withpath") (codes "a") ≡ None)
     × (with_attribute nothing_given (attribute.Set (setting (codes "tag") true (said (codes "a")) 1)) ≡ None)
@@ -107,14 +114,18 @@ collectors = (refl, refl, refl, refl, says (codes "web"), refl, refl, λ q. refl
 
 -- an arrow, a statement function, an operand of another sort
 others :
-    (step_by (Statement-F.Chain (chain (operand.Expr (said (codes "a"))) (link arrow.InEdge (operand.Expr (said (codes "b"))) ∷ []) 3)) ≡ step.NotBuilt 3)
+    (step_by (Statement-F.Chain (chain (operand.Expr (said (codes "a")))
+        (link arrow.InEdge (operand.Expr (said (codes "b"))) ∷ []) 3)) ≡ step.NotBuilt 3)
     × (step_by (Statement-F.Words (words (codes "include") (said (codes "a") ∷ []) 4)) ≡ step.NotBuilt 4)
     × (built_by (Operand-F.Expr (said (codes "a"))) ≡ None)
 others = (refl, refl, refl)
 
 -- of the definitions only nodes are told, by the line of the first
 nodes :
-    (first_node ((name.Code (codes "c"), definition.Class (class_of (name_at (codes "c") 1) [] None [] 1)) ∷ (name.Code (codes "d"), definition.Define (define_of (name_at (codes "d") 2) [] [] 2)) ∷ []) ≡ None)
-    × (first_node ((name.Code (codes "c"), definition.Class (class_of (name_at (codes "c") 1) [] None [] 1)) ∷ (name.Node None, definition.Node (node_of [] [] 3)) ∷ (name.Node (Some []), definition.Node (node_of [] [] 4)) ∷ []) ≡ Some 3)
+    (first_node ((name.Code (codes "c"), definition.Class (class_of (name_at (codes "c") 1) [] None [] 1)) ∷
+        (name.Code (codes "d"), definition.Define (define_of (name_at (codes "d") 2) [] [] 2)) ∷ []) ≡ None)
+    × (first_node ((name.Code (codes "c"), definition.Class (class_of (name_at (codes "c") 1) [] None [] 1)) ∷
+        (name.Node None, definition.Node (node_of [] [] 3)) ∷ (name.Node (Some []), definition.Node (node_of [] [] 4)) ∷
+        []) ≡ Some 3)
 unfolding first_node
 nodes = (refl, refl)

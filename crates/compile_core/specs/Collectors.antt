@@ -55,4 +55,5 @@ collector_from kind exported q attributes line =
     if bytes_eq kind (codes "Notify") && exported then without_settings attributes (asking line q) else None
 
 unfoldable pub collector_of : tree.Collector → Option Collector
-collector_of c = let written = tree.out-Collector c in collector_from written.kind written.exported written.query written.attributes written.at
+collector_of c = let written = tree.out-Collector c in
+    collector_from written.kind written.exported written.query written.attributes written.at

@@ -1,4 +1,5 @@
--- Exported resources at places of the sets, and imports that are told by their titles: what the functions within speak of.
+-- Exported resources at places of the sets, and imports that are told by their titles: what the functions within speak
+-- of.
 use Rattle.std.specs.Prelude.{Bool, false, if◌then◌else◌, List, Option, None, Some, Result, Ok, option_and_then, option_map, slice_get}
 use Rattle.std.specs.FinMap.{get}
 use Rattle.std.specs.List.{filter_map}
@@ -26,4 +27,5 @@ is_own_import place (Some d) = is_import_of place d
 
 -- a resource that was imported already has declared its own title
 abbrev pub import_by_title : List DeclaredNotify → Placed → Result (List DeclaredNotify) Fault
-import_by_title ds p = if is_own_import p.0 (declared_as p.1.item.title ds) then Ok ds else import_new (unknown_name p.1.item.attributes) ds p
+import_by_title ds p = if is_own_import p.0 (declared_as p.1.item.title ds) then Ok ds else import_new
+    (unknown_name p.1.item.attributes) ds p

@@ -13,7 +13,8 @@ use Rattle.export_store.specs.ExportQueries.{Placed, exports_of, is_found}
 use Rattle.export_store.specs.Sets.{Sets}
 use Rattle.compile_core.specs.Declarations.{DeclaredNotify, local, imported, kind, declare}
 
--- what a collector finds in the sets of the other nodes, by node, then by place. What the node itself published before is not among it.
+-- what a collector finds in the sets of the other nodes, by node, then by place. What the node itself published before
+-- is not among it.
 abbrev pub found_by : Sets → List ℕ → Collector → List Placed
 found_by sets node c = filter (is_found kind c.tag node) (exports_of sets)
 

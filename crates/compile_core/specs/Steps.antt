@@ -1,4 +1,5 @@
--- What the statements of the main manifest are to the compiler. A statement of a form that is not evaluated yet is told by its line.
+-- What the statements of the main manifest are to the compiler. A statement of a form that is not evaluated yet is told
+-- by its line.
 use Rattle.std.specs.Prelude.{ℕ, List, [], ◌∷◌, map, Option, Some, None, option_map, unwrap_or}
 use Rattle.std.specs.Option.{option_or}
 use Rattle.pp_tree.specs.declared.definition.Definition.{Definition}

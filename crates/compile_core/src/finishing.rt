@@ -80,7 +80,8 @@ fn push_if_live(
     container: &Tags,
 ) -> Result<(), Memory>
     requires { container.now ≡ tags_of_main }
-    ensures { OnOk result (resources.new ≡ resources.old ++ listed (collectors_at collectors.now) (seen declaration.now ∷ [])) }
+    ensures { OnOk result (resources.new ≡ resources.old ++
+        listed (collectors_at collectors.now) (seen declaration.now ∷ [])) }
 {
     match declaration {
         Declaration::Local(notify) => {

@@ -29,7 +29,8 @@ pub fn import_all<'a>(
     sets: &'a Version,
     node: &Text,
 ) -> Result<Declarations<'a>, Stop>
-    ensures { Answers result (in_turn import_by_title declarations.entry (all_found sets.now node.now (collectors_at collectors.now))) }
+    ensures { Answers result (in_turn import_by_title declarations.entry
+        (all_found sets.now node.now (collectors_at collectors.now))) }
 {
     for collector in collectors {
         declarations = import_found(alloc, declarations, collector, sets, node)?;

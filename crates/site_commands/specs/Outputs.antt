@@ -41,7 +41,8 @@ output_meant (Err fault) = a.Fault (line (fault_text fault))
 
 abbrev pub manifest_output : List ℕ → List ℕ → Output
 manifest_output node input =
-    if is_utf8 input then output_meant (manifest_meaning node input) else a.BadInput (refusal_line (bad_shape MAIN_MANIFEST.now))
+    if is_utf8 input then output_meant (manifest_meaning node input) else a.BadInput
+        (refusal_line (bad_shape MAIN_MANIFEST.now))
 
 -- `sequence`: whether a reply tells that what was asked for can't be had
 abbrev pub is_refusal : {C F : Type 0} → ReplyOf C F → Bool
@@ -55,19 +56,22 @@ is_refusal r.Memory = false
 
 -- the output, and what its replies tell of: want of memory counts before a refusal
 abbrev pub output_of : {C F : Type 0} → List (ReplyOf C F) → List ℕ → Output
-output_of replies text = if list_any is_memory replies then a.Short text else if list_any is_refusal replies then a.Refused text else a.Done text
+output_of replies text = if list_any is_memory replies then a.Short text else if list_any is_refusal replies then
+    a.Refused text else a.Done text
 
 -- the lines of the replies to these requests, the first of which has the number n
 unfoldable pub reply_lines : ℕ → List requests.Asked → List (ReplyOf Catalog Fault) → List ℕ
 reply_lines n [] replies = []
 reply_lines n (asked ∷ more) [] = []
-reply_lines n (asked ∷ more) (reply ∷ replies) = reply_line catalog_text fault_text n asked reply ++ reply_lines (n + 1) more replies
+reply_lines n (asked ∷ more) (reply ∷ replies) = reply_line catalog_text fault_text n asked reply ++
+    reply_lines (n + 1) more replies
 
 -- journal, and then the lines of the replies
 abbrev pub sequence_text : List requests.Asked → List (ReplyOf Catalog Fault) → List (Event SiteView) → List ℕ
 sequence_text asked replies history = journal_text history ++ reply_lines 0 asked replies
 
--- The requests of a bundle were answered so, one after another, over a history that begins with its site. The output is the text of
+-- The requests of a bundle were answered so, one after another, over a history that begins with its site. The output is
+-- the text of
 -- this history and of these replies.
 pub record HasRun (output : Output) (bundle : Bundle) : Type 0 where
   pub replies : List (ReplyOf Catalog Fault)

@@ -24,7 +24,8 @@ WritesOr ending whole text before after = (ending ≡ whole) × HasWritten text 
 -- the output was written whole, and then the line that memory was wanting; or it was not
 abbrev pub WritesShort : Ending → List ℕ → Stream → Stream → Stream → Stream → Type 0
 WritesShort e.WriteFault text out out' err err' = FailsToSay text out out' × (err' ≡ err)
-WritesShort ending text out out' err err' = (ending ≡ e.Memory) × (HasWritten text out out' × Says (line (codes "memory")) err err')
+WritesShort ending text out out' err err' = (ending ≡ e.Memory)
+    × (HasWritten text out out' × Says (line (codes "memory")) err err')
 
 -- what is written of an output; out and err, before and after
 abbrev pub Delivers : Ending → Output → Stream → Stream → Stream → Stream → Type 0

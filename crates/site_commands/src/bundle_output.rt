@@ -85,7 +85,8 @@ fn write_replies(
     replies: &[Reply<PuppetLanguage>],
 ) -> Result<(), Memory>
     requires { length requests.now ≤ MOST_REQUESTS }
-    ensures { OnOk result (string_bytes out.new ≡ string_bytes out.old ++ reply_lines 0 (all_asked requests.now) replies.now) }
+    ensures { OnOk result (string_bytes out.new ≡ string_bytes out.old ++
+        reply_lines 0 (all_asked requests.now) replies.now) }
 {
     let mut number: u32 = 0;
     let mut asked = requests;

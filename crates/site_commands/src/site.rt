@@ -69,7 +69,8 @@ pub fn site_main<S: Source, K: Sink, E: Sink>(
 
     // Faulty words are told exactly, and where the source tells its input, so is every other status.
     ensures words { (result ≡ 10) ↔ IsComplaint (asked_of (texts_of words.now)) }
-    ensures settled { (input : List ℕ) → (S.stream source.old).left ≡ Some input → IsSettled result (asked_of (texts_of words.now)) input }
+    ensures settled { (input : List ℕ) → (S.stream source.old).left ≡ Some input →
+        IsSettled result (asked_of (texts_of words.now)) input }
     ensures statuses { IsStatus result }
     ensures ended { HasEnded result (texts_of words.now)
         (world (S.stream source.old) (K.stream out.old) (E.stream err.old))
@@ -143,7 +144,8 @@ fn work<K: Sink, E: Sink>(
     err: &mut E,
 ) -> Ending
     requires { length input ≤ limit_of (asked_by command) }
-    ensures { Works result (asked_by command.entry) input (K.stream out.old) (K.stream out.new) (E.stream err.old) (E.stream err.new) }
+    ensures { Works result (asked_by command.entry) input (K.stream out.old) (K.stream out.new) (E.stream err.old)
+        (E.stream err.new) }
 {
     match output_for(alloc, command, input) {
         Ok(output) => deliver(&output, out, err),

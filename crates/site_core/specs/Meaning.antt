@@ -7,7 +7,8 @@ use Rattle.export_store.specs.Sets.{Sets}
 use Rattle.site_core.specs.declared.compile_stop.CompileStop.{CompileStop}
 use Rattle.site_core.specs.declared.compile_stop.CompileStop.TheVariants as stop
 
--- what a site means for a node with these facts, where the nodes export these sets: a catalog and the node's exports, or a fault
+-- what a site means for a node with these facts, where the nodes export these sets: a catalog and the node's exports,
+-- or a fault
 abbrev pub Meaning : Type 0 → Type 0 → Type 0 → Type 0
 Meaning S C F = S → List ℕ → Datum → Sets → Result (C × ExportSet) F
 

@@ -54,9 +54,8 @@ const TABLE: [(Sample, Sample, bool, &str); 16] = [
 
 #[test]
 fn values_are_compared(rt: HostRuntime) -> Result<(), Fail> {
-    for (index, row) in TABLE.into_iter().enumerate() {
-        let (first, second, are_equal, ordering) = row;
-        assert!(rt; compares_as(rt.alloc(), first, second, are_equal, ordering)?, "{index}");
+    for (first, second, are_equal, ordering) in TABLE.iter() {
+        assert!(rt; compares_as(rt.alloc(), *first, *second, *are_equal, ordering)?, "{ordering}");
     }
     Ok(())
 }

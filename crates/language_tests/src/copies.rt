@@ -93,7 +93,7 @@ fn copies_nodes(alloc: Global) -> Result<bool, Memory> {
 }
 
 /// A list of the language.
-#[derive(Clone, Copy, Debug)]
+#[derive(Clone, Copy)]
 enum List {
     References,
     Places,
@@ -112,18 +112,18 @@ fn copies(alloc: Global, list: List) -> Result<bool, Memory> {
     }
 }
 
-const LISTS: [List; 5] = [
-    List::References,
-    List::Places,
-    List::Texts,
-    List::Files,
-    List::Nodes,
+const LISTS: [(List, &str); 5] = [
+    (List::References, "references"),
+    (List::Places, "places"),
+    (List::Texts, "texts"),
+    (List::Files, "files"),
+    (List::Nodes, "nodes"),
 ];
 
 #[test]
 fn lists_are_copied(rt: HostRuntime) -> Result<(), Fail> {
-    for list in LISTS {
-        assert!(rt; copies(rt.alloc(), list)?, "{list:?}");
+    for (list, name) in LISTS.iter() {
+        assert!(rt; copies(rt.alloc(), *list)?, "{name}");
     }
     Ok(())
 }

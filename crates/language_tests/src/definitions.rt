@@ -85,33 +85,30 @@ const TABLES: [(&str, &str); 10] = [
 
 #[test]
 fn definitions_by_their_names(rt: HostRuntime) -> Result<(), Fail> {
-    for (manifest, want) in TABLES {
+    for (manifest, want) in TABLES.iter() {
         assert!(rt; defines_as(rt.alloc(), manifest, want)?, "{manifest}");
     }
     Ok(())
 }
 
 // What the table has under the name of a class or a define.
-fn write_found(out: &mut String, alloc: Global, table: &Table, name: &str) -> Result<(), Memory> {
+fn found_text(alloc: Global, table: &Table, name: &str) -> Result<String, Memory> {
     let written = Text::from_str(alloc, name)?;
     let name = DefinitionName::code(alloc, &written)?;
+    let mut out = String::new(alloc);
     match table.get(&name) {
-        Some(definition) => write_definition(out, definition),
-        None => {
-            out.push_str(" nothing,")?;
-            Ok(())
-        }
+        Some(definition) => write_definition(&mut out, definition)?,
+        None => out.push_str(" nothing,")?,
     }
+    Ok(out)
 }
 
 fn found(alloc: Global, manifest: &str, name: &str) -> Result<String, Memory> {
-    let mut out = String::new(alloc);
     match parsed(alloc, MAIN, manifest) {
-        Ok(file) => write_found(&mut out, alloc, &file.definitions, name)?,
-        Err(Stop::Fault(_)) => out.push_str("fault")?,
-        Err(Stop::Memory) => return Err(Memory),
+        Ok(file) => found_text(alloc, &file.definitions, name),
+        Err(Stop::Fault(fault)) => Ok(fault_text(alloc, &fault)?),
+        Err(Stop::Memory) => Err(Memory),
     }
-    Ok(out)
 }
 
 fn finds_as(alloc: Global, manifest: &str, name: &str, want: &str) -> Result<bool, Memory> {
@@ -127,7 +124,7 @@ const FOUND: [(&str, &str, &str); 4] = [
 
 #[test]
 fn definitions_are_found(rt: HostRuntime) -> Result<(), Fail> {
-    for (manifest, name, want) in FOUND {
+    for (manifest, name, want) in FOUND.iter() {
         assert!(rt; finds_as(rt.alloc(), manifest, name, want)?, "{name}");
     }
     Ok(())

@@ -141,7 +141,7 @@ const FORMS: [(&str, &str); 36] = [
 
 #[test]
 fn texts_have_their_forms(rt: HostRuntime) -> Result<(), Fail> {
-    for (manifest, want) in FORMS {
+    for (manifest, want) in FORMS.iter() {
         assert!(rt; forms_as(rt.alloc(), manifest, want)?, "{manifest}");
     }
     Ok(())
@@ -163,7 +163,7 @@ const TEXTS: [(&str, &str); 11] = [
 
 #[test]
 fn texts_say_what_they_spell(rt: HostRuntime) -> Result<(), Fail> {
-    for (spelling, want) in TEXTS {
+    for (spelling, want) in TEXTS.iter() {
         assert!(rt; forms_as(rt.alloc(), spelling, want)?, "{spelling}");
     }
     Ok(())

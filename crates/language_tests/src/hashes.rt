@@ -23,7 +23,7 @@ const PUTS: [(&str, &str); 4] = [
 
 #[test]
 fn values_of_keys_are_set(rt: HostRuntime) -> Result<(), Fail> {
-    for (key, want) in PUTS {
+    for (key, want) in PUTS.iter() {
         let pairs = with_default(rt.alloc(), key)?;
         assert!(rt; prints_as(rt.alloc(), Value::Hash(pairs), want)?, "{want}");
     }
@@ -70,7 +70,7 @@ const KEYS: [(&str, &str, &str); 3] = [
 
 #[test]
 fn keys_are_found_and_removed(rt: HostRuntime) -> Result<(), Fail> {
-    for (key, value, left) in KEYS {
+    for (key, value, left) in KEYS.iter() {
         assert!(rt; finds_as(rt.alloc(), key, value)?, "{key}");
         assert!(rt; removes_as(rt.alloc(), key, value, left)?, "{key}");
     }

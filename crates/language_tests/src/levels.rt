@@ -59,8 +59,8 @@ fn bounds_levels(
 
 // The first of the sorts whose levels are read in another way.
 fn misread_sort(alloc: Global) -> Result<Option<&'static str>, AllocError> {
-    for (count, before, middle, behind) in SORTS {
-        if !bounds_levels(alloc, count, before, middle, behind)? {
+    for (count, before, middle, behind) in SORTS.iter() {
+        if !bounds_levels(alloc, *count, before, middle, behind)? {
             return Ok(Some(before));
         }
     }

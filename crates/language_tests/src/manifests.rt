@@ -93,7 +93,7 @@ const GRAMMAR: [(&str, &str); 42] = [
 
 #[test]
 fn each_line_of_the_grammar_is_read(rt: HostRuntime) -> Result<(), Fail> {
-    for (manifest, want) in GRAMMAR {
+    for (manifest, want) in GRAMMAR.iter() {
         assert!(rt; reads_as(rt.alloc(), MAIN, manifest, want)?, "{manifest}");
     }
     Ok(())
@@ -165,7 +165,7 @@ const RULES: [(&str, &str); 45] = [
 
 #[test]
 fn manifests_are_read_by_the_rules(rt: HostRuntime) -> Result<(), Fail> {
-    for (manifest, want) in RULES {
+    for (manifest, want) in RULES.iter() {
         assert!(rt; reads_as(rt.alloc(), MAIN, manifest, want)?, "{manifest}");
     }
     Ok(())
@@ -181,7 +181,7 @@ const MODULES: [(&str, &str); 4] = [
 
 #[test]
 fn module_files_are_read(rt: HostRuntime) -> Result<(), Fail> {
-    for (manifest, want) in MODULES {
+    for (manifest, want) in MODULES.iter() {
         assert!(rt; reads_as(rt.alloc(), "modules/m/manifests/init.pp", manifest, want)?, "{manifest}");
     }
     Ok(())

@@ -121,7 +121,7 @@ const SCANNED: [(&str, &str); 27] = [
 
 #[test]
 fn manifests_are_scanned(rt: HostRuntime) -> Result<(), Fail> {
-    for (manifest, want) in SCANNED {
+    for (manifest, want) in SCANNED.iter() {
         assert!(rt; scans_as(rt.alloc(), manifest, want)?, "{manifest}");
     }
     Ok(())
@@ -168,7 +168,7 @@ const LEXED: [(&str, &str); 6] = [
 
 #[test]
 fn manifests_are_lexed(rt: HostRuntime) -> Result<(), Fail> {
-    for (manifest, want) in LEXED {
+    for (manifest, want) in LEXED.iter() {
         assert!(rt; lexes_as(rt.alloc(), manifest, want)?, "{manifest}");
     }
     Ok(())

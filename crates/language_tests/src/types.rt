@@ -149,16 +149,16 @@ const TYPES: [(usize, &str); 29] = [
 
 #[test]
 fn types_are_printed(rt: HostRuntime) -> Result<(), Fail> {
-    for (number, want) in TYPES {
-        assert!(rt; prints(rt.alloc(), number, want)?, "{want}");
+    for (number, want) in TYPES.iter() {
+        assert!(rt; prints(rt.alloc(), *number, want)?, "{want}");
     }
     Ok(())
 }
 
 #[test]
 fn types_are_copied(rt: HostRuntime) -> Result<(), Fail> {
-    for (number, want) in TYPES {
-        assert!(rt; copies(rt.alloc(), number, want)?, "{want}");
+    for (number, want) in TYPES.iter() {
+        assert!(rt; copies(rt.alloc(), *number, want)?, "{want}");
     }
     Ok(())
 }

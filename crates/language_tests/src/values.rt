@@ -22,9 +22,9 @@ const TEXTS: [(Sample, &str); 11] = [
 
 #[test]
 fn values_are_printed(rt: HostRuntime) -> Result<(), Fail> {
-    for (sample, want) in TEXTS {
+    for (sample, want) in TEXTS.iter() {
         let alloc = rt.alloc();
-        assert!(rt; prints_as(alloc, value(alloc, sample)?, want)?, "{want}");
+        assert!(rt; prints_as(alloc, value(alloc, *sample)?, want)?, "{want}");
     }
     Ok(())
 }
@@ -38,9 +38,9 @@ fn copied(alloc: Global, sample: Sample) -> Result<Value, Memory> {
 
 #[test]
 fn values_are_copied(rt: HostRuntime) -> Result<(), Fail> {
-    for (sample, want) in TEXTS {
+    for (sample, want) in TEXTS.iter() {
         let alloc = rt.alloc();
-        assert!(rt; prints_as(alloc, copied(alloc, sample)?, want)?, "{want}");
+        assert!(rt; prints_as(alloc, copied(alloc, *sample)?, want)?, "{want}");
     }
     Ok(())
 }
@@ -63,7 +63,7 @@ const NAMES: [(&str, &str, &str, &str); 3] = [
 
 #[test]
 fn names_are_printed(rt: HostRuntime) -> Result<(), Fail> {
-    for (name, kind, title, want) in NAMES {
+    for (name, kind, title, want) in NAMES.iter() {
         assert!(rt; prints_kind(rt.alloc(), name, kind)?, "{kind}");
         assert!(rt; prints_reference(rt.alloc(), name, title, want)?, "{want}");
     }

@@ -89,7 +89,7 @@ const BUNDLES: [(&str, &str); 10] = [
 
 #[test]
 fn bundles_are_read(rt: HostRuntime) -> Result<(), Fail> {
-    for (text, want) in BUNDLES {
+    for (text, want) in BUNDLES.iter() {
         assert!(rt; reads_as(rt.alloc(), text.as_bytes(), want)?, "{text}");
     }
     Ok(())
@@ -170,7 +170,7 @@ const MEMBERS: [(&str, &str); 29] = [
 
 #[test]
 fn the_first_bad_member_is_named(rt: HostRuntime) -> Result<(), Fail> {
-    for (template, want) in MEMBERS {
+    for (template, want) in MEMBERS.iter() {
         assert!(rt; reads_with_files(rt.alloc(), template, want)?, "{template}");
     }
     Ok(())
@@ -200,8 +200,8 @@ const DEPTHS: [(usize, &str); 4] = [(1, EMPTY), (126, EMPTY), (127, "B1"), (200,
 
 #[test]
 fn lists_and_objects_nest_127_levels(rt: HostRuntime) -> Result<(), Fail> {
-    for (depth, want) in DEPTHS {
-        assert!(rt; reads_nested(rt.alloc(), depth, want)?, "{depth}");
+    for (depth, want) in DEPTHS.iter() {
+        assert!(rt; reads_nested(rt.alloc(), *depth, want)?, "{depth}");
     }
     Ok(())
 }
@@ -254,7 +254,7 @@ const LONG: [(&str, &str); 2] = [
 
 #[test]
 fn a_manifest_has_at_most_4_mib(rt: HostRuntime) -> Result<(), Fail> {
-    for (back, want) in LONG {
+    for (back, want) in LONG.iter() {
         assert!(rt; reads_long_manifest(rt.alloc(), back, want)?, "{want}");
     }
     Ok(())
@@ -275,7 +275,7 @@ const REQUESTS: [(&str, &str); 2] = [
 
 #[test]
 fn a_bundle_has_at_most_a_million_requests(rt: HostRuntime) -> Result<(), Fail> {
-    for (back, want) in REQUESTS {
+    for (back, want) in REQUESTS.iter() {
         assert!(rt; reads_requests(rt.alloc(), back, want)?, "{want}");
     }
     Ok(())

@@ -156,8 +156,8 @@ const CATALOGS: [(&str, bool, &str); 3] = [
 
 #[test]
 fn texts_of_catalogs(rt: HostRuntime) -> Result<(), Fail> {
-    for (notifies, any_edge, want) in CATALOGS {
-        assert!(rt; catalog_says(rt.alloc(), notifies, any_edge, want)?, "{notifies}");
+    for (notifies, any_edge, want) in CATALOGS.iter() {
+        assert!(rt; catalog_says(rt.alloc(), notifies, *any_edge, want)?, "{notifies}");
     }
     Ok(())
 }

@@ -111,7 +111,7 @@ const CATALOGS: [(&str, &str, &str, &str); 4] = [
 
 #[test]
 fn catalogs_are_written(rt: HostRuntime) -> Result<(), Fail> {
-    for (words, node, manifest, resources) in CATALOGS {
+    for (words, node, manifest, resources) in CATALOGS.iter() {
         assert!(rt; writes_catalog(rt.alloc(), words, node, manifest, resources)?, "{manifest}");
     }
     Ok(())
@@ -139,7 +139,7 @@ const FAULTS: [(&str, &str); 7] = [
 
 #[test]
 fn faults_are_told(rt: HostRuntime) -> Result<(), Fail> {
-    for (manifest, line) in FAULTS {
+    for (manifest, line) in FAULTS.iter() {
         assert!(rt; tells_fault(rt.alloc(), manifest, line)?, "{line}");
     }
     Ok(())
@@ -170,8 +170,8 @@ const NESTED: [(usize, &str); 2] = [
 
 #[test]
 fn nesting_is_bounded(rt: HostRuntime) -> Result<(), Fail> {
-    for (lists, line) in NESTED {
-        assert!(rt; tells_nested(rt.alloc(), lists, line)?, "{lists}");
+    for (lists, line) in NESTED.iter() {
+        assert!(rt; tells_nested(rt.alloc(), *lists, line)?, "{lists}");
     }
     Ok(())
 }
@@ -192,7 +192,7 @@ const WORDS: [(&str, &str); 9] = [
 
 #[test]
 fn words_are_refused(rt: HostRuntime) -> Result<(), Fail> {
-    for (words, line) in WORDS {
+    for (words, line) in WORDS.iter() {
         assert!(rt; ends_as(rt.alloc(), words, b"", 10, "", line)?, "{words}");
     }
     Ok(())
@@ -216,8 +216,8 @@ const LENGTHS: [(usize, u8); 2] = [(255, 0), (256, 10)];
 
 #[test]
 fn the_length_of_a_name_is_bounded(rt: HostRuntime) -> Result<(), Fail> {
-    for (count, status) in LENGTHS {
-        assert!(rt; ends_long_name(rt.alloc(), count, status)?, "{count}");
+    for (count, status) in LENGTHS.iter() {
+        assert!(rt; ends_long_name(rt.alloc(), *count, *status)?, "{count}");
     }
     Ok(())
 }
@@ -259,7 +259,7 @@ const INPUTS: [(&str, &str, &str); 9] = [
 
 #[test]
 fn input_is_refused(rt: HostRuntime) -> Result<(), Fail> {
-    for (words, input, line) in INPUTS {
+    for (words, input, line) in INPUTS.iter() {
         assert!(rt; refuses_input(rt.alloc(), words, input, line)?, "{input}");
     }
     Ok(())
@@ -285,8 +285,8 @@ const LONG: [(u8, usize, u8, &str); 3] = [
 
 #[test]
 fn the_length_of_input_is_bounded(rt: HostRuntime) -> Result<(), Fail> {
-    for (byte, count, status, line) in LONG {
-        assert!(rt; ends_long_input(rt.alloc(), byte, count, status, line)?, "{byte} {count}");
+    for (byte, count, status, line) in LONG.iter() {
+        assert!(rt; ends_long_input(rt.alloc(), *byte, *count, *status, line)?, "{byte} {count}");
     }
     Ok(())
 }
@@ -350,8 +350,8 @@ fn answers_bundle(alloc: Global, bundle: &str, status: u8, out: &str) -> Result<
 
 #[test]
 fn bundles_are_answered(rt: HostRuntime) -> Result<(), Fail> {
-    for (bundle, status, out) in BUNDLES {
-        assert!(rt; answers_bundle(rt.alloc(), bundle, status, out)?, "{bundle}");
+    for (bundle, status, out) in BUNDLES.iter() {
+        assert!(rt; answers_bundle(rt.alloc(), bundle, *status, out)?, "{bundle}");
     }
     Ok(())
 }
@@ -401,8 +401,8 @@ const STREAMS: [(&str, &str, Failing, u8, &str); 13] = [
 
 #[test]
 fn faults_of_streams_are_told(rt: HostRuntime) -> Result<(), Fail> {
-    for (words, input, failing, status, line) in STREAMS {
-        assert!(rt; fails_as(rt.alloc(), words, input, failing, status, line)?, "{words} {status}");
+    for (words, input, failing, status, line) in STREAMS.iter() {
+        assert!(rt; fails_as(rt.alloc(), words, input, *failing, *status, line)?, "{words} {status}");
     }
     Ok(())
 }
@@ -430,8 +430,8 @@ const REFUSED: [(Failing, u8, bool); 3] = [
 
 #[test]
 fn refusals_are_written(rt: HostRuntime) -> Result<(), Fail> {
-    for (failing, status, is_written) in REFUSED {
-        assert!(rt; refuses_as(rt.alloc(), failing, status, is_written)?, "{status}");
+    for (failing, status, is_written) in REFUSED.iter() {
+        assert!(rt; refuses_as(rt.alloc(), *failing, *status, *is_written)?, "{status}");
     }
     Ok(())
 }

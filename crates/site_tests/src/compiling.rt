@@ -62,7 +62,7 @@ const MANIFESTS: [(&str, &str); 8] = [
 
 #[test]
 fn catalogs_and_faults(rt: HostRuntime) -> Result<(), Fail> {
-    for (manifest, want) in MANIFESTS {
+    for (manifest, want) in MANIFESTS.iter() {
         assert!(rt; compiles_to(rt.alloc(), manifest, want)?, "{manifest}");
     }
     Ok(())
@@ -166,7 +166,7 @@ const NOT_BUILT: [(&str, &str); 31] = [
 
 #[test]
 fn statements_that_are_not_built(rt: HostRuntime) -> Result<(), Fail> {
-    for (manifest, want) in NOT_BUILT {
+    for (manifest, want) in NOT_BUILT.iter() {
         assert!(rt; compiles_to(rt.alloc(), manifest, want)?, "{manifest}");
     }
     Ok(())

@@ -186,16 +186,16 @@ const FAULTS: [(Sort, u32, &str, &str); 34] = [
 
 #[test]
 fn lines_of_faults(rt: HostRuntime) -> Result<(), Fail> {
-    for (sort, number, detail, want) in FAULTS {
-        assert!(rt; tells_as(rt.alloc(), sort, number, detail, want)?, "{want}");
+    for (sort, number, detail, want) in FAULTS.iter() {
+        assert!(rt; tells_as(rt.alloc(), *sort, *number, detail, want)?, "{want}");
     }
     Ok(())
 }
 
 #[test]
 fn lines_of_copied_faults(rt: HostRuntime) -> Result<(), Fail> {
-    for (sort, number, detail, want) in FAULTS {
-        assert!(rt; copies_as(rt.alloc(), sort, number, detail, want)?, "{want}");
+    for (sort, number, detail, want) in FAULTS.iter() {
+        assert!(rt; copies_as(rt.alloc(), *sort, *number, detail, want)?, "{want}");
     }
     Ok(())
 }

@@ -122,7 +122,7 @@ const JOURNALS: [(&str, &str, &str, &str); 5] = [
 
 #[test]
 fn journals(rt: HostRuntime) -> Result<(), Fail> {
-    for (manifest, nodes, marks, want) in JOURNALS {
+    for (manifest, nodes, marks, want) in JOURNALS.iter() {
         assert!(rt; journal_says(rt.alloc(), manifest, nodes, marks, want)?, "{marks}");
     }
     Ok(())

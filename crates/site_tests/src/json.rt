@@ -47,7 +47,7 @@ const HASHES: [(&str, &str, &str); 7] = [
 
 #[test]
 fn hashes(rt: HostRuntime) -> Result<(), Fail> {
-    for (first, second, want) in HASHES {
+    for (first, second, want) in HASHES.iter() {
         let alloc = rt.alloc();
         assert!(rt; is_form(alloc, hash(alloc, first, second)?, want)?, "{want}");
     }
@@ -107,9 +107,9 @@ const FORMS: [(Sample, &str); 6] = [
 
 #[test]
 fn other_values(rt: HostRuntime) -> Result<(), Fail> {
-    for (sample, want) in FORMS {
+    for (sample, want) in FORMS.iter() {
         let alloc = rt.alloc();
-        assert!(rt; is_form(alloc, value(alloc, sample)?, want)?, "{want}");
+        assert!(rt; is_form(alloc, value(alloc, *sample)?, want)?, "{want}");
     }
     Ok(())
 }

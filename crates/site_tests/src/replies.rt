@@ -90,8 +90,8 @@ const COMPILED: [(u32, u32, u32, &str, &str, &str); 3] = [
 
 #[test]
 fn catalogs_and_faults(rt: HostRuntime) -> Result<(), Fail> {
-    for (index, entry, k, node, manifest, want) in COMPILED {
-        assert!(rt; compiled_says(rt.alloc(), index, entry, k, node, manifest, want)?, "{want}");
+    for (index, entry, k, node, manifest, want) in COMPILED.iter() {
+        assert!(rt; compiled_says(rt.alloc(), *index, *entry, *k, node, manifest, want)?, "{want}");
     }
     Ok(())
 }
@@ -137,8 +137,8 @@ const OTHERS: [(u32, &str, NumberReply, &str); 6] = [
 
 #[test]
 fn other_replies(rt: HostRuntime) -> Result<(), Fail> {
-    for (index, node, reply, want) in OTHERS {
-        assert!(rt; other_says(rt.alloc(), index, node, reply, want)?, "{want}");
+    for (index, node, reply, want) in OTHERS.iter() {
+        assert!(rt; other_says(rt.alloc(), *index, node, *reply, want)?, "{want}");
     }
     Ok(())
 }

@@ -90,8 +90,8 @@ const TAGS: [(bool, &str, &str, &str, &str); 9] = [
 
 #[test]
 fn tags_rise_in_lower_case(rt: HostRuntime) -> Result<(), Fail> {
-    for (in_main, name, title, given, want) in TAGS {
-        assert!(rt; tagged_as(rt.alloc(), in_main, name, title, given, want)?, "{want}");
+    for (in_main, name, title, given, want) in TAGS.iter() {
+        assert!(rt; tagged_as(rt.alloc(), *in_main, name, title, given, want)?, "{want}");
     }
     Ok(())
 }
@@ -155,7 +155,7 @@ fn copies_attributes(alloc: Global) -> Result<bool, Memory> {
 }
 
 /// A list of a catalog.
-#[derive(Clone, Copy, Debug)]
+#[derive(Clone, Copy)]
 enum List {
     Indexes,
     Edges,
@@ -172,12 +172,17 @@ fn keeps(alloc: Global, list: List) -> Result<bool, Memory> {
     }
 }
 
-const LISTS: [List; 4] = [List::Indexes, List::Edges, List::Log, List::Attributes];
+const LISTS: [(List, &str); 4] = [
+    (List::Indexes, "indexes"),
+    (List::Edges, "edges"),
+    (List::Log, "log"),
+    (List::Attributes, "attributes"),
+];
 
 #[test]
 fn lists_grow(rt: HostRuntime) -> Result<(), Fail> {
-    for list in LISTS {
-        assert!(rt; keeps(rt.alloc(), list)?, "{list:?}");
+    for (list, name) in LISTS.iter() {
+        assert!(rt; keeps(rt.alloc(), *list)?, "{name}");
     }
     Ok(())
 }

@@ -100,7 +100,7 @@ const SEQUENCES: [(&str, &str); 9] = [
 
 #[test]
 fn requests_are_answered_in_turn(rt: HostRuntime) -> Result<(), Fail> {
-    for (words, want) in SEQUENCES {
+    for (words, want) in SEQUENCES.iter() {
         assert!(rt; comes_to(rt.alloc(), words, want)?, "{words}");
     }
     Ok(())
@@ -134,7 +134,7 @@ const FULL: [(&str, &str); 6] = [
 
 #[test]
 fn a_full_history_comes_after_other_causes(rt: HostRuntime) -> Result<(), Fail> {
-    for (words, want) in FULL {
+    for (words, want) in FULL.iter() {
         assert!(rt; answers(rt.alloc(), words, want)?, "{words}");
     }
     Ok(())

@@ -57,7 +57,7 @@ const SITES: [(&str, &str, &str); 3] = [
 
 #[test]
 fn texts_of_sites(rt: HostRuntime) -> Result<(), Fail> {
-    for (manifest, nodes, want) in SITES {
+    for (manifest, nodes, want) in SITES.iter() {
         assert!(rt; site_says(rt.alloc(), manifest, nodes, want)?, "{want}");
     }
     Ok(())
@@ -74,8 +74,8 @@ const NAMES: [(&str, bool); 6] = [
 
 #[test]
 fn names_of_nodes(rt: HostRuntime) -> Result<(), Fail> {
-    for (word, want) in NAMES {
-        assert!(rt; is_node_name(word) == want, "{word}");
+    for (word, want) in NAMES.iter() {
+        assert!(rt; is_node_name(word) == *want, "{word}");
     }
     Ok(())
 }

@@ -134,7 +134,7 @@ const QUERIES: [(&str, &str, &str, &str, &str); 14] = [
 
 #[test]
 fn queries_find_by_kind_tag_and_node(rt: HostRuntime) -> Result<(), Fail> {
-    for (steps, name, tag, but_node, want) in QUERIES {
+    for (steps, name, tag, but_node, want) in QUERIES.iter() {
         assert!(rt; finds_as(rt.alloc(), steps, name, tag, but_node, want)?, "{steps} {name} {tag} {but_node}");
     }
     Ok(())

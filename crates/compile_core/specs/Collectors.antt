@@ -5,10 +5,11 @@ use Rattle.pp_tree.specs.declared.collector.Collector as tree
 use Rattle.pp_tree.specs.declared.collector.Comparison.{Comparison}
 use Rattle.pp_tree.specs.declared.collector.Conjunction.{Conjunction, out-Conjunction}
 use Rattle.pp_tree.specs.declared.collector.Query.{Query, out-Query}
-use Rattle.pp_tree.specs.declared.collector.Test.{Test}
+use Rattle.pp_tree.specs.declared.collector.Test.{Test, out-Test}
+use Rattle.pp_tree.specs.declared.collector.Test.TheOpen.{Test-F}
 use Rattle.pp_tree.specs.declared.expr.Expr.{Expr}
 use Rattle.pp_tree.specs.declared.resource.Attribute.{Attribute}
-use Rattle.pp_tree.specs.Layers.{Test-F, TestLayer, out-Test}
+use Rattle.pp_tree.specs.Layers.{TestLayer}
 use Rattle.compile_core.specs.declared.step.Collector.{Collector}
 use Rattle.compile_core.specs.Parts.{only, written_text}
 use Rattle.compile_core.specs.Places.{main_place}

@@ -60,7 +60,7 @@ notify_titled exported b title = option_map (notify_with exported b.at title) (g
 abbrev pub notify_in : Bool → Body Expr → Option Notify
 notify_in exported b = option_and_then (notify_titled exported b) (written_title b.title)
 
-abbrev pub is_exported : ResourceStep → Option Bool
+abbrev pub is_exported : ResourceForm → Option Bool
 is_exported marked.Plain = Some false
 is_exported marked.Virtual = None
 is_exported marked.Exported = Some true

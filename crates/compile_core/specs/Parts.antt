@@ -1,8 +1,10 @@
 -- Parts of a tree that a statement needs in order to be evaluated.
 use Rattle.std.specs.Prelude.{ℕ, List, [], ◌∷◌, Option, Some, None, option_and_then}
+use Rattle.pp_tree.specs.declared.collector.Test.TheOpen.{Form-F}
 use Rattle.pp_tree.specs.declared.expr.Expr.{Expr}
+use Rattle.pp_tree.specs.declared.expr.Form.{out-Form}
 use Rattle.pp_tree.specs.Building.{form_of}
-use Rattle.pp_tree.specs.Layers.{Form-F, FormLayer, out-Form}
+use Rattle.pp_tree.specs.Layers.{FormLayer}
 
 -- the element of a list of one
 abbrev pub only : {T : Type 0} → List T → Option T

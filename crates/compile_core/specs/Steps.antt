@@ -2,13 +2,14 @@
 -- by its line.
 use Rattle.std.specs.Prelude.{ℕ, List, [], ◌∷◌, map, Option, Some, None, option_map, unwrap_or}
 use Rattle.std.specs.Option.{option_or}
+use Rattle.pp_tree.specs.declared.collector.Test.TheOpen.{Operand-F, Statement-F}
 use Rattle.pp_tree.specs.declared.definition.Definition.{Definition}
 use Rattle.pp_tree.specs.declared.definition.Definition.TheVariants as definition
 use Rattle.pp_tree.specs.declared.statement.Chain.{Chain}
 use Rattle.pp_tree.specs.declared.statement.Link.{Link}
-use Rattle.pp_tree.specs.declared.statement.Operand.{Operand}
-use Rattle.pp_tree.specs.declared.statement.Statement.{Statement}
-use Rattle.pp_tree.specs.Layers.{Operand-F, Statement-F, OperandLayer, StatementLayer, out-Operand, out-Statement}
+use Rattle.pp_tree.specs.declared.statement.Operand.{Operand, out-Operand}
+use Rattle.pp_tree.specs.declared.statement.Statement.{Statement, out-Statement}
+use Rattle.pp_tree.specs.Layers.{OperandLayer, StatementLayer}
 use Rattle.pp_tree.specs.Tables.{Entries}
 use Rattle.compile_core.specs.declared.step.Step.{Step}
 use Rattle.compile_core.specs.declared.step.Step.TheVariants as step

@@ -13,8 +13,8 @@ returns-in-Some c =
     (once fault_told import_by_title c.args.declarations (c.args.place.now, c.in-Some.exported.now) c.import_one.result
         c.import_one.ensures)
 
-pub returns : goal.returns
-returns c =
+pub returns-in-None : goal.returns-in-None
+returns-in-None c =
     subst (λ o. in_turn import_by_title c.args.declarations
         (cons_option (option_map (λ e. (c.args.place.now, e)) o) []) ≡ Ok c.args.declarations) c.in-None.ensures
     (in_turn-none import_by_title c.args.declarations)

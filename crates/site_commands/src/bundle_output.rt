@@ -77,7 +77,7 @@ fn sequence_text(
     Ok(Text::new(out))
 }
 
-#[tactic(auto, unfolding(crate::specs::Output::reply_lines))]
+#[tactic(auto, unfolding(crate::specs::Outputs::reply_lines))]
 fn write_replies(
     alloc: Global,
     out: &mut String,

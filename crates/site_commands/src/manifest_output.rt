@@ -80,6 +80,7 @@ fn compile_alone(
 }
 
 /// The site of the main manifest alone, without nodes.
+#[tactic(auto, unfolding(site_bundle::specs::SiteView::put_in))]
 fn site_alone(alloc: Global, manifest: Text) -> Result<Site, Memory>
     requires { length manifest ≤ MOST_FILE_BYTES }
     ensures { IfOk result (λ s. s ≡ record { files = (MAIN_MANIFEST.now, manifest) ∷ []; nodes = [] }) }

@@ -9,8 +9,8 @@ returns-in-Ok c =
     IfOk-text _ _ _ _ (c.new.ensures ∙ ap (λ v. v.items) c.in-Ok.ensures.ok ∙ c.into_vec.ensures)
     (subst IsUtf8 (sym c.new.ensures) (IsUtf8-string_bytes c.in-Ok.manifest)) c.output_of_text.ensures
 
-pub returns-in-Err : goal.returns-in-Err
-returns-in-Err c =
+pub returns : goal.returns
+returns c =
     let no_text : IsUtf8 c.args.input → ⊥ =
     λ utf8. let wrong : false ≡ true = c.in-Err.ensures.succeeds (subst IsUtf8 (sym c.into_vec.ensures) utf8) in
         cc wrong in

@@ -1,5 +1,5 @@
 mod Examples
-mod FormExamples
+mod StepExamples
 pub mod ImportLaws
 pub mod Lists
 pub mod Nodes
@@ -7,4 +7,3 @@ pub mod RoundLaws
 pub mod PlaceLemmas
 pub mod Statements
 pub mod TitleLemmas
-pub mod Turns

@@ -1,5 +1,5 @@
 -- What stands at the places that a query finds.
-use Rattle.std.proofs.Common.{◌≡◌, ℕ, ◌+◌, Bool, true, false, ◌&&◌, T, cond, List, [], ◌∷◌, ◌++◌, length, filter, Option, None, Some, option_map, option_and_then, refl, sym, ap, subst, ◌∙◌, append_assoc, length-append}
+use Rattle.std.proofs.Common.{◌≡◌, ℕ, ◌+◌, ◌<◌, Bool, true, false, ◌&&◌, T, cond, List, [], ◌∷◌, ◌++◌, length, get_or, drop, filter, Option, None, Some, option_map, option_and_then, refl, sym, ap, subst, ◌∙◌, append_assoc, length-append}
 use Rattle.std.specs.FinMap.{entries, find, get, get-entries, is_sorted, entries_sorted}
 use Rattle.std.specs.FinMap.Entries.{below_all}
 use Rattle.std.specs.declared.cmp.Ordering.{Ordering}
@@ -11,7 +11,7 @@ use Rattle.std.specs.List.{slice_get, cons_option}
 use Rattle.pp_values.specs.Rising.{text_cmp}
 use Rattle.res_core.specs.declared.exported.Exported.{Exported}
 use Rattle.res_core.specs.declared.export_set.ExportSet.{ExportSet}
-use Rattle.compile_core.specs.declared.form.Collector.{Collector}
+use Rattle.compile_core.specs.declared.step.Collector.{Collector}
 use Rattle.export_store.specs.declared.export_place.ExportPlace.{ExportPlace}
 use Rattle.export_store.specs.ExportQueries.{Placed, placed, all_placed, exports_of, is_found, places_of, found}
 use Rattle.export_store.specs.Rows.{Entry}
@@ -19,6 +19,7 @@ use Rattle.export_store.specs.Sets.{Sets}
 use Rattle.compile_core.specs.Declarations.{kind}
 use Rattle.compile_core.specs.Imports.{found_by}
 use Rattle.compile_core.specs.ImportPlaces.{placed_at, all_placed_at}
+use Rattle.compile_core.proofs.Statements.{at_front}
 
 -- each of these stands at its place
 abbrev pub StandAt : Sets → List Placed → Type 0
@@ -29,7 +30,8 @@ pub stand-append : (sets : Sets) (ps qs : List Placed) → StandAt sets ps → S
 stand-append sets [] qs h k = k
 stand-append sets (p ∷ ps) qs h k = (h.0, stand-append sets ps qs h.1 k)
 
-stand_if : (sets : Sets) (b : Bool) (p : Placed) (ps : List Placed) → placed_at sets p.0 ≡ Some p → StandAt sets ps → StandAt sets (cond b (p ∷ ps) ps)
+stand_if : (sets : Sets) (b : Bool) (p : Placed) (ps : List Placed) → placed_at sets p.0 ≡ Some p → StandAt sets ps →
+    StandAt sets (cond b (p ∷ ps) ps)
 stand_if sets true p ps h k = (h, k)
 stand_if sets false p ps h k = k
 
@@ -40,20 +42,25 @@ stand-filter sets q (p ∷ ps) h = stand_if sets (q p) p (filter q ps) h.0 (stan
 -- so that the places give them back
 back : (sets : Sets) (ps : List Placed) → StandAt sets ps → all_placed_at sets (places_of ps) ≡ ps
 back sets [] h = refl
-back sets (p ∷ ps) h = ap (λ o. cons_option o (all_placed_at sets (places_of ps))) h.0 ∙ ap (λ l. p ∷ l) (back sets ps h.1)
+back sets (p ∷ ps) h = ap (λ o. cons_option o (all_placed_at sets (places_of ps))) h.0
+    ∙ ap (λ l. p ∷ l) (back sets ps h.1)
 
 behind : {X : Type 0} (front : List X) (x : X) (xs : List X) → slice_get (front ++ x ∷ xs) (length front) ≡ Some x
 behind [] x xs = refl
 behind (y ∷ ys) x xs = behind ys x xs
 
 -- the resources of a node's set from a place on
-set_stands : (sets : Sets) (node : List ℕ) (set : ExportSet) → get sets node ≡ Some set → (front es : List Exported) (i : ℕ) → set.items ≡ front ++ es → i ≡ length front →
+set_stands : (sets : Sets) (node : List ℕ) (set : ExportSet) → get sets node ≡ Some set →
+    (front es : List Exported) (i : ℕ) → set.items ≡ front ++ es → i ≡ length front →
     StandAt sets (placed node i es)
 set_stands sets node set has front [] i parts at = tt
 set_stands sets node set has front (e ∷ es) i parts at = (
-  ap (λ o. option_map (λ x. (record { node = node; place = i }, x)) (option_and_then (λ (s : ExportSet). slice_get s.items i) o)) has
-      ∙ ap (λ o. option_map (λ x. (record { node = node; place = i }, x)) o) (ap (λ xs. slice_get xs i) parts ∙ ap (slice_get (front ++ e ∷ es)) at ∙ behind front e es),
-  set_stands sets node set has (front ++ e ∷ []) es (i + 1) (parts ∙ sym (append_assoc front (e ∷ []) es)) (ap (λ n. n + 1) at ∙ sym (length-append front (e ∷ []))),
+  ap (λ o. option_map (λ x. (record { node = node; place = i }, x))
+      (option_and_then (λ (s : ExportSet). slice_get s.items i) o)) has
+      ∙ ap (λ o. option_map (λ x. (record { node = node; place = i }, x)) o)
+          (ap (λ xs. slice_get xs i) parts ∙ ap (slice_get (front ++ e ∷ es)) at ∙ behind front e es),
+  set_stands sets node set has (front ++ e ∷ []) es (i + 1) (parts ∙ sym (append_assoc front (e ∷ []) es))
+      (ap (λ n. n + 1) at ∙ sym (length-append front (e ∷ []))),
 )
 
 first : (a b : Bool) → T (a && b) → T a
@@ -69,15 +76,18 @@ less Less h = refl
 less Equal h = absurd h
 less Greater h = absurd h
 
-below_middle : (x : List ℕ) (front es : List Entry) (e : Entry) → T (below_all text_cmp x (front ++ e ∷ es)) → text_cmp x e.0 ≡ Less
+below_middle : (x : List ℕ) (front es : List Entry) (e : Entry) → T (below_all text_cmp x (front ++ e ∷ es)) →
+    text_cmp x e.0 ≡ Less
 below_middle x [] es e h = less _ (first _ _ h)
 below_middle x (f ∷ fs) es e h = below_middle x fs es e (second _ _ h)
 
 -- among entries whose names rise, each is found by its name
-found_entry : (front es : List Entry) (e : Entry) → T (is_sorted text_cmp (front ++ e ∷ es)) → find text_cmp e.0 (front ++ e ∷ es) ≡ Some e.1
+found_entry : (front es : List Entry) (e : Entry) → T (is_sorted text_cmp (front ++ e ∷ es)) →
+    find text_cmp e.0 (front ++ e ∷ es) ≡ Some e.1
 found_entry [] es e h = ap (λ r. cond (is_eq r) (Some e.1) (find text_cmp e.0 es)) (tied_itself nat_list_cmp_total e.0)
 found_entry (f ∷ fs) es e h =
-    ap (λ r. cond (is_eq r) (Some f.1) (find text_cmp e.0 (fs ++ e ∷ es))) (nat_list_cmp_total.antisymm e.0 f.0 ∙ ap ordering_reverse (below_middle f.0 fs es e (first _ _ h)))
+    ap (λ r. cond (is_eq r) (Some f.1) (find text_cmp e.0 (fs ++ e ∷ es)))
+        (nat_list_cmp_total.antisymm e.0 f.0 ∙ ap ordering_reverse (below_middle f.0 fs es e (first _ _ h)))
     ∙ found_entry fs es e (second _ _ h)
 
 -- the sets of all nodes, from an entry on
@@ -85,19 +95,30 @@ pub all_stand : (sets : Sets) (front es : List Entry) → entries sets ≡ front
 all_stand sets front [] parts = tt
 all_stand sets front (e ∷ es) parts =
     let has : get sets e.0 ≡ Some e.1 =
-    get-entries sets e.0 ∙ ap (find text_cmp e.0) parts ∙ found_entry front es e (subst (λ l. T (is_sorted text_cmp l)) parts (entries_sorted sets)) in
+    get-entries sets e.0 ∙ ap (find text_cmp e.0) parts
+        ∙ found_entry front es e (subst (λ l. T (is_sorted text_cmp l)) parts (entries_sorted sets)) in
     stand-append sets (placed e.0 0 e.1.items) (all_placed es) (set_stands sets e.0 e.1 has [] e.1.items 0 refl refl)
     (all_stand sets (front ++ e ∷ []) es (parts ∙ sym (append_assoc front (e ∷ []) es)))
 
-pub found_items : (sets : Sets) (node : List ℕ) (c : Collector) (k : List ℕ) (tag : Option (List ℕ)) (items places : List ExportPlace) →
-    items ≡ places → places ≡ found k tag node sets → k ≡ kind → tag ≡ c.tag → all_placed_at sets items ≡ found_by sets node c
+pub found_items : (sets : Sets) (node : List ℕ) (c : Collector) (k : List ℕ) (tag : Option (List ℕ))
+    (items places : List ExportPlace) →
+    items ≡ places → places ≡ found k tag node sets → k ≡ kind → tag ≡ c.tag →
+        all_placed_at sets items ≡ found_by sets node c
 found_items sets node c k tag items places same found_there of_kind of_tag =
-    ap (all_placed_at sets) (same ∙ found_there ∙ ap (λ x. found x tag node sets) of_kind ∙ ap (λ x. found kind x node sets) of_tag)
-    ∙ back sets _ (stand-filter sets (is_found kind c.tag node) (exports_of sets) (all_stand sets [] (entries sets) refl))
+    ap (all_placed_at sets) (same ∙ found_there ∙ ap (λ x. found x tag node sets) of_kind
+        ∙ ap (λ x. found kind x node sets) of_tag)
+    ∙ back sets _ (stand-filter sets (is_found kind c.tag node) (exports_of sets)
+        (all_stand sets [] (entries sets) refl))
 
 append_option : {X : Type 0} (o : Option X) (xs : List X) → cons_option o xs ≡ cons_option o [] ++ xs
 append_option None xs = refl
 append_option (Some x) xs = refl
 
-pub at_places : (sets : Sets) (all : List ExportPlace) (p : ExportPlace) (ps : List ExportPlace) → all ≡ p ∷ ps → all_placed_at sets all ≡ all_placed_at sets (p ∷ []) ++ all_placed_at sets ps
+pub at_places : (sets : Sets) (all : List ExportPlace) (p : ExportPlace) (ps : List ExportPlace) → all ≡ p ∷ ps →
+    all_placed_at sets all ≡ all_placed_at sets (p ∷ []) ++ all_placed_at sets ps
 at_places sets all p ps parts = ap (all_placed_at sets) parts ∙ append_option (placed_at sets p) (all_placed_at sets ps)
+
+pub places_from : (sets : Sets) (all : List ExportPlace) (i : ℕ) (p : ExportPlace) → i < length all →
+    p ≡ get_or all i p →
+    all_placed_at sets (drop i all) ≡ all_placed_at sets (p ∷ []) ++ all_placed_at sets (drop (i + 1) all)
+places_from sets all i p low is = at_places sets (drop i all) p (drop (i + 1) all) (at_front all i p low is)

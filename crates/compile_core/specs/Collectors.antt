@@ -9,8 +9,8 @@ use Rattle.pp_tree.specs.declared.collector.Test.{Test, out-Test}
 use Rattle.pp_tree.specs.declared.collector.Test.TheOpen.{Test-F}
 use Rattle.pp_tree.specs.declared.expr.Expr.{Expr}
 use Rattle.pp_tree.specs.declared.resource.Attribute.{Attribute}
-use Rattle.compile_core.specs.declared.form.Collector.{Collector}
-use Rattle.compile_core.specs.Layers.{TestLayer}
+use Rattle.pp_tree.specs.Layers.{TestLayer}
+use Rattle.compile_core.specs.declared.step.Collector.{Collector}
 use Rattle.compile_core.specs.Parts.{only, written_text}
 use Rattle.compile_core.specs.Places.{main_place}
 
@@ -56,4 +56,5 @@ collector_from kind exported q attributes line =
     if bytes_eq kind (codes "Notify") && exported then without_settings attributes (asking line q) else None
 
 unfoldable pub collector_of : tree.Collector → Option Collector
-collector_of c = let written = tree.out-Collector c in collector_from written.kind written.exported written.query written.attributes written.at
+collector_of c = let written = tree.out-Collector c in
+    collector_from written.kind written.exported written.query written.attributes written.at

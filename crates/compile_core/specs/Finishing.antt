@@ -2,8 +2,8 @@
 use Rattle.std.specs.Prelude.{ℕ, Bool, true, false, not, ◌||◌, List, [], ◌∷◌, map, filter, Option, None, Some, codes}
 use Rattle.std.specs.List.{list_any}
 use Rattle.pp_values.specs.Datum.{text}
-use Rattle.compile_core.specs.declared.form.Notify.{Notify}
-use Rattle.compile_core.specs.declared.form.Collector.{Collector}
+use Rattle.compile_core.specs.declared.step.Notify.{Notify}
+use Rattle.compile_core.specs.declared.step.Collector.{Collector}
 use Rattle.pp_values.specs.Settings.{Setting}
 use Rattle.res_core.specs.TagNames.{tags}
 use Rattle.res_core.specs.declared.resource.Resource.{Resource}
@@ -12,7 +12,7 @@ use Rattle.res_core.specs.declared.catalog.Catalog.{Catalog}
 use Rattle.res_core.specs.declared.exported.Exported.{Exported}
 use Rattle.res_core.specs.declared.export_set.ExportSet.{ExportSet}
 use Rattle.export_store.specs.ExportQueries.{has_tag}
-use Rattle.compile_core.specs.Declarations.{Declared, local, imported, kind, place_of}
+use Rattle.compile_core.specs.Declarations.{DeclaredNotify, local, imported, kind, place_of}
 
 -- ---- resources
 
@@ -39,7 +39,7 @@ notify_resource n = record {
 }
 
 -- an import has the attributes and the tags that its node published
-abbrev pub resource_of : Declared → Resource
+abbrev pub resource_of : DeclaredNotify → Resource
 resource_of (local n) = notify_resource n
 resource_of (imported p) = p.1.item
 
@@ -50,7 +50,7 @@ abbrev pub is_collected : List Collector → List (List ℕ) → Bool
 is_collected cs ts = list_any (λ c. has_tag c.tag ts) cs
 
 -- An exported resource is not in its own node's catalog, unless a collector takes it. Imports are all taken.
-abbrev pub is_live : List Collector → Declared → Bool
+abbrev pub is_live : List Collector → DeclaredNotify → Bool
 is_live cs (local n) = not n.exported || is_collected cs (notify_resource n).tags
 is_live cs (imported p) = true
 
@@ -61,28 +61,28 @@ main_class = record {
   inside = [];
 }
 
-abbrev pub in_main : Declared → Held
+abbrev pub in_main : DeclaredNotify → Held
 in_main d = record { item = resource_of d; inside = 0 ∷ [] }
 
-abbrev pub listed : List Collector → List Declared → List Held
+abbrev pub listed : List Collector → List DeclaredNotify → List Held
 listed cs ds = map in_main (filter (is_live cs) ds)
 
-unfoldable pub catalog_of : List ℕ → List Collector → List Declared → Catalog
+unfoldable pub catalog_of : List ℕ → List Collector → List DeclaredNotify → Catalog
 catalog_of node cs ds = record { node = node; resources = main_class ∷ listed cs ds; edges = []; log = [] }
 
 -- ---- the exports
 
 -- what was imported is not exported again
-abbrev pub is_exported : Declared → Bool
+abbrev pub is_exported : DeclaredNotify → Bool
 is_exported (local n) = n.exported
 is_exported (imported p) = false
 
-abbrev pub exported : Declared → Exported
+abbrev pub exported : DeclaredNotify → Exported
 exported d = record { node_place = place_of d; item = resource_of d }
 
 -- live or not
-abbrev pub exported_of : List Declared → List Exported
+abbrev pub exported_of : List DeclaredNotify → List Exported
 exported_of ds = map exported (filter is_exported ds)
 
-abbrev pub exports_of : List Declared → ExportSet
+abbrev pub exports_of : List DeclaredNotify → ExportSet
 exports_of ds = record { items = exported_of ds }

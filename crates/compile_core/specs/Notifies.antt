@@ -1,4 +1,5 @@
--- Which resources are evaluated: `notify { 'title': message => 'text', tag => 'word' }`, plain or behind `@@`, with one body and
+-- Which resources are evaluated: `notify { 'title': message => 'text', tag => 'word' }`, plain or behind `@@`, with one
+-- body and
 -- each of the two attributes at most once.
 use Rattle.std.specs.Prelude.{ℕ, Bool, true, false, if◌then◌else◌, List, [], ◌∷◌, Option, Some, None, option_and_then, option_map, codes}
 use Rattle.std.specs.Str.{bytes_eq}
@@ -10,7 +11,7 @@ use Rattle.pp_tree.specs.declared.resource.Resource.{Resource}
 use Rattle.pp_tree.specs.declared.resource.ResourceForm.{ResourceForm}
 use Rattle.pp_tree.specs.declared.resource.ResourceForm.TheVariants as marked
 use Rattle.pp_tree.specs.declared.resource.Setting.{Setting}
-use Rattle.compile_core.specs.declared.form.Notify.{Notify}
+use Rattle.compile_core.specs.declared.step.Notify.{Notify}
 use Rattle.compile_core.specs.declared.notifies.Given.{Given}
 use Rattle.compile_core.specs.Parts.{only, written_text, written_title}
 use Rattle.compile_core.specs.Places.{main_place}
@@ -49,7 +50,8 @@ given_from given (a ∷ more) = option_and_then (λ now. given_from now more) (w
 -- ---- resources
 
 abbrev pub notify_with : Bool → ℕ → List ℕ → Given → Notify
-notify_with exported line title given = record { exported = exported; title = title; message = given.message; tag = given.tag; at = main_place line }
+notify_with exported line title given = record { exported = exported; title = title; message = given.message;
+    tag = given.tag; at = main_place line }
 
 -- its line is that of its title
 abbrev pub notify_titled : Bool → Body Expr → List ℕ → Option Notify
@@ -64,7 +66,8 @@ is_exported marked.Virtual = None
 is_exported marked.Exported = Some true
 
 abbrev pub notify_if : Bool → Resource Expr → Option Notify
-notify_if true r = option_and_then (λ exported. option_and_then (notify_in exported) (only r.bodies)) (is_exported r.form)
+notify_if true r = option_and_then (λ exported. option_and_then (notify_in exported) (only r.bodies))
+    (is_exported r.form)
 notify_if false r = None
 
 -- the kind is written in exactly this way

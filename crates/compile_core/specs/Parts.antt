@@ -4,7 +4,7 @@ use Rattle.pp_tree.specs.declared.collector.Test.TheOpen.{Form-F}
 use Rattle.pp_tree.specs.declared.expr.Expr.{Expr}
 use Rattle.pp_tree.specs.declared.expr.Form.{out-Form}
 use Rattle.pp_tree.specs.Building.{form_of}
-use Rattle.compile_core.specs.Layers.{FormLayer}
+use Rattle.pp_tree.specs.Layers.{FormLayer}
 
 -- the element of a list of one
 abbrev pub only : {T : Type 0} → List T → Option T

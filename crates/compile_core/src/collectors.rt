@@ -2,7 +2,7 @@
 ghost use Rattle.std.specs.Prelude.{◌≡◌, IfOk, option_copied};
 ghost use Rattle.compile_core.specs.Collectors as collector;
 
-use crate::form::Collector;
+use crate::step::Collector;
 use crate::parts::{only, written_text};
 use crate::places::main_place;
 use pp_tree::collector::{Collector as Written, Comparison, Conjunction, Query, Test};

@@ -1,7 +1,7 @@
 ghost use Rattle.std.specs.Prelude.{◌≡◌};
 ghost use Rattle.compile_core.specs.Declarations.{title_of, place_of};
 
-use crate::form::Notify;
+use crate::step::Notify;
 use export_store::export_place::ExportPlace;
 use pp_values::place::Place;
 use pp_values::text::Text;

@@ -1,17 +1,18 @@
 ghost use Rattle.std.specs.Prelude.{◌≡◌, [], ◌∷◌, ◌++◌, None, IfOk, option_copied, option_map};
-ghost use Rattle.compile_core.specs.Declarations.{title_of, declared_as, declare, duplicate as duplicate_of, in_turn, evaluate};
+ghost use Rattle.compile_core.specs.Declarations.{title_of, declared_as, declare, duplicate as duplicate_of, evaluate};
 ghost use Rattle.compile_core.specs.DeclarationViews.{seen, all_seen};
-ghost use Rattle.compile_core.specs.Meaning.{Answers};
+ghost use Rattle.pp_values.specs.Answers.{Answers, in_turn};
 
 use crate::declaration::Declaration;
-use crate::form::Form;
 use crate::places::not_built;
+use crate::step::Step;
 use pp_values::fault::{Fault, Stop, What};
+use pp_values::kind::Kind;
 use pp_values::memory::Memory;
 use pp_values::reference::Reference;
 use pp_values::text::Text;
 use std::alloc::Global;
-use std::collections::HashMap;
+use std::collections::BTreeMap;
 use std::marker::Model;
 
 /// What is declared for a node, in order. No title is declared twice.
@@ -19,15 +20,15 @@ use std::marker::Model;
 pub struct Declarations<'a> {
     items: Vec<Declaration<'a>>,
     // Where in `items` a title is declared.
-    by_title: HashMap<&'a str, usize>,
+    by_title: BTreeMap<&'a str, usize>,
 }
 
 impl<'a> Model for Declarations<'a> {
     ghost use Rattle.std.specs.Prelude.{List};
-    ghost use Rattle.compile_core.specs.Declarations.{Declared};
-    ghost use Rattle.compile_core.specs.DeclaredCodes.{coded_all_declared};
+    ghost use Rattle.compile_core.specs.Declarations.{DeclaredNotify};
+    ghost use Rattle.compile_core.specs.NotifyCodes.{coded_all_declared};
 
-    ghost Value = { List Declared };
+    ghost Value = { List DeclaredNotify };
 
     ghost coded = { coded_all_declared };
 
@@ -45,7 +46,7 @@ impl<'a> Declarations<'a> {
     {
         Declarations {
             items: Vec::new(alloc),
-            by_title: HashMap::new(alloc),
+            by_title: BTreeMap::new(alloc),
         }
     }
 
@@ -96,24 +97,21 @@ fn duplicate(
 ) -> Result<Fault, Memory>
     ensures { IfOk result (λ f. f ≡ duplicate_of (seen later.now) (seen earlier.now)) }
 {
-    let kind = Text::from_str(alloc, "notify")?;
+    let kind = Kind::from_str(alloc, "notify")?;
     let title = later.title().copy(alloc)?;
     let reference = Reference { kind, title };
     let earlier = earlier.place().copy(alloc)?;
     let at = later.place().copy(alloc)?;
-    Ok(Fault {
-        at,
-        what: What::Duplicate { reference, earlier },
-    })
+    Fault::new(alloc, at, What::Duplicate { reference, earlier })
 }
 
 /// The resources that the statements declare, or the first fault.
-pub fn declare_locals<'a>(alloc: Global, forms: &'a [Form]) -> Result<Declarations<'a>, Stop>
-    ensures { Answers result (in_turn evaluate [] forms.now) }
+pub fn declare_locals<'a>(alloc: Global, steps: &'a [Step]) -> Result<Declarations<'a>, Stop>
+    ensures { Answers result (in_turn evaluate [] steps.now) }
 {
     let mut declarations = Declarations::new(alloc);
-    for form in forms {
-        declarations = evaluate(alloc, declarations, form)?;
+    for step in steps {
+        declarations = evaluate(alloc, declarations, step)?;
     }
     Ok(declarations)
 }
@@ -121,13 +119,13 @@ pub fn declare_locals<'a>(alloc: Global, forms: &'a [Form]) -> Result<Declaratio
 fn evaluate<'a>(
     alloc: Global,
     declarations: Declarations<'a>,
-    form: &'a Form,
+    step: &'a Step,
 ) -> Result<Declarations<'a>, Stop>
-    ensures { Answers result (evaluate declarations.entry form.now) }
+    ensures { Answers result (evaluate declarations.entry step.now) }
 {
-    match form {
-        Form::Notify(notify) => declarations.declare(alloc, Declaration::Local(notify)),
-        Form::Collector(_) => Ok(declarations),
-        Form::NotBuilt(line) => Err(Stop::Fault(not_built(alloc, *line)?)),
+    match step {
+        Step::Notify(notify) => declarations.declare(alloc, Declaration::Local(notify)),
+        Step::Collector(_) => Ok(declarations),
+        Step::NotBuilt(line) => Err(Stop::Fault(not_built(alloc, *line)?)),
     }
 }

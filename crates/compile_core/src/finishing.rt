@@ -10,7 +10,8 @@ ghost use Rattle.compile_core.specs.DeclarationViews.{seen, all_seen, collectors
 ghost use Rattle.compile_core.specs.Finishing.{main_tags as tags_of_main, main_class as class_main, given_tags as tags_given, message_settings, notify_resource as resource_of_notify, resource_of, is_collected as is_collected_by, listed, catalog_of as catalog_meant, exported as exported_resource, exported_of, exports_of as exports_meant};
 
 use crate::declaration::Declaration;
-use crate::form::{Collector, Notify};
+use crate::step::{Collector, Notify};
+use pp_values::kind::Kind;
 use pp_values::memory::Memory;
 use pp_values::text::Text;
 use pp_values::texts::Texts;
@@ -79,7 +80,8 @@ fn push_if_live(
     container: &Tags,
 ) -> Result<(), Memory>
     requires { container.now ≡ tags_of_main }
-    ensures { OnOk result (resources.new ≡ resources.old ++ listed (collectors_at collectors.now) (seen declaration.now ∷ [])) }
+    ensures { OnOk result (resources.new ≡ resources.old ++
+        listed (collectors_at collectors.now) (seen declaration.now ∷ [])) }
 {
     match declaration {
         Declaration::Local(notify) => {
@@ -87,11 +89,11 @@ fn push_if_live(
             if notify.exported && !is_collected(collectors, &resource.tags) {
                 return Ok(());
             }
-            resources.push(in_main(alloc, resource)?)
+            Ok(resources.push(in_main(alloc, resource)?)?)
         }
         Declaration::Imported(_, exported) => {
             let resource = copy_resource(alloc, &exported.item)?;
-            resources.push(in_main(alloc, resource)?)
+            Ok(resources.push(in_main(alloc, resource)?)?)
         }
     }
 }
@@ -172,7 +174,7 @@ fn push_if_exported(
 {
     if let Declaration::Local(notify) = declaration {
         if notify.exported {
-            return items.push(exported_notify(alloc, notify, container)?);
+            items.push(exported_notify(alloc, notify, container)?)?;
         }
     }
     Ok(())
@@ -200,7 +202,7 @@ fn main_tags(alloc: Global) -> Result<Tags, Memory>
 fn main_class(alloc: Global) -> Result<Held, Memory>
     ensures { IfOk result (λ h. h ≡ class_main) }
 {
-    let kind = Text::from_str(alloc, "class")?;
+    let kind = Kind::from_str(alloc, "class")?;
     let title = Text::from_str(alloc, "main")?;
     let tags = main_tags(alloc)?;
     Ok(Held {
@@ -219,10 +221,10 @@ fn notify_resource(alloc: Global, notify: &Notify, container: &Tags) -> Result<R
     requires { container.now ≡ tags_of_main }
     ensures { IfOk result (λ r. r ≡ resource_of_notify notify.now) }
 {
-    let kind = Text::from_str(alloc, "notify")?;
+    let kind = Kind::from_str(alloc, "notify")?;
     let title = notify.title.copy(alloc)?;
     let given = given_tags(alloc, &notify.tag)?;
-    let tags = tags_of(alloc, &kind, &title, &given, container)?;
+    let tags = tags_of(alloc, kind.as_text(), &title, &given, container)?;
     let attributes = message_attributes(alloc, &notify.message)?;
     Ok(Resource {
         kind,

@@ -28,15 +28,14 @@ impl Language for PuppetLanguage {
 
     type Fault = Fault;
 
-    ghost use Rattle.site_bundle.specs.SiteView.{facts_for};
+    ghost use Rattle.compile_core.specs.Puppet.{puppet, listed};
     ghost use Rattle.site_docs.specs.SiteText as sites;
     ghost use Rattle.site_docs.specs.CatalogText as catalogs;
     ghost use Rattle.site_docs.specs.FaultText as faults;
-    ghost use Rattle.compile_core.specs.Meaning as main;
 
-    ghost meaning = { λ site node facts sets. main.meaning site.manifest node sets };
+    ghost meaning = { puppet };
 
-    ghost listed = { facts_for };
+    ghost listed = { listed };
 
     ghost site_form = { sites.site_text };
 
@@ -52,7 +51,7 @@ impl Language for PuppetLanguage {
         _facts: &Value,
         sets: &Version,
     ) -> Result<(Catalog, ExportSet), CompileStop<Fault>> {
-        match compile(alloc, site.manifest(), node, sets) {
+        match compile(alloc, site, node, sets) {
             Ok(made) => Ok(made),
             Err(Stop::Fault(fault)) => Err(CompileStop::Fault(fault)),
             Err(Stop::Memory) => Err(CompileStop::Memory),

@@ -6,11 +6,14 @@ pub mod compiling;
 mod declaration;
 mod declarations;
 mod finishing;
-pub mod form;
-pub mod forms;
 mod importing;
 pub mod language;
 pub mod laws;
 mod notifies;
 mod parts;
 pub mod places;
+pub mod step;
+pub mod steps;
+
+pub use compiling::{compile, compile_file};
+pub use language::PuppetLanguage;

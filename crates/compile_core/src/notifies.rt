@@ -2,7 +2,7 @@
 ghost use Rattle.std.specs.Prelude.{◌≡◌, IfOk};
 ghost use Rattle.compile_core.specs.Notifies as notify;
 
-use crate::form::Notify;
+use crate::step::Notify;
 use crate::parts::{only, written_text, written_title};
 use crate::places::main_place;
 use pp_tree::resource::{Attribute, Body, Resource, ResourceForm, Setting};

@@ -21,7 +21,7 @@ pub fn only<T>(items: &[T]) -> Option<&T>
 pub fn written_text(expr: &Expr) -> Option<&Text>
     ensures { option_copied result ≡ part.written_text expr.now }
 {
-    match &expr.form {
+    match expr.form.get() {
         Form::Text(text) => Some(text),
         _ => None,
     }

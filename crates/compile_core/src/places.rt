@@ -4,12 +4,9 @@ ghost use Rattle.compile_core.specs.Places as place;
 
 use pp_values::fault::{Fault, What};
 use pp_values::memory::Memory;
-use pp_values::place::Place;
+use pp_values::place::{MAIN_MANIFEST, Place};
 use pp_values::text::Text;
 use std::alloc::Global;
-
-/// The path of the main manifest in a site.
-pub const MAIN_MANIFEST: &str = "manifests/site.pp";
 
 /// The place at this line of the main manifest.
 pub fn main_place(alloc: Global, line: u32) -> Result<Place, Memory>
@@ -24,8 +21,5 @@ pub fn not_built(alloc: Global, line: u32) -> Result<Fault, Memory>
     ensures { IfOk result (λ f. f ≡ place.not_built line) }
 {
     let at = main_place(alloc, line)?;
-    Ok(Fault {
-        at,
-        what: What::NotBuilt,
-    })
+    Fault::new(alloc, at, What::NotBuilt)
 }

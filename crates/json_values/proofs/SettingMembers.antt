@@ -29,6 +29,7 @@ pub put_all-settings : (ss : List Setting) → is_rising (setting_names ss) ≡ 
 put_all-settings ss h = put_all-rising ss [] h
 
 -- at the end of a loop over what says settings nothing is left to put
-pub put_all-end : {X : Type 0} (said : X → Setting) (left : List X) (ms all : Members) → length left < 1 → put_all (map said left) ms ≡ all → ms ≡ all
+pub put_all-end : {X : Type 0} (said : X → Setting) (left : List X) (ms all : Members) →
+    length left < 1 → put_all (map said left) ms ≡ all → ms ≡ all
 put_all-end said [] ms all few h = h
 put_all-end said (x ∷ left) ms all few h = absurd (omega arith)

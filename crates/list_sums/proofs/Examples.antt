@@ -1,5 +1,5 @@
 -- The definitions on small values.
-use Rattle.std.proofs.Common.{◌≡◌, ℕ, ◌+◌, List, [], ◌∷◌, refl, arith}
+use Rattle.std.proofs.Common.{◌≡◌, ℕ, ◌+◌, [], ◌∷◌, refl, arith}
 use Rattle.list_sums.specs.Counts.{total, same, below, times, Once}
 
 sum_of_three : total (λ (n : ℕ). n + n) (1 ∷ 2 ∷ 5 ∷ []) ≡ 16

@@ -122,6 +122,19 @@ class : file_of main_path (line (codes "class ::a::b(Integer $x = 1) inherits c 
 unfolding read
 class = refl
 
+-- the line of a parameter is that of its variable, also where a type stands before it; the type has a line of its own
+parameter_line : file_of main_path (line (codes "class a(Integer") (codes "$x) { }"))
+    ≡ Ok (record {
+      statements = [];
+      definitions = (
+        name_of.Code (codes "a"),
+        definition.Class (tree.class_of (tree.name_at (codes "a") 1)
+            (tree.param (Some (tree.expr_at 1 (form.Type (codes "Integer")))) (codes "x") None 2 ∷ []) None [] 1),
+      ) ∷ [];
+    })
+unfolding read
+parameter_line = refl
+
 -- a node stands under each of its names
 node : file_of main_path (codes "node 'a.b', default { }")
     ≡ Ok (record {

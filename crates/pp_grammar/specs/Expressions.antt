@@ -228,7 +228,7 @@ module _ (N : Within) where
     by_name : (i j : Input) (x : Expr) → is_name (kind i) ≡ true → IsBinaryThere loosest i x j → IsInterpolated i x j
     other : (i j : Input) (x : Expr) → is_name (kind i) ≡ false → IsWhole false false i x j → IsInterpolated i x j
 
-  -- ---- param = [expr] VARIABLE ["=" expr]
+  -- ---- param = [expr] VARIABLE ["=" expr]. Its line is that of its variable.
 
   pub data IsDefault (bars : Bool) : Input → Expr → Input → Type 0 where
     default : (i j l : Input) (mark : Token) (x : Expr) → Opens N k.Assign i mark j → Inner bars j x l → IsDefault bars i x l
@@ -241,7 +241,7 @@ module _ (N : Within) where
   pub data IsParam (bars : Bool) : Input → Param Expr → Input → Type 0 where
     untyped : (i j : Input) (x : Expr) (p : Param Expr) → IsWhole false bars i x j → is_kind k.Variable (kind j) ≡ false → AsParam (line_at i.left) x p → IsParam bars i p j
     typed : (i j l m : Input) (type : Expr) (t : Token) (last : Option Expr) → IsWhole false bars i type j → Stands (is_kind k.Variable) j t l
-        → Maybe (IsDefault bars) (is_kind k.Assign) l last m → IsParam bars i (param_of (Some type) t.text last (line_at i.left)) m
+        → Maybe (IsDefault bars) (is_kind k.Assign) l last m → IsParam bars i (param_of (Some type) t.text last t.line) m
 
   -- args ":" block
   pub data IsCaseOption : Input → CaseOption → Input → Type 0 where

@@ -8,3 +8,4 @@ pub mod PartLemmas
 pub mod ScanLemmas
 pub mod TextLemmas
 pub mod WordLemmas
+mod Tables

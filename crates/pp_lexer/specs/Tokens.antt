@@ -2,8 +2,6 @@
 use Rattle.std.specs.Prelude.{◌≡◌, ℕ, ℤ, pos, zero, suc, ◌-◌, Bool, true, false, not, if◌then◌else◌, ◌==◌, List, [], ◌∷◌, ◌++◌, length, take, drop, slice_index, slice_get, Option, Some, None, Result, Ok, Err}
 use Rattle.std.specs.Char.{is_ascii_digit}
 use Rattle.pp_values.specs.declared.fault.Fault.{Fault}
-use Rattle.pp_values.specs.declared.fault.Stop.{Stop}
-use Rattle.pp_values.specs.declared.fault.Stop.TheVariants as stops
 use Rattle.pp_values.specs.declared.fault.What.TheVariants.{Syntax}
 use Rattle.pp_lexer.specs.Bytes.{blank_len, opens_comment, meets_brace, line_after}
 use Rattle.pp_lexer.specs.Escapes.{said}
@@ -131,9 +129,3 @@ whole_or_fault file ts (Some line) = Err (syntax_fault file line)
 -- the tokens of a file, or the fault at the line where they end early
 unfoldable pub lexed : List ℕ → List ℕ → Result (List Token) Fault
 lexed file text = whole_or_fault file (tokens text) (early_end (tokens text))
-
--- `lex` answers the tokens or the fault, unless memory fails
-abbrev pub Lexes : Result (List Token) Fault → Result (List Token) Stop → Type 0
-Lexes outcome (Ok ts) = outcome ≡ Ok ts
-Lexes outcome (Err (stops.Fault fault)) = outcome ≡ Err fault
-Lexes outcome (Err stops.Memory) = Unit {0}

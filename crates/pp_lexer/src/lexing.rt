@@ -2,7 +2,7 @@
 
 ghost use Rattle.std.specs.Prelude.{◌≡◌, ◌+◌, ◌^◌, ◌<◌, length, IfOk};
 ghost use Rattle.pp_lexer.specs.Tokens as spec;
-ghost use Rattle.pp_lexer.specs.Tokens.{Lexes};
+ghost use Rattle.pp_values.specs.Answers.{Answers};
 
 use crate::kind::Kind;
 use crate::scan::scan;
@@ -47,7 +47,7 @@ fn syntax_fault(alloc: Global, file: &Text, line: u32) -> Result<Fault, Memory>
 pub fn lex(alloc: Global, file: &Text, text: &Text) -> Result<Tokens, Stop>
     // Places count lines in 32 bits.
     requires { length text.now + 1 < 2 ^ 32 }
-    ensures { Lexes (spec.lexed file.now text.now) result }
+    ensures { Answers result (spec.lexed file.now text.now) }
 {
     let tokens = scan(alloc, text.as_str())?;
     match early_end(tokens.as_slice()) {

@@ -14,3 +14,9 @@ mod texts;
 pub mod token;
 pub mod tokens;
 mod words;
+
+pub use kind::Kind;
+pub use lexing::lex;
+pub use scan::end_line;
+pub use token::Token;
+pub use tokens::Tokens;

@@ -15,9 +15,9 @@ use Rattle.std.specs.Str.{bytes_eq}
 use Rattle.pp_tree.specs.declared.expr.Expr.{Expr}
 use Rattle.pp_tree.specs.declared.expr.Pair.{Pair}
 use Rattle.pp_tree.specs.declared.collector.Test.TheOpen.{Form-F}
-use Rattle.pp_tree.specs.declared.expr.Form.{out-Form, roll-Form, roll-out-Form}
+use Rattle.pp_tree.specs.declared.expr.Form.{Form, out-Form, roll-Form, roll-out-Form}
 use Rattle.pp_tree.specs.declared.expr.Form as forms
-use Rattle.pp_tree.specs.declared.expr.Form.TheVariants as Form
+use Rattle.pp_tree.specs.declared.expr.Form.TheVariants as form
 use Rattle.pp_tree.specs.Building.{form_of, line_of}
 use Rattle.pp_tree.specs.Layers.{FormLayer}
 use Rattle.pp_parser.specs.Keys.{Written, text, number, written, written_by, same_written, is_key, doubled_from, doubled_key}
@@ -43,27 +43,28 @@ pub record Walked (pairs : List (Pair Expr)) (at : ℕ) (texts : List (Bor (List
   pub ahead : doubled_from (take at pairs) (drop at pairs) ≡ doubled_key pairs
 
 -- what a key of each form says
-pub says_number : (key : Expr) (n : ℤ) → form_of key ≡ Form.Number n → written key ≡ Some (number n)
-unfolding written forms.out-Form denote.Hole.Carrier.out
-says_number key n is = ap (λ f. written_by (out-Form f)) is
+module _ (key : Expr) (f : Form) (same : f ≡ form_of key) where
+  pub says_number : (n : ℤ) → f ≡ form.Number n → written key ≡ Some (number n)
+  unfolding written forms.out-Form denote.Hole.Carrier.out
+  says_number n is = ap (λ f. written_by (out-Form f)) (sym same ∙ is)
 
-pub says_text : (key : Expr) (t : List ℕ) → (form_of key ≡ Form.Text t) ⊎ (form_of key ≡ Form.Name t) → written key ≡ Some (text t)
-unfolding written forms.out-Form denote.Hole.Carrier.out
-says_text key t (inl is) = ap (λ f. written_by (out-Form f)) is
-says_text key t (inr is) = ap (λ f. written_by (out-Form f)) is
+  pub says_text : (t : List ℕ) → (f ≡ form.Text t) ⊎ (f ≡ form.Name t) → written key ≡ Some (text t)
+  unfolding written forms.out-Form denote.Hole.Carrier.out
+  says_text t (inl is) = ap (λ f. written_by (out-Form f)) (sym same ∙ is)
+  says_text t (inr is) = ap (λ f. written_by (out-Form f)) (sym same ∙ is)
 
-pub says_none : (key : Expr) → ((n : ℤ) → form_of key ≡ Form.Number n → ⊥) → ((t : List ℕ) → form_of key ≡ Form.Text t → ⊥) → ((t : List ℕ) → form_of key ≡ Form.Name t → ⊥) → written key ≡ None
-unfolding written roll-Form denote.Hole.Carrier.roll
-says_none key no_number no_text no_name = go (out-Form (form_of key)) refl
-  where
-    rolled : (f : FormLayer) → out-Form (form_of key) ≡ f → form_of key ≡ roll-Form f
-    rolled f h = sym (roll-out-Form (form_of key)) ∙ ap roll-Form h
+  pub says_none : ((n : ℤ) → f ≡ form.Number n → ⊥) → ((t : List ℕ) → f ≡ form.Text t → ⊥) → ((t : List ℕ) → f ≡ form.Name t → ⊥) → written key ≡ None
+  unfolding written roll-Form denote.Hole.Carrier.roll
+  says_none no_number no_text no_name = go (out-Form (form_of key)) refl
+    where
+      rolled : (g : FormLayer) → out-Form (form_of key) ≡ g → f ≡ roll-Form g
+      rolled g h = same ∙ sym (roll-out-Form (form_of key)) ∙ ap roll-Form h
 
-    go : (f : FormLayer) → out-Form (form_of key) ≡ f → written_by f ≡ None
-    go (Form-F.Number n) h = absurd (no_number n (rolled (Form-F.Number n) h))
-    go (Form-F.Text t) h = absurd (no_text t (rolled (Form-F.Text t) h))
-    go (Form-F.Name t) h = absurd (no_name t (rolled (Form-F.Name t) h))
-    go _ h = refl
+      go : (g : FormLayer) → out-Form (form_of key) ≡ g → written_by g ≡ None
+      go (Form-F.Number n) h = absurd (no_number n (rolled (Form-F.Number n) h))
+      go (Form-F.Text t) h = absurd (no_text t (rolled (Form-F.Text t) h))
+      go (Form-F.Name t) h = absurd (no_name t (rolled (Form-F.Name t) h))
+      go _ h = refl
 
 -- one more pair
 is_key_push : (key : Expr) (ps : List (Pair Expr)) (p : Pair Expr) → is_key key (ps ++ p ∷ []) ≡ (is_key key ps || same_written (written p.key) (written key))
@@ -80,15 +81,16 @@ module _ {K : Type 0} (order : K → K → Ordering) (test : K → Bool) (k : K)
   turned false true = refl
   turned false false = refl
 
+  at_place : (x : K) (xs : List K) → (list_any (is_at (order k)) xs ≡ false → list_any test (insert_key order xs k) ≡ (list_any test xs || test k))
+      → (o : Ordering) → (is_eq o || list_any (is_at (order k)) xs) ≡ false
+      → list_any test (match_ordering o (k ∷ x ∷ xs) (x ∷ xs) (x ∷ insert_key order xs k)) ≡ ((test x || list_any test xs) || test k)
+  at_place x xs rest Less h = turned (test k) (test x || list_any test xs)
+  at_place x xs rest Equal h = absurd (true≢false h)
+  at_place x xs rest Greater h = ap (λ b. test x || b) (rest h) ∙ sym (or_assoc (test x) (list_any test xs) (test k))
+
   list_any-insert_key : (xs : List K) → list_any (is_at (order k)) xs ≡ false → list_any test (insert_key order xs k) ≡ (list_any test xs || test k)
   list_any-insert_key [] absent = turned (test k) false
-  list_any-insert_key (x ∷ xs) absent = by (order k x) absent
-    where
-      by : (o : Ordering) → (is_eq o || list_any (is_at (order k)) xs) ≡ false
-          → list_any test (match_ordering o (k ∷ x ∷ xs) (x ∷ xs) (x ∷ insert_key order xs k)) ≡ ((test x || list_any test xs) || test k)
-      by Less h = turned (test k) (test x || list_any test xs)
-      by Equal h = absurd (true≢false h)
-      by Greater h = ap (λ b. test x || b) (list_any-insert_key xs h) ∙ sym (or_assoc (test x) (list_any test xs) (test k))
+  list_any-insert_key (x ∷ xs) absent = at_place x xs (list_any-insert_key xs) (order k x) absent
 
 -- one more text, and one more number
 same_text : (u t : List ℕ) → is_eq (slice_cmp nat_cmp u t) ≡ bytes_eq t u

@@ -1,11 +1,10 @@
 -- What a manifest is: its tree, or its first fault.
-use Rattle.std.specs.Prelude.{◌≡◌, ℕ, ◌-◌, if◌then◌else◌, List, [], ◌∷◌, length, drop, Option, Some, None, Result, Ok, Err, codes}
+use Rattle.std.specs.Prelude.{ℕ, ◌-◌, if◌then◌else◌, List, [], ◌∷◌, length, drop, Option, Some, None, Result, Ok, Err}
 use Rattle.std.specs.Str.{bytes_eq}
 use Rattle.pp_values.specs.declared.fault.Fault.{Fault}
-use Rattle.pp_values.specs.declared.fault.Stop.{Stop}
-use Rattle.pp_values.specs.declared.fault.Stop.TheVariants as stops
 use Rattle.pp_values.specs.declared.fault.What.{What}
 use Rattle.pp_values.specs.declared.fault.What.TheVariants.{Syntax, DepthLimit}
+use Rattle.pp_values.specs.declared.place.TheConstants.{MAIN_MANIFEST}
 use Rattle.pp_lexer.specs.declared.token.Token.{Token}
 use Rattle.pp_lexer.specs.Bytes.{end_line}
 use Rattle.pp_lexer.specs.Tokens.{tokens}
@@ -22,7 +21,7 @@ use Rattle.pp_parser.specs.Definitions.{main_manifest, module_file}
 
 -- the path of the main manifest; all other manifests are module files
 abbrev pub main_path : List ℕ
-main_path = codes "manifests/site.pp"
+main_path = MAIN_MANIFEST.now
 
 abbrev pub start : List Token → Input
 start ts = record { left = ts; doubled = None }
@@ -67,9 +66,3 @@ file_from path end ts (Err refusals.Memory) = Err (fault_at path Syntax 0)
 -- the tree of the manifest at this path with this text, or its fault
 unfoldable pub file_of : List ℕ → List ℕ → Result File Fault
 file_of path text = file_from path (end_line text) (tokens text) (read_file path (start (tokens text)))
-
--- `parse` answers the tree or the fault, unless memory fails
-abbrev pub Parses : Result File Fault → Result File Stop → Type 0
-Parses outcome (Ok file) = outcome ≡ Ok file
-Parses outcome (Err (stops.Fault fault)) = outcome ≡ Err fault
-Parses outcome (Err stops.Memory) = Unit {0}

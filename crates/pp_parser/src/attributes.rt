@@ -9,11 +9,11 @@ ghost use Rattle.pp_parser.specs.Statements as spec;
 
 use crate::cursor::Cursor;
 use crate::goal::{Goal, Part};
-use crate::rules::Rules;
 use crate::refusal::Refusal;
+use crate::rules::Rules;
 use pp_lexer::kind::Kind;
-use pp_values::Items;
 use pp_tree::resource::{Attribute, Attributes, Setting, Splat};
+use pp_values::Items;
 use std::alloc::Global;
 
 impl<F: Fn(Global, &mut Cursor<'_>, usize, Goal) -> Result<Part, Refusal>> Rules<F> {

@@ -12,15 +12,15 @@ ghost use Rattle.pp_parser.specs.Nests.{Nests};
 
 use crate::cursor::Cursor;
 use crate::goal::{Goal, Part};
-use crate::rules::Rules;
 use crate::keys::doubled_key;
 use crate::kinds::is_bar;
 use crate::refusal::Refusal;
+use crate::rules::Rules;
 use pp_lexer::kind::Kind;
 use pp_tree::expr::{Expr, Form, Lambda, Pair};
-use pp_values::{Boxed, Items};
 use pp_tree::param::Param;
 use pp_tree::statement::Block;
+use pp_values::{Boxed, Items};
 use std::alloc::Global;
 
 impl<F: Fn(Global, &mut Cursor<'_>, usize, Goal) -> Result<Part, Refusal>> Rules<F> {

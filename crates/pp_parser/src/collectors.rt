@@ -8,13 +8,13 @@ ghost use Rattle.pp_parser.specs.Statements as spec;
 
 use crate::cursor::Cursor;
 use crate::goal::{Goal, Part};
-use crate::rules::Rules;
 use crate::refusal::Refusal;
+use crate::rules::Rules;
 use pp_lexer::kind::Kind;
 use pp_tree::collector::{Collector, Comparison, Conjunction, Query, Test};
-use pp_values::Items;
 use pp_tree::resource::Attributes;
 use pp_tree::statement::Operand;
+use pp_values::Items;
 use pp_values::text::Text;
 use std::alloc::Global;
 

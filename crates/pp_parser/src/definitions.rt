@@ -11,13 +11,13 @@ ghost use Rattle.std.specs.Prelude.{◌≡◌, false};
 
 use crate::cursor::Cursor;
 use crate::goal::{Goal, Part};
-use crate::rules::Rules;
 use crate::operands::{name_of, taken_name};
 use crate::refusal::Refusal;
+use crate::rules::Rules;
 use pp_lexer::kind::Kind;
 use pp_tree::definition::{Class, Define, Definition, Name, Node, NodeName};
-use pp_values::Items;
 use pp_tree::param::Params;
+use pp_values::Items;
 use pp_values::text::Text;
 use std::alloc::Global;
 

@@ -9,10 +9,10 @@ ghost use Rattle.std.specs.Prelude.{◌≡◌, None};
 use crate::cursor::Cursor;
 use crate::found::Found;
 use crate::goal::{Goal, Part};
-use crate::rules::Rules;
 use crate::item::Item;
 use crate::operands::taken_name;
 use crate::refusal::Refusal;
+use crate::rules::Rules;
 use pp_lexer::kind::Kind;
 use pp_tree::definition::{Definition, Name};
 use pp_tree::resource::ResourceForm;
@@ -112,8 +112,8 @@ impl<F: Fn(Global, &mut Cursor<'_>, usize, Goal) -> Result<Part, Refusal>> Rules
                 return Ok(found);
             }
             let item = self.item(tokens, pending)?;
-            tokens.eat(Kind::Semicolon)?;
             pending = found.put(item)?;
+            tokens.eat(Kind::Semicolon)?;
         }
         Err(tokens.refusal())
     }
@@ -149,8 +149,8 @@ impl<F: Fn(Global, &mut Cursor<'_>, usize, Goal) -> Result<Part, Refusal>> Rules
                 return Ok(found);
             }
             let definition = self.module_item(tokens)?;
-            tokens.eat(Kind::Semicolon)?;
             found.put_definition(definition)?;
+            tokens.eat(Kind::Semicolon)?;
         }
         Err(tokens.refusal())
     }

@@ -5,8 +5,8 @@ ghost use Rattle.pp_parser.specs.Definitions.{nothing_yet, found_with, pending_o
 
 use crate::item::Item;
 use pp_tree::definition::{Definition, Name};
-use pp_values::Items;
 use pp_tree::statement::Block;
+use pp_values::Items;
 use pp_values::memory::Memory;
 use std::alloc::Global;
 

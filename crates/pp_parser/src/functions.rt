@@ -9,17 +9,17 @@ ghost use Rattle.std.specs.Prelude.{[]};
 use crate::argument::WordArgument;
 use crate::cursor::Cursor;
 use crate::goal::{Goal, Part};
-use crate::rules::Rules;
 use crate::kinds::{begins_expression, is_name};
 use crate::operands::{Read, taken_name};
 use crate::operators::LOOSEST;
 use crate::refusal::Refusal;
+use crate::rules::Rules;
 use crate::started::Started;
 use pp_lexer::kind::Kind;
 use pp_tree::definition::Name;
 use pp_tree::expr::{Args, Expr};
-use pp_values::Items;
 use pp_tree::statement::{Statement, Words};
+use pp_values::Items;
 use std::alloc::Global;
 
 /// Arguments, and a name behind them that begins the next statement.

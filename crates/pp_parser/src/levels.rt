@@ -7,8 +7,8 @@ ghost use Rattle.pp_parser.specs.Levels.{within, part_by, max_levels};
 use crate::cursor::Cursor;
 use crate::found::Found;
 use crate::goal::{Goal, Part};
-use crate::rules::Rules;
 use crate::refusal::Refusal;
+use crate::rules::Rules;
 use std::alloc::Global;
 
 /// As many levels may be open.

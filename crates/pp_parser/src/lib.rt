@@ -13,7 +13,6 @@ pub mod files;
 pub mod found;
 pub mod functions;
 pub mod goal;
-pub mod rules;
 pub mod item;
 pub mod keys;
 pub mod kinds;
@@ -25,6 +24,9 @@ pub mod params;
 pub mod postfixes;
 pub mod refusal;
 pub mod resources;
+pub mod rules;
 pub mod started;
 pub mod statements;
 pub mod texts;
+
+pub use manifest::parse;

@@ -3,6 +3,8 @@
 ghost use Rattle.pp_parser.specs.Input.{Reads};
 ghost use Rattle.pp_parser.specs.Keys.{earlier_line};
 ghost use Rattle.pp_parser.specs.Manifest as manifest;
+ghost use Rattle.pp_tree.specs.declared.file.File.{File};
+ghost use Rattle.pp_values.specs.Answers.{Answers};
 ghost use Rattle.std.specs.Prelude.{◌≡◌, ◌+◌, ◌<◌, ◌^◌, length, Err, Some, IfOk};
 
 use crate::cursor::Cursor;
@@ -13,7 +15,7 @@ use pp_lexer::scan::{end_line, scan};
 use pp_lexer::token::Token;
 use pp_tree::file::File;
 use pp_tree::table::{TableStop, table_of};
-use pp_values::{Fault, Memory, Place, Stop, Text, What};
+use pp_values::{Fault, MAIN_MANIFEST, Memory, Place, Stop, Text, What};
 use std::alloc::Global;
 
 /// What the file at this path says.
@@ -21,7 +23,7 @@ use std::alloc::Global;
 fn read_file(alloc: Global, file: &Text, tokens: &mut Cursor<'_>) -> Result<Found, Refusal>
     ensures { Reads (manifest.read_file file.now tokens.old) result tokens.new }
 {
-    if file.is("manifests/site.pp") {
+    if file.is(MAIN_MANIFEST) {
         main_manifest(alloc, tokens)
     } else {
         module_file(alloc, tokens)
@@ -37,7 +39,7 @@ fn fault_at(alloc: Global, file: &Text, what: What, line: u32) -> Result<Fault, 
 
 /// The fault at a line of the file.
 fn stop_at(alloc: Global, file: &Text, what: What, line: u32) -> Stop
-    ensures { manifest.Parses (Err (manifest.fault_at file.now what line)) (Err result) }
+    ensures { Answers {T = File} (Err result) (Err (manifest.fault_at file.now what line)) }
 {
     match fault_at(alloc, file, what, line) {
         Ok(fault) => Stop::Fault(fault),
@@ -66,7 +68,7 @@ fn line_of(end: u32, tokens: &[Token], left: usize) -> u32
 
 /// The fault of a text that has no tree.
 fn refused(alloc: Global, file: &Text, end: u32, tokens: &[Token], refusal: Refusal) -> Stop
-    ensures { manifest.Parses (manifest.file_from file.now end tokens.now (Err refusal)) (Err result) }
+    ensures { Answers (Err result) (manifest.file_from file.now end tokens.now (Err refusal)) }
 {
     match refusal {
         Refusal::Wrong(left) => stop_at(alloc, file, What::Syntax, line_of(end, tokens, left)),
@@ -89,7 +91,7 @@ fn earlier(key: Option<u32>, name: u32) -> u32
 /// The tree of what was found, or its fault where a key stands twice or a name is defined twice.
 #[tactic(auto, unfolding(crate::specs::Manifest::file_with, crate::specs::Keys::earlier_line))]
 fn file_with(alloc: Global, file: &Text, found: Found, key: Option<u32>) -> Result<File, Stop>
-    ensures { manifest.Parses (manifest.file_with file.now found key) result }
+    ensures { Answers result (manifest.file_with file.now found key) }
 {
     let Found {
         statements,
@@ -118,7 +120,7 @@ pub fn parse(alloc: Global, file: &Text, text: &Text) -> Result<File, Stop>
     // Places count lines in 32 bits.
     requires { length text.now + 1 < 2 ^ 32 }
     // Exactly what the text means, unless memory ran out.
-    ensures answer { manifest.Parses (manifest.file_of file.now text.now) result }
+    ensures answer { Answers result (manifest.file_of file.now text.now) }
 {
     let tokens = scan(alloc, text.as_str())?;
     let end = end_line(text.as_str());

@@ -8,17 +8,17 @@ ghost use Rattle.std.specs.Prelude.{◌≡◌, IfOk};
 
 use crate::cursor::Cursor;
 use crate::goal::{Goal, Part};
-use crate::rules::Rules;
 use crate::operators::LOOSEST;
 use crate::refusal::Refusal;
+use crate::rules::Rules;
 use crate::started::Started;
 use pp_lexer::kind::Kind;
 use pp_lexer::token::Token;
 use pp_tree::definition::Name;
 use pp_tree::expr::{Expr, Form, Postfix};
-use pp_values::Items;
 use pp_tree::resource::ResourceForm;
 use pp_tree::statement::{Arrow, Chain, Link, Operand, Statement};
+use pp_values::Items;
 use pp_values::memory::Memory;
 use std::alloc::Global;
 

@@ -8,15 +8,15 @@ ghost use Rattle.pp_parser.specs.Nests.{Nests};
 
 use crate::cursor::Cursor;
 use crate::goal::{Goal, Part};
-use crate::rules::Rules;
 use crate::refusal::Refusal;
+use crate::rules::Rules;
 use crate::started::Started;
 use pp_lexer::kind::Kind;
 use pp_tree::expr::{Expr, Form, Operation};
-use pp_values::{Boxed, Items};
 use pp_tree::operators::{BinaryOperator, PrefixOperator};
 use pp_values::memory::Memory;
 use pp_values::text::Text;
+use pp_values::{Boxed, Items};
 use std::alloc::Global;
 
 /// How loosely the loosest binary operator binds.

@@ -9,8 +9,8 @@ ghost use Rattle.pp_parser.specs.Params as spec;
 
 use crate::cursor::Cursor;
 use crate::goal::{Goal, Part};
-use crate::rules::Rules;
 use crate::refusal::Refusal;
+use crate::rules::Rules;
 use pp_lexer::kind::Kind;
 use pp_tree::expr::{Expr, Form};
 use pp_tree::param::Param;
@@ -77,12 +77,7 @@ impl<F: Fn(Global, &mut Cursor<'_>, usize, Goal) -> Result<Part, Refusal>> Rules
 
     /// The variable and the default behind a type.
     #[tactic(auto, unfolding(crate::specs::Expressions::typed_param))]
-    fn typed_param(
-        &self,
-        tokens: &mut Cursor<'_>,
-        bars: bool,
-        kind: Expr,
-    ) -> Result<Param, Refusal>
+    fn typed_param(&self, tokens: &mut Cursor<'_>, bars: bool, kind: Expr) -> Result<Param, Refusal>
         requires { Nests self.now.levels (F.pre self.now.inner) (F.post self.now.inner) }
         ensures { Reads (rules.typed_param (within self.now.levels) bars kind tokens.old) result tokens.new }
     {

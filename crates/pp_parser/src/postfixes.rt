@@ -8,13 +8,13 @@ ghost use Rattle.pp_parser.specs.Nests.{Nests};
 
 use crate::cursor::Cursor;
 use crate::goal::{Goal, Part};
-use crate::rules::Rules;
 use crate::refusal::Refusal;
+use crate::rules::Rules;
 use crate::started::Started;
 use pp_lexer::kind::Kind;
 use pp_tree::expr::{Call, Expr, Form, Postfix};
-use pp_values::{Boxed, Items};
 use pp_values::memory::Memory;
+use pp_values::{Boxed, Items};
 use std::alloc::Global;
 
 /// A value and what followed it.

@@ -11,15 +11,15 @@ ghost use Rattle.std.specs.Prelude.{◌≡◌, false};
 
 use crate::cursor::Cursor;
 use crate::goal::{Goal, Part};
-use crate::rules::Rules;
 use crate::kinds::ends_body;
 use crate::refusal::Refusal;
+use crate::rules::Rules;
 use pp_lexer::kind::Kind;
 use pp_lexer::token::Token;
 use pp_tree::expr::Expr;
-use pp_values::Items;
 use pp_tree::resource::{Attributes, Body, Resource, ResourceForm};
 use pp_tree::statement::Operand;
+use pp_values::Items;
 use pp_values::text::Text;
 use std::alloc::Global;
 

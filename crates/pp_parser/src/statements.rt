@@ -8,15 +8,15 @@ ghost use Rattle.std.specs.Prelude.{◌≡◌, None};
 
 use crate::cursor::Cursor;
 use crate::goal::{Goal, Part};
-use crate::rules::Rules;
 use crate::operands::{Read, taken_name};
 use crate::refusal::Refusal;
+use crate::rules::Rules;
 use pp_lexer::kind::Kind;
 use pp_tree::definition::Name;
 use pp_tree::expr::{Args, Expr, Form, Postfix};
-use pp_values::Items;
 use pp_tree::resource::{Defaults, Override, Reference};
 use pp_tree::statement::{Block, Chain, Operand, Statement};
+use pp_values::Items;
 use std::alloc::Global;
 
 /// Whether a block ends here.
@@ -198,9 +198,9 @@ impl<F: Fn(Global, &mut Cursor<'_>, usize, Goal) -> Result<Part, Refusal>> Rules
                 return Ok(found);
             }
             let (statement, next) = self.statement(tokens, pending)?;
-            tokens.eat(Kind::Semicolon)?;
             found.push(statement)?;
             pending = next;
+            tokens.eat(Kind::Semicolon)?;
         }
         Err(tokens.refusal())
     }

@@ -8,10 +8,10 @@ ghost use Rattle.pp_parser.specs.Nests.{Nests};
 
 use crate::cursor::Cursor;
 use crate::goal::{Goal, Part};
-use crate::rules::Rules;
 use crate::kinds::is_name;
 use crate::operators::LOOSEST;
 use crate::refusal::Refusal;
+use crate::rules::Rules;
 use crate::started::Started;
 use pp_lexer::kind::Kind;
 use pp_tree::expr::{Expr, Form, Piece};

@@ -1,6 +1,7 @@
 -- The definitions at worked examples.
 use Rattle.std.proofs.Common.{◌≡◌, false, [], ◌∷◌, Option, None, Some, Ok, Err, refl}
 use Rattle.std.specs.Prelude.{codes, pos}
+use Rattle.std.specs.declared.cmp.Ordering.TheVariants.{Less, Equal, Greater}
 use Rattle.pp_tree.specs.declared.definition.Definition.TheVariants as d
 use Rattle.pp_tree.specs.declared.definition.Class.{Class}
 use Rattle.pp_tree.specs.declared.definition.Define.{Define}
@@ -10,8 +11,8 @@ use Rattle.pp_tree.specs.declared.expr.Form.TheVariants as f
 use Rattle.pp_tree.specs.declared.table.DefinitionName.TheVariants as n
 use Rattle.pp_tree.specs.declared.table.TableStop.TheVariants.{Doubled}
 use Rattle.pp_tree.specs.Building.{expr_at, line_of, form_of, Text, name_at, class_of, define_of, node_of, node_name}
-use Rattle.pp_tree.specs.Names.{without_front_colons, normal, same_name}
-use Rattle.pp_tree.specs.Tables.{table_of, table_from, all_rows, rows_of}
+use Rattle.pp_tree.specs.Names.{without_front_colons, normal, same_name, name_cmp}
+use Rattle.pp_tree.specs.Tables.{table_of, table_from, all_rows, rows_of, place_of}
 
 -- one `::` at the front is dropped, and letters are lower-cased
 normal_name : normal (codes "::Ntp::Server") ≡ codes "ntp::server"
@@ -33,6 +34,12 @@ class_is_no_node = refl
 -- the names of nodes are as they are written
 nodes_keep_case : same_name (n.Node (Some (codes "A"))) (n.Node (Some (codes "a"))) ≡ false
 nodes_keep_case = refl
+
+-- classes and defines come before nodes, and `default` before the other nodes; letters by their bytes
+names_in_order : (name_cmp (n.Code (codes "z")) (n.Node None) ≡ Less) × (name_cmp (n.Node None) (n.Node (Some [])) ≡ Less)
+    × (name_cmp (n.Node (Some (codes "B"))) (n.Node (Some (codes "a"))) ≡ Less) × (name_cmp (n.Code (codes "ab")) (n.Code (codes "a")) ≡ Greater)
+    × (name_cmp (n.Node (Some (codes "a"))) (n.Node (Some (codes "a"))) ≡ Equal)
+names_in_order = (refl, refl, refl, refl, refl)
 
 -- an expression gives back its line and its form
 opened : form_of (expr_at 3 (f.Number (pos 7))) ≡ f.Number (pos 7)
@@ -63,6 +70,12 @@ nodes = node_of (node_name (Some (codes "a")) 3 ∷ node_name None 4 ∷ []) [] 
 
 abbrev node_twice : Node
 node_twice = node_of (node_name (Some (codes "b")) 5 ∷ node_name (Some (codes "b")) 6 ∷ []) [] 5
+
+-- places count from 0; a name that is not there has none
+places : (place_of (n.Node None) ((n.Code (codes "a"), d.Class class_a) ∷ (n.Node None, d.Node nodes) ∷ []) ≡ Some 1)
+    × (place_of (n.Code (codes "b")) ((n.Code (codes "a"), d.Class class_a) ∷ []) ≡ None)
+unfolding place_of
+places = (refl, refl)
 
 -- `class a {}`, and `node 'a', default {}`, whose second name leads to the first
 a_table : table_of (d.Class class_a ∷ d.Node nodes ∷ [])

@@ -33,7 +33,7 @@ apart last (x ∷ xs) [] s t h k e = absurd (no_bracket (last == 58) x (first_so
 apart last (x ∷ xs) (y ∷ ys) s t h k e =
     let same : x ≡ y = same_byte (last == 58) x y (first_so _ _ h) (first_so _ _ k) (ap first e) in
     let rest : (xs ≡ ys) × (s ≡ t) = apart x xs ys s t (second_so _ _ h) (second_so _ _ k)
-        (subst (λ z. capitalised_after x xs ++ 91 ∷ s ≡ capitalised_after z ys ++ 91 ∷ t) (sym same) (ap (drop 1) e)) in
+    (subst (λ z. capitalised_after x xs ++ 91 ∷ s ≡ capitalised_after z ys ++ 91 ∷ t) (sym same) (ap (drop 1) e)) in
     (λ i. same i ∷ rest.0 i, rest.1)
 
 kind_bytes : (k : List ℕ) → IsTrue (is_kind k) → list_all is_kind_byte k ≡ true
@@ -44,10 +44,11 @@ rejoined : (k t : List ℕ) → k ++ codes "[" ++ t ++ codes "]" ≡ k ++ 91 ∷
 rejoined [] t = refl
 rejoined (b ∷ bs) t = ap (λ xs. b ∷ xs) (rejoined bs t)
 
-pub printed_apart : (r s : Reference) → IsTrue (is_kind r.kind) → IsTrue (is_kind s.kind) → reference_text r ≡ reference_text s → r ≡ s
+pub printed_apart : (r s : Reference) →
+    IsTrue (is_kind r.kind) → IsTrue (is_kind s.kind) → reference_text r ≡ reference_text s → r ≡ s
 printed_apart r s h k e =
     let parts : (r.kind ≡ s.kind) × (r.title ++ codes "]" ≡ s.title ++ codes "]") =
-        apart 58 r.kind s.kind (r.title ++ codes "]") (s.title ++ codes "]") (kind_bytes r.kind h) (kind_bytes s.kind k)
-        (sym (rejoined (kind_text r.kind) r.title) ∙ e ∙ rejoined (kind_text s.kind) s.title) in
+    apart 58 r.kind s.kind (r.title ++ codes "]") (s.title ++ codes "]") (kind_bytes r.kind h) (kind_bytes s.kind k)
+    (sym (rejoined (kind_text r.kind) r.title) ∙ e ∙ rejoined (kind_text s.kind) s.title) in
     let titles : r.title ≡ s.title = append_cancel_right r.title s.title (codes "]") parts.1 in
     λ i. record { kind = parts.0 i; title = titles i }

@@ -18,7 +18,8 @@ pub first_stops : {A B E F : Type 0} (told : E → Option F) (e : E) (m : Result
 first_stops told e m next held = answers_again told e m (and_then m next) held (λ f is. ap (λ r. and_then r next) is)
 
 -- else the rest tells the whole
-pub first_goes_on : {A B E F : Type 0} (told : E → Option F) (x : A) (m : Result A F) (next : A → Result B F) (r : Result B E) →
+pub first_goes_on : {A B E F : Type 0} (told : E → Option F) (x : A) (m : Result A F) (next : A → Result B F)
+    (r : Result B E) →
     m ≡ Ok x → AnswersBy told r (next x) → AnswersBy told r (and_then m next)
 first_goes_on told x m next r is held = subst (λ n. AnswersBy told r (and_then n next)) (sym is) held
 
@@ -47,14 +48,18 @@ in_turn-once step a x = elim (step a x) as (λ r. and_then r (λ b. Ok b) ≡ r)
 pub goes_on : {A T F : Type 0} (step : A → T → Result A F) (a b : A) (xs ys all : List T) (meant : Result A F) →
     all ≡ xs ++ ys → in_turn step a xs ≡ Ok b → in_turn step a all ≡ meant → in_turn step b ys ≡ meant
 goes_on step a b xs ys all meant parts went held =
-    sym (ap (in_turn step a) parts ∙ in_turn-append step a xs ys ∙ ap (λ r. and_then r (λ now. in_turn step now ys)) went) ∙ held
+    sym (ap (in_turn step a) parts ∙ in_turn-append step a xs ys ∙ ap (λ r. and_then r (λ now. in_turn step now ys)) went)
+    ∙ held
 
 -- and an error in them is that of the whole
-pub stops : {A T E F : Type 0} (told : E → Option F) (step : A → T → Result A F) (a : A) (xs ys all : List T) (meant : Result A F) (e : E) →
-    all ≡ xs ++ ys → AnswersBy {T = A} told (Err e) (in_turn step a xs) → in_turn step a all ≡ meant → AnswersBy {T = A} told (Err e) meant
+pub stops : {A T E F : Type 0} (told : E → Option F) (step : A → T → Result A F) (a : A) (xs ys all : List T)
+    (meant : Result A F) (e : E) →
+    all ≡ xs ++ ys → AnswersBy {T = A} told (Err e) (in_turn step a xs) → in_turn step a all ≡ meant →
+    AnswersBy {T = A} told (Err e) meant
 stops told step a xs ys all meant e parts went held =
     answers_again told e (in_turn step a xs) meant went
-    (λ f is. sym held ∙ ap (in_turn step a) parts ∙ in_turn-append step a xs ys ∙ ap (λ r. and_then r (λ now. in_turn step now ys)) is)
+    (λ f is. sym held ∙ ap (in_turn step a) parts ∙ in_turn-append step a xs ys
+        ∙ ap (λ r. and_then r (λ now. in_turn step now ys)) is)
 
 -- what a call of one step answered
 pub once : {A T E F : Type 0} (told : E → Option F) (step : A → T → Result A F) (a : A) (x : T) (r : Result A E) →

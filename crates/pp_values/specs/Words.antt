@@ -39,4 +39,5 @@ before n = if n == 0 then [] else codes ", "
 
 -- References to resources are printed apart.
 abbrev pub ArePrintedApart : Type 0
-ArePrintedApart = (r s : Reference) → IsTrue (is_kind r.kind) → IsTrue (is_kind s.kind) → reference_text r ≡ reference_text s → r ≡ s
+ArePrintedApart =
+    (r s : Reference) → IsTrue (is_kind r.kind) → IsTrue (is_kind s.kind) → reference_text r ≡ reference_text s → r ≡ s

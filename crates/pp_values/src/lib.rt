@@ -44,7 +44,9 @@ pub use ordering::order;
 pub use pairs::Pairs;
 pub use place::{MAIN_MANIFEST, Place};
 pub use places::{Places, copy_places};
-pub use printing::{kind_text, reference_text, references_print_apart, write_kind, write_reference};
+pub use printing::{
+    kind_text, reference_text, references_print_apart, write_kind, write_reference,
+};
 pub use ptype::{EntryType, MemberType, PType, TypeBox};
 pub use reference::Reference;
 pub use refs::{Refs, copy_refs};

@@ -6,10 +6,20 @@ use crate::text::Text;
 use std::alloc::Global;
 
 /// The name of a resource: its kind, such as `web::vhost`, and its title.
-#[derive(Debug, Drop)]
+#[derive(Debug)]
 pub struct Reference {
     pub kind: Kind,
     pub title: Text,
+}
+
+// By hand, so that a value is dropped by one call where it is a reference.
+impl Drop for Reference {
+    fn drop(self) {
+        let Reference {
+            kind: _kind,
+            title: _title,
+        } = self;
+    }
 }
 
 impl Reference {

@@ -1,7 +1,7 @@
 -- What a request asks for.
 use Rattle.std.specs.Prelude.{◌≡◌, ◌⊎◌, ℕ, List, Option, refl}
 use Rattle.std.proofs.Common.{inl, inr}
-use Rattle.std.specs.Coded.{Coded, code_by, coded×, coded⊎, coded_option, coded_list, coded_ℕ}
+use Rattle.std.specs.Coded.{Coded, code_by, coded×, coded⊎, coded_option, coded_ℕ}
 use Rattle.pp_values.specs.Datum.{Datum}
 use Rattle.pp_values.specs.Codes.{coded_text, coded_datum}
 

@@ -1,5 +1,5 @@
 -- Bundles, and what they say.
-use Rattle.std.proofs.Common.{◌≡◌, ◌*◌, true, false, [], ◌∷◌, Some, None, Ok, Err, refl, codes}
+use Rattle.std.proofs.Common.{◌≡◌, ℕ, ◌*◌, true, false, [], ◌∷◌, Some, None, Ok, Err, refl, codes}
 use Rattle.pp_values.specs.Datum.{hash, no_entries}
 use Rattle.pp_values.specs.declared.place.TheConstants.{MAIN_MANIFEST}
 use Rattle.res_core.specs.Asked.{compile, deactivate}
@@ -156,8 +156,8 @@ in_order : site_of ((MAIN_MANIFEST.now, codes "x") ∷ (codes "a.pp", codes "y")
 unfolding put_in
 in_order = refl
 
-given : (are_distinct ((codes "a", tt) ∷ (codes "b", tt) ∷ []) ≡ true)
-    × (are_distinct ((codes "a", tt) ∷ (codes "b", tt) ∷ (codes "a", tt) ∷ []) ≡ false)
+given : (are_distinct {X = ℕ} ((codes "a", 0) ∷ (codes "b", 0) ∷ []) ≡ true)
+    × (are_distinct {X = ℕ} ((codes "a", 0) ∷ (codes "b", 0) ∷ (codes "a", 0) ∷ []) ≡ false)
     × (has_main ((MAIN_MANIFEST.now, []) ∷ []) ≡ true)
     × (has_main ((codes "site.pp", []) ∷ []) ≡ false)
     × (is_manifest_path (codes "modules/a/manifests/init.pp") ≡ true)

@@ -1,6 +1,6 @@
 -- The files and nodes of a site as maps: what is found in them, and what is put in.
-use Rattle.std.proofs.Common.{◌≡◌, Bor, ℕ, Bool, true, false, ◌&&◌, T, IsTrue, cond, None, Some, Option, List, [], ◌∷◌, refl, sym, ap, subst, ◌∙◌}
-use Rattle.std.specs.Prelude.{option_map, option_copied, IfSome, if◌then◌else◌}
+use Rattle.std.proofs.Common.{◌≡◌, Bor, ℕ, Bool, true, false, ◌&&◌, ◌||◌, T, IsTrue, cond, None, Some, Option, List, [], ◌∷◌, ◌++◌, refl, sym, ap, subst, ◌∙◌}
+use Rattle.std.specs.Prelude.{option_map, option_copied, IsSome, IfSome, if◌then◌else◌}
 use Rattle.std.specs.declared.cmp.Ordering.{Ordering}
 use Rattle.std.specs.declared.cmp.Ordering.TheVariants.{Less, Equal, Greater}
 use Rattle.std.specs.Ordering.{eq_by_cmp, is_eq, match_ordering}
@@ -10,17 +10,22 @@ use Rattle.std.proofs.lemmas.Slice.Eq.{bytes_eq-Decides}
 use Rattle.std.specs.Cmp.Lexicographic.{nat_list_cmp_total}
 use Rattle.std.specs.BTreeMap.{insert_entry, is_at}
 use Rattle.std.specs.Map.{lookup}
+use Rattle.std.specs.Str.{bytes_eq}
 use Rattle.std.specs.FinMap.{find, put}
-use Rattle.std.specs.FinMap.Entries.{by_order, is_sorted-put}
-use Rattle.std.specs.List.{All}
+use Rattle.std.specs.FinMap.Entries.{by_order, find-put, is_sorted-put}
+use Rattle.std.proofs.lemmas.List.{map-append}
+use Rattle.std.proofs.lemmas.List.Folds.{list_all-append}
+use Rattle.std.specs.List.{All, list_all}
 use Rattle.pp_parser.specs.Manifest.{file_of}
 use Rattle.pp_values.specs.declared.value.Value.{Value}
 use Rattle.pp_values.specs.Datum.{Datum}
 use Rattle.pp_values.specs.Views.{view}
 use Rattle.pp_values.specs.Facts.{are_facts}
+use Rattle.pp_values.specs.PairLists.{fact_view, fact_views}
 use Rattle.pp_values.specs.Rising.{text_cmp}
 use Rattle.site_bundle.specs.declared.site_files.SiteFile.{SiteFile}
-use Rattle.site_bundle.specs.SiteView.{Listed, are_rising, have_facts}
+use Rattle.site_bundle.specs.Given.{has_key}
+use Rattle.site_bundle.specs.SiteView.{Listed, are_rising, have_facts, put_in}
 use Rattle.site_bundle.specs.Listing.{shown, listed, IsRead, AreRead}
 
 true_of : (b : Bool) → T b → IsTrue b
@@ -77,6 +82,52 @@ rising-put k v es rising = true_of _ (is_sorted-put text_cmp nat_list_cmp_total 
 pub still : {X : Type 0} (P : List X → Type 0) (b : Bool) (old new with : List X) → P old → P with → new ≡ (if b then with else old) → P new
 still P true old new with before after is = subst P (sym is) after
 still P false old new with before after is = subst P (sym is) before
+
+-- the last of the pairs is put in first
+pub put_in-last : {X : Type 0} (es ps : List (List ℕ × X)) (p : List ℕ × X) → put_in es (ps ++ p ∷ []) ≡ put_in (put text_cmp p.0 p.1 es) ps
+unfolding put_in
+put_in-last es [] p = refl
+put_in-last es (q ∷ ps) p = ap (put text_cmp q.0 q.1) (put_in-last es ps p)
+
+pub put_in-none : {X : Type 0} (es : List (List ℕ × X)) → put_in es [] ≡ es
+unfolding put_in
+put_in-none es = refl
+
+-- after the last one was put in, the others give the whole
+pub put_step : {X : Type 0} (done more left rest all : List (List ℕ × X)) (p : List ℕ × X) → left ≡ rest ++ p ∷ [] → more ≡ put text_cmp p.0 p.1 done →
+    put_in done left ≡ put_in [] all → put_in more rest ≡ put_in [] all
+put_step done more left rest all p parts is held =
+    ap (λ es. put_in es rest) is ∙ sym (put_in-last done rest p) ∙ ap (put_in done) (sym parts) ∙ held
+
+pub put_end : {X : Type 0} (done left all : List (List ℕ × X)) → left ≡ [] → put_in done left ≡ put_in [] all → done ≡ put_in [] all
+put_end done left all none held = sym (put_in-none done) ∙ ap (put_in done) (sym none) ∙ held
+
+-- a key that is given is found
+some_if : {X : Type 0} (b : Bool) (v : X) (o : Option X) → (b ≡ false → IsSome o) → IsSome (cond b (Some v) o)
+some_if true v o h = refl
+some_if false v o h = h refl
+
+or_right : (a b : Bool) → a ≡ false → IsTrue (a || b) → IsTrue b
+or_right true b e h = absurd cc
+or_right false b e h = h
+
+pub found_if_given : {X : Type 0} (key : List ℕ) (ps : List (List ℕ × X)) → IsTrue (has_key key ps) → IsSome (find text_cmp key (put_in [] ps))
+unfolding put_in
+found_if_given key [] h = absurd cc
+found_if_given key (p ∷ ps) h =
+    subst (λ o. IsSome o) (sym (find-put text_cmp nat_list_cmp_total key p.0 p.1 (put_in [] ps)))
+    (some_if (eq_by_cmp text_cmp key p.0) p.1 (find text_cmp key (put_in [] ps))
+    (λ other. found_if_given key ps (or_right (bytes_eq key p.0) (has_key key ps) (sym (is_eq-slice_cmp key p.0) ∙ other) h)))
+
+-- what holds of each element holds of the last one, and of the others
+pub each_before : {X : Type 0} (p : X → Bool) (xs all : List X) (x : X) → all ≡ xs ++ x ∷ [] → IsTrue (list_all p all) → IsTrue (list_all p xs)
+each_before p xs all x parts h = first _ _ (sym (ap (list_all p) parts ∙ list_all-append p xs (x ∷ [])) ∙ h)
+
+pub last_too : {X : Type 0} (p : X → Bool) (xs all : List X) (x : X) → all ≡ xs ++ x ∷ [] → IsTrue (list_all p all) → IsTrue (p x)
+last_too p xs all x parts h = first _ _ (second (list_all p xs) _ (sym (ap (list_all p) parts ∙ list_all-append p xs (x ∷ [])) ∙ h))
+
+pub views_parts : (xs all : List (List ℕ × Value)) (x : List ℕ × Value) → all ≡ xs ++ x ∷ [] → fact_views all ≡ fact_views xs ++ fact_view x ∷ []
+views_parts xs all x parts = ap fact_views parts ∙ map-append fact_view xs (x ∷ [])
 
 -- ---- facts
 

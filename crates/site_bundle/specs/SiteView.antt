@@ -52,10 +52,10 @@ pub record IsSite (s : SiteView) : Type 0 where
 
 -- ---- a site of pairs
 
--- the entries of a map, with these pairs put in one after another
+-- the entries of a map, with these pairs put in, the last one first
 unfoldable pub put_in : {X : Type 0} → List (List ℕ × X) → List (List ℕ × X) → List (List ℕ × X)
 put_in es [] = es
-put_in es (p ∷ ps) = put_in (put text_cmp p.0 p.1 es) ps
+put_in es (p ∷ ps) = put text_cmp p.0 p.1 (put_in es ps)
 
 -- the site of these files and nodes
 abbrev pub site_of : List Filed → List Listed → SiteView

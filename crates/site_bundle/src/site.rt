@@ -107,7 +107,8 @@ fn read_files(alloc: Global, files: TextPairs) -> Result<SiteFiles, Memory>
     ensures { IfOk result (λ s. s ≡ put_in [] files) }
 {
     let mut read = SiteFiles::new(alloc);
-    for (path, text) in files.into_vec() {
+    let mut left = files;
+    while let Some((path, text)) = left.pop() {
         read.read(alloc, path, text)?;
     }
     Ok(read)
@@ -117,9 +118,10 @@ fn list_nodes(alloc: Global, nodes: FactPairs) -> Result<ListedNodes, Memory>
     requires { IsTrue (have_facts nodes) }
     ensures { IfOk result (λ n. n ≡ put_in [] nodes) }
 {
-    let mut found = ListedNodes::new(alloc);
-    for (name, facts) in nodes.into_vec() {
-        found.list(name, facts)?;
+    let mut listed = ListedNodes::new(alloc);
+    let mut left = nodes.into_vec();
+    while let Some((name, facts)) = left.pop() {
+        listed.list(name, facts)?;
     }
-    Ok(found)
+    Ok(listed)
 }

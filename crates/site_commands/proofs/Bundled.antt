@@ -15,7 +15,8 @@ pub IfOk-run : (r : Result Output Memory) (bundle : Bundle) (read : Result Bundl
 IfOk-run (Ok output) bundle read is run = subst (IsBundleOutput output) (sym is) run
 IfOk-run (Err memory) bundle read is run = run
 
-refused : (output : Output) (why : BundleStop) (read : Result Bundle Refusal) → Refuses why read → TellsStop output why → IsBundleOutput output read
+refused : (output : Output) (why : BundleStop) (read : Result Bundle Refusal) → Refuses why read →
+    TellsStop output why → IsBundleOutput output read
 refused output stop.NotJson read is told = subst (IsBundleOutput output) (sym is) told
 refused output (stop.BadShape path) read is told = subst (IsBundleOutput output) (sym is) told
 refused output (stop.TooLarge path) read is told = subst (IsBundleOutput output) (sym is) told

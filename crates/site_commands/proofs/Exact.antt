@@ -18,7 +18,7 @@ use Rattle.site_commands.specs.declared.ending.Ending.TheVariants as e
 use Rattle.site_commands.specs.Outputs.{IsOutput, IsBundleOutput, HasRun, manifest_output, is_refusal, sequence_text}
 use Rattle.site_commands.specs.Endings.{Ends, IsComplaint, IsCommand, IsSettled, status_for, output_status, outcome_status, bundle_status}
 use Rattle.site_commands.specs.Limits.{limit_of}
-use Rattle.site_commands.specs.Puppet.{puppet, listed}
+use Rattle.compile_core.specs.Puppet.{puppet, listed}
 use Rattle.site_sequence.specs.SequenceLaws.{is_memory}
 use Rattle.site_commands.specs.Status.{status_of}
 use Rattle.site_commands.specs.Words.{CommandLine, manifest, sequence, usage, bad_word, asked_of}
@@ -35,10 +35,12 @@ status_for-complaint usage input h = refl
 status_for-complaint (bad_word word) input h = refl
 
 -- where the input is too long it is 11
-status_for-long : (asked : CommandLine) (input : List ℕ) → IsCommand asked → limit_of asked < length input → status_for asked input ≡ 11
+status_for-long : (asked : CommandLine) (input : List ℕ) → IsCommand asked → limit_of asked < length input →
+    status_for asked input ≡ 11
 unfolding bundle_of
 status_for-long (manifest node) input asked long =
-    ap (λ b. if b then output_status (manifest_output node input) else 11) (leb-false (length input) MOST_FILE_BYTES long)
+    ap (λ b. if b then output_status (manifest_output node input) else 11)
+        (leb-false (length input) MOST_FILE_BYTES long)
 status_for-long sequence input asked long =
     ap (λ b. bundle_status (result_and_then bundle_in (if b then json_of input else Err (too_large (codes "bundle")))))
     (leb-false (length input) MOST_BUNDLE_BYTES long)
@@ -52,9 +54,12 @@ status_of-run output bundle run =
     elim (list_any is_memory run.replies) as (λ b. list_any is_memory run.replies ≡ b →
     (output_status output ≡ bundle_status (Ok bundle)) ⊎ (output_status output ≡ 16)) [
       | true ↦ λ is. inr (ap output_status run.is
-          ∙ ap (λ b. output_status (if b then a.Short (sequence_text bundle.requests run.replies run.history) else if list_any is_refusal run.replies then a.Refused (sequence_text bundle.requests run.replies run.history) else a.Done (sequence_text bundle.requests run.replies run.history))) is)
+          ∙ ap (λ b. output_status (if b then a.Short (sequence_text bundle.requests run.replies run.history) else
+              if list_any is_refusal run.replies then a.Refused (sequence_text bundle.requests run.replies run.history)
+              else a.Done (sequence_text bundle.requests run.replies run.history))) is)
       | false ↦ λ is. inl (ap output_status run.is
-          ∙ sym (ap (outcome_status bundle.requests) (meant puppet listed MOST_ENTRIES (opens bundle.site ∷ []) run.history bundle.requests run.replies run.in_turn is)))
+          ∙ sym (ap (outcome_status bundle.requests) (meant puppet listed MOST_ENTRIES (opens bundle.site ∷ [])
+              run.history bundle.requests run.replies run.in_turn is)))
     ] refl
 
 status_of-bundle : (output : Output) (read : Result Bundle Refusal) → IsBundleOutput output read →
@@ -62,31 +67,37 @@ status_of-bundle : (output : Output) (read : Result Bundle Refusal) → IsBundle
 status_of-bundle output (Ok bundle) run = status_of-run output bundle run
 status_of-bundle output (Err refusal) is = inl (ap output_status is)
 
-status_of-output : (asked : CommandLine) (output : Output) (input : List ℕ) → IsOutput asked output input → length input ≤ limit_of asked →
+status_of-output : (asked : CommandLine) (output : Output) (input : List ℕ) → IsOutput asked output input →
+    length input ≤ limit_of asked →
     (output_status output ≡ status_for asked input) ⊎ (output_status output ≡ 16)
 status_of-output (manifest node) output input is fits =
     inl (ap output_status is
-    ∙ sym (ap (λ b. if b then output_status (manifest_output node input) else 11) (le-leb (length input) MOST_FILE_BYTES fits)))
+    ∙ sym (ap (λ b. if b then output_status (manifest_output node input) else 11)
+        (le-leb (length input) MOST_FILE_BYTES fits)))
 status_of-output sequence output input is fits = status_of-bundle output (bundle_of input) is
 status_of-output usage output input is fits = absurd is
 status_of-output (bad_word word) output input is fits = absurd is
 
-ending-writes : (ending whole : Ending) (text : List ℕ) (s t : Stream) → WritesOr ending whole text s t → (ending ≡ whole) ⊎ (ending ≡ e.WriteFault)
+ending-writes : (ending whole : Ending) (text : List ℕ) (s t : Stream) → WritesOr ending whole text s t →
+    (ending ≡ whole) ⊎ (ending ≡ e.WriteFault)
 ending-writes e.WriteFault whole text s t did = inr refl
 ending-writes ending whole text s t did = inl did.0
 
-ending-short : (ending : Ending) (text : List ℕ) (out out' err err' : Stream) → WritesShort ending text out out' err err' →
+ending-short : (ending : Ending) (text : List ℕ) (out out' err err' : Stream) →
+    WritesShort ending text out out' err err' →
     (ending ≡ e.Memory) ⊎ (ending ≡ e.WriteFault)
 ending-short e.WriteFault text out out' err err' did = inr refl
 ending-short ending text out out' err err' did = inl did.0
 
-status-either : (ending whole : Ending) (output : Output) → status_of whole ≡ output_status output → (ending ≡ whole) ⊎ (ending ≡ e.WriteFault) →
+status-either : (ending whole : Ending) (output : Output) → status_of whole ≡ output_status output → (ending ≡ whole)
+    ⊎ (ending ≡ e.WriteFault) →
     (status_of ending ≡ output_status output) ⊎ (status_of ending ≡ 13)
 status-either ending whole output same (inl is) = inl (ap status_of is ∙ same)
 status-either ending whole output same (inr is) = inr (ap status_of is)
 
 -- a run that delivers an output has its status, unless writing failed
-status_of-delivered : (ending : Ending) (output : Output) (out out' err err' : Stream) → Delivers ending output out out' err err' →
+status_of-delivered : (ending : Ending) (output : Output) (out out' err err' : Stream) →
+    Delivers ending output out out' err err' →
     (status_of ending ≡ output_status output) ⊎ (status_of ending ≡ 13)
 status_of-delivered ending (a.Done text) out out' err err' did =
     status-either ending e.Done (a.Done text) refl (ending-writes ending e.Done text out out' did.0)
@@ -98,33 +109,42 @@ status_of-delivered ending (a.Fault text) out out' err err' did =
     status-either ending e.Refused (a.Fault text) refl (ending-writes ending e.Refused text err err' did.0)
 status_of-delivered ending (a.BadInput text) out out' err err' did = inl (ap status_of did.0)
 
-settled_by : (status : ℕ) (output : Output) (asked : CommandLine) (input : List ℕ) → (status ≡ output_status output) ⊎ (status ≡ 13) →
+settled_by : (status : ℕ) (output : Output) (asked : CommandLine) (input : List ℕ) → (status ≡ output_status output)
+    ⊎ (status ≡ 13) →
     (output_status output ≡ status_for asked input) ⊎ (output_status output ≡ 16) → IsSettled status asked input
 settled_by status output asked input (inl is) (inl means) = inl (is ∙ means)
 settled_by status output asked input (inl is) (inr short) = inr (inr (inr (is ∙ short)))
 settled_by status output asked input (inr fault) means = inr (inr (inl fault))
 
-settled_serves : (ending : Ending) (asked : CommandLine) (input bytes : List ℕ) (out out' err err' : Stream) → Serves ending asked bytes out out' err err' →
+settled_serves : (ending : Ending) (asked : CommandLine) (input bytes : List ℕ) (out out' err err' : Stream) →
+    Serves ending asked bytes out out' err err' →
     length bytes ≤ limit_of asked → bytes ≡ input → IsSettled (status_of ending) asked input
 settled_serves ending asked input bytes out out' err err' serves fits same =
     subst (IsSettled (status_of ending) asked) same
-    (settled_by (status_of ending) serves.output asked bytes (status_of-delivered ending serves.output out out' err err' serves.written)
+    (settled_by (status_of ending) serves.output asked bytes
+        (status_of-delivered ending serves.output out out' err err' serves.written)
     (status_of-output asked serves.output bytes serves.is fits))
 
 pub ends_settled : (ending : Ending) (words : List (List ℕ)) (before after : World) (input : List ℕ)
-    → Ends ending words before after → before.source.left ≡ Some input → IsSettled (status_of ending) (asked_of words) input
+    → Ends ending words before after → before.source.left ≡ Some input →
+        IsSettled (status_of ending) (asked_of words) input
 ends_settled e.Done words before after input run told =
-    settled_serves e.Done (asked_of words) input run.input before.out after.out before.err after.err run.work run.source.fits
+    settled_serves e.Done (asked_of words) input run.input before.out after.out before.err after.err run.work
+        run.source.fits
     (read_is_left _ _ input run.input told run.source.ended run.source.read.left)
 ends_settled e.Refused words before after input run told =
-    settled_serves e.Refused (asked_of words) input run.input before.out after.out before.err after.err run.work run.source.fits
+    settled_serves e.Refused (asked_of words) input run.input before.out after.out before.err after.err run.work
+        run.source.fits
     (read_is_left _ _ input run.input told run.source.ended run.source.read.left)
-ends_settled e.BadWords words before after input run told = inl (sym (status_for-complaint (asked_of words) input run.unasked))
+ends_settled e.BadWords words before after input run told =
+    inl (sym (status_for-complaint (asked_of words) input run.unasked))
 ends_settled e.BadInput words before after input (inl run) told =
-    settled_serves e.BadInput (asked_of words) input run.input before.out after.out before.err after.err run.work run.source.fits
+    settled_serves e.BadInput (asked_of words) input run.input before.out after.out before.err after.err run.work
+        run.source.fits
     (read_is_left _ _ input run.input told run.source.ended run.source.read.left)
 ends_settled e.BadInput words before after input (inr run) told =
-    let longer : length run.source.bytes ≤ length input = left_is_longer _ _ input run.source.bytes told run.source.read.left in
+    let longer : length run.source.bytes ≤ length input =
+        left_is_longer _ _ input run.source.bytes told run.source.read.left in
     let long : limit_of (asked_of words) < length input = omega (arith, longer, run.source.long) in
     inl (sym (status_for-long (asked_of words) input run.asked long))
 ends_settled e.ReadFault words before after input run told = inr (inl refl)

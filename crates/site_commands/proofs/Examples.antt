@@ -1,6 +1,9 @@
 -- Words, complaints and statuses on examples.
 use Rattle.std.proofs.Common.{◌≡◌, ℕ, List, [], ◌∷◌, ◌++◌, replicate, refl}
 use Rattle.std.specs.Prelude.{codes}
+use Rattle.site_core.specs.declared.reply.ReplyOf.TheVariants as r
+use Rattle.site_commands.specs.Outputs.{output_of}
+use Rattle.site_commands.specs.declared.output.Output.TheVariants as a
 use Rattle.site_commands.specs.Words.{manifest, sequence, usage, bad_word, asked_of}
 use Rattle.site_commands.specs.Endings.{complaint, status_for}
 
@@ -28,3 +31,16 @@ complaints = (refl, refl)
 
 no_status : (status_for usage [] ≡ 10) × (status_for (bad_word []) (codes "notify") ≡ 10)
 no_status = (refl, refl)
+
+-- what a reply tells of counts for the whole output: want of memory before a refusal
+abbrev served_and : r.the_data ℕ (List ℕ) → List (r.the_data ℕ (List ℕ))
+served_and reply = r.Served 1 1 5 ∷ reply ∷ []
+
+refusals : (output_of (served_and (r.Refused 2 (codes "bad"))) (codes "x") ≡ a.Refused (codes "x"))
+    × (output_of (served_and (r.HistoryFull 2)) (codes "x") ≡ a.Refused (codes "x"))
+    × (output_of (served_and (r.SeenAhead 2)) (codes "x") ≡ a.Refused (codes "x"))
+    × (output_of (served_and (r.UnknownNode 2)) (codes "x") ≡ a.Refused (codes "x"))
+    × (output_of (served_and (r.Deactivated 2)) (codes "x") ≡ a.Done (codes "x"))
+    × (output_of (served_and r.Memory) (codes "x") ≡ a.Short (codes "x"))
+    × (output_of (r.UnknownNode 1 ∷ served_and r.Memory) (codes "x") ≡ a.Short (codes "x"))
+refusals = (refl, refl, refl, refl, refl, refl, refl)

@@ -18,7 +18,7 @@ use Rattle.site_commands.specs.Outputs.{output_of, manifest_output, sequence_tex
 use Rattle.site_commands.specs.declared.output.Output.{Output}
 use Rattle.site_commands.specs.declared.output.Output.TheVariants as a
 use Rattle.site_commands.specs.Limits.{limit_of}
-use Rattle.site_commands.specs.Puppet.{puppet, listed}
+use Rattle.compile_core.specs.Puppet.{puppet, listed}
 use Rattle.site_sequence.specs.Sequence.{Outcome, outcome_of}
 use Rattle.site_commands.specs.Words.{CommandLine, manifest, sequence, usage, bad_word, asked_of}
 use Rattle.site_commands.specs.Work.{Works, SaysOnly, too_long}
@@ -57,7 +57,8 @@ pub record HasWorked (ending : Ending) (words : List (List ℕ)) (before after :
   pub work : Works ending (asked_of words) input before.out after.out before.err after.err
 
 -- the words name a command, reading stopped before the end of input, and only this line was written
-pub record HasStopped (text : List ℕ) (Read : Stream → Stream → Type 0) (words : List (List ℕ)) (before after : World) : Type 0 where
+pub record HasStopped (text : List ℕ) (Read : Stream → Stream → Type 0) (words : List (List ℕ))
+    (before after : World) : Type 0 where
   pub asked : IsCommand (asked_of words)
   pub source : Read before.source after.source
   pub said : SaysOnly (line text) before.out after.out before.err after.err
@@ -73,9 +74,11 @@ Ends e.BadWords words before after = Complains words before after
 Ends e.BadInput words before after =
     HasWorked e.BadInput words before after
     ⊎ HasStopped (too_long (asked_of words)) (HasReadPast (limit_of (asked_of words))) words before after
-Ends e.ReadFault words before after = HasStopped (codes "read fault") (HasFailedRead (limit_of (asked_of words))) words before after
+Ends e.ReadFault words before after = HasStopped (codes "read fault") (HasFailedRead (limit_of (asked_of words))) words
+    before after
 Ends e.Memory words before after =
-    HasWorked e.Memory words before after ⊎ HasStopped (codes "memory") HasReadSome words before after
+    HasWorked e.Memory words before after ⊎ HasStopped (codes "memory") (HasReadSome (limit_of (asked_of words))) words
+        before after
 
 -- the status of a run that writes this output
 abbrev pub output_status : Output → ℕ
@@ -91,14 +94,18 @@ outcome_status asked (Some o) = output_status (output_of o.replies (sequence_tex
 outcome_status asked None = 16
 
 abbrev pub bundle_status : Result Bundle Refusal → ℕ
-bundle_status (Ok bundle) = outcome_status bundle.requests (outcome_of puppet listed MOST_ENTRIES (opens bundle.site ∷ []) bundle.requests)
+bundle_status (Ok bundle) = outcome_status bundle.requests
+    (outcome_of puppet listed MOST_ENTRIES (opens bundle.site ∷ []) bundle.requests)
 bundle_status (Err refusal) = 11
 
--- The status of a command on this input, where nothing fails and memory is had. For `manifest`: 0 where its meaning is a
--- catalog, 1 where it is a fault, 11 where the input is too long or no text. For `sequence`: 0 where no request is refused,
+-- The status of a command on this input, where nothing fails and memory is had. For `manifest`: 0 where its meaning is
+-- a
+-- catalog, 1 where it is a fault, 11 where the input is too long or no text. For `sequence`: 0 where no request is
+-- refused,
 -- 1 where one is, 11 where the input is no bundle. 10 where the words are faulty.
 abbrev pub status_for : CommandLine → List ℕ → ℕ
-status_for (manifest node) input = if nat_le (length input) MOST_FILE_BYTES then output_status (manifest_output node input) else 11
+status_for (manifest node) input = if nat_le (length input) MOST_FILE_BYTES then output_status
+    (manifest_output node input) else 11
 status_for sequence input = bundle_status (bundle_of input)
 status_for usage input = 10
 status_for (bad_word word) input = 10

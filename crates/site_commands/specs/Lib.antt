@@ -2,7 +2,6 @@ pub mod Outputs
 pub mod Program
 pub mod Endings
 pub mod Limits
-pub mod Puppet
 pub mod Status
 pub mod Stops
 pub mod Words

@@ -3,6 +3,7 @@ use Rattle.std.specs.Prelude.{◌≡◌, ℕ, ◌+◌, if◌then◌else◌, Bool
 use Rattle.std.specs.List.{list_any}
 use Rattle.std.specs.Str.{is_utf8}
 use Rattle.pp_values.specs.declared.fault.Fault.{Fault}
+use Rattle.pp_values.specs.declared.place.TheConstants.{MAIN_MANIFEST}
 use Rattle.res_core.specs.Asked as requests
 use Rattle.res_core.specs.declared.catalog.Catalog.{Catalog}
 use Rattle.res_core.specs.declared.export_set.ExportSet.{ExportSet}
@@ -21,11 +22,17 @@ use Rattle.site_docs.specs.JournalText.{journal_text}
 use Rattle.site_docs.specs.ReplyText.{reply_line}
 use Rattle.site_commands.specs.declared.output.Output.{Output}
 use Rattle.site_commands.specs.declared.output.Output.TheVariants as a
-use Rattle.site_commands.specs.Puppet.{puppet, listed, manifest_meaning}
+use Rattle.compile_core.specs.Puppet.{puppet, listed, manifest_meaning}
 use Rattle.site_sequence.specs.Sequence.{AnsweredInTurn}
 use Rattle.site_sequence.specs.SequenceLaws.{is_memory}
 use Rattle.site_commands.specs.Words.{CommandLine, manifest, sequence, usage, bad_word}
 use Rattle.site_commands.specs.World.{line}
+
+-- the line that tells why an input is not what a command reads
+abbrev pub refusal_line : Refusal → List ℕ
+refusal_line not_json = line (codes "B1")
+refusal_line (bad_shape path) = line (codes "B2 " ++ path)
+refusal_line (too_large path) = line (codes "B3 " ++ path)
 
 -- `manifest`: what the meaning of a manifest is told by
 abbrev pub output_meant : Result (Catalog × ExportSet) Fault → Output
@@ -34,7 +41,8 @@ output_meant (Err fault) = a.Fault (line (fault_text fault))
 
 abbrev pub manifest_output : List ℕ → List ℕ → Output
 manifest_output node input =
-    if is_utf8 input then output_meant (manifest_meaning node input) else a.BadInput (line (codes "B2 manifests/site.pp"))
+    if is_utf8 input then output_meant (manifest_meaning node input) else a.BadInput
+        (refusal_line (bad_shape MAIN_MANIFEST.now))
 
 -- `sequence`: whether a reply tells that what was asked for can't be had
 abbrev pub is_refusal : {C F : Type 0} → ReplyOf C F → Bool
@@ -48,19 +56,22 @@ is_refusal r.Memory = false
 
 -- the output, and what its replies tell of: want of memory counts before a refusal
 abbrev pub output_of : {C F : Type 0} → List (ReplyOf C F) → List ℕ → Output
-output_of replies text = if list_any is_memory replies then a.Short text else if list_any is_refusal replies then a.Refused text else a.Done text
+output_of replies text = if list_any is_memory replies then a.Short text else if list_any is_refusal replies then
+    a.Refused text else a.Done text
 
 -- the lines of the replies to these requests, the first of which has the number n
 unfoldable pub reply_lines : ℕ → List requests.Asked → List (ReplyOf Catalog Fault) → List ℕ
 reply_lines n [] replies = []
 reply_lines n (asked ∷ more) [] = []
-reply_lines n (asked ∷ more) (reply ∷ replies) = reply_line catalog_text fault_text n asked reply ++ reply_lines (n + 1) more replies
+reply_lines n (asked ∷ more) (reply ∷ replies) = reply_line catalog_text fault_text n asked reply ++
+    reply_lines (n + 1) more replies
 
 -- journal, and then the lines of the replies
 abbrev pub sequence_text : List requests.Asked → List (ReplyOf Catalog Fault) → List (Event SiteView) → List ℕ
 sequence_text asked replies history = journal_text history ++ reply_lines 0 asked replies
 
--- The requests of a bundle were answered so, one after another, over a history that begins with its site. The output is the text of
+-- The requests of a bundle were answered so, one after another, over a history that begins with its site. The output is
+-- the text of
 -- this history and of these replies.
 pub record HasRun (output : Output) (bundle : Bundle) : Type 0 where
   pub replies : List (ReplyOf Catalog Fault)
@@ -68,12 +79,6 @@ pub record HasRun (output : Output) (bundle : Bundle) : Type 0 where
   pub in_turn : AnsweredInTurn puppet listed MOST_ENTRIES (opens bundle.site ∷ []) bundle.requests replies history
   pub legal : Legal puppet history
   pub is : output ≡ output_of replies (sequence_text bundle.requests replies history)
-
--- the line that tells why bytes are no bundle
-abbrev pub refusal_line : Refusal → List ℕ
-refusal_line not_json = line (codes "B1")
-refusal_line (bad_shape path) = line (codes "B2 " ++ path)
-refusal_line (too_large path) = line (codes "B3 " ++ path)
 
 abbrev pub IsBundleOutput : Output → Result Bundle Refusal → Type 0
 IsBundleOutput output (Ok bundle) = HasRun output bundle

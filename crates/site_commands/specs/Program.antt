@@ -28,7 +28,8 @@ abbrev pub without_name : {T : Type 0} → List T → List T
 without_name [] = []
 without_name (name ∷ words) = words
 
--- The program ran on the words of its command line, without its name. Words that are no texts are those of no command; there may be
+-- The program ran on the words of its command line, without its name. Words that are no texts are those of no command;
+-- there may be
 -- no memory for them.
 abbrev pub HasRunOn : ℕ → Result (Vec (String Global) Global) Error → World → World → Type 0
 HasRunOn status (Ok line) before after = HasEnded status (texts_of (without_name line.items)) before after

@@ -1,5 +1,6 @@
 -- The work of a command on an input that was read, and what each of its endings means.
-use Rattle.std.specs.Prelude.{◌≡◌, ◌⊎◌, ℕ, List, codes}
+use Rattle.std.specs.Prelude.{◌≡◌, ◌⊎◌, ℕ, List, ◌++◌, codes}
+use Rattle.pp_values.specs.declared.place.TheConstants.{MAIN_MANIFEST}
 use Rattle.site_io.specs.Stream.{Stream, HasWritten}
 use Rattle.site_io.specs.declared.transfer.ReadStop.{ReadStop}
 use Rattle.site_io.specs.declared.transfer.ReadStop.TheVariants as r
@@ -23,7 +24,8 @@ WritesOr ending whole text before after = (ending ≡ whole) × HasWritten text 
 -- the output was written whole, and then the line that memory was wanting; or it was not
 abbrev pub WritesShort : Ending → List ℕ → Stream → Stream → Stream → Stream → Type 0
 WritesShort e.WriteFault text out out' err err' = FailsToSay text out out' × (err' ≡ err)
-WritesShort ending text out out' err err' = (ending ≡ e.Memory) × (HasWritten text out out' × Says (line (codes "memory")) err err')
+WritesShort ending text out out' err err' = (ending ≡ e.Memory)
+    × (HasWritten text out out' × Says (line (codes "memory")) err err')
 
 -- what is written of an output; out and err, before and after
 abbrev pub Delivers : Ending → Output → Stream → Stream → Stream → Stream → Type 0
@@ -49,7 +51,7 @@ Works ending asked input out out' err err' = Serves ending asked input out out' 
 
 -- the line for an input that is longer than the command reads
 abbrev pub too_long : CommandLine → List ℕ
-too_long (manifest node) = codes "B3 manifests/site.pp"
+too_long (manifest node) = codes "B3 " ++ MAIN_MANIFEST.now
 too_long sequence = codes "B3 bundle"
 too_long usage = codes ""
 too_long (bad_word word) = codes ""

@@ -77,7 +77,7 @@ fn sequence_text(
     Ok(Text::new(out))
 }
 
-#[tactic(auto, unfolding(crate::specs::Output::reply_lines))]
+#[tactic(auto, unfolding(crate::specs::Outputs::reply_lines))]
 fn write_replies(
     alloc: Global,
     out: &mut String,
@@ -85,7 +85,8 @@ fn write_replies(
     replies: &[Reply<PuppetLanguage>],
 ) -> Result<(), Memory>
     requires { length requests.now ≤ MOST_REQUESTS }
-    ensures { OnOk result (string_bytes out.new ≡ string_bytes out.old ++ reply_lines 0 (all_asked requests.now) replies.now) }
+    ensures { OnOk result (string_bytes out.new ≡ string_bytes out.old ++
+        reply_lines 0 (all_asked requests.now) replies.now) }
 {
     let mut number: u32 = 0;
     let mut asked = requests;

@@ -1,25 +1,31 @@
 //! The output to a manifest: the node's catalog, or its fault.
-ghost use Rattle.std.specs.Prelude.{◌≡◌, ◌≤◌, IfOk, length};
-ghost use Rattle.site_core.specs.Meaning.{Answers};
+ghost use Rattle.std.specs.Prelude.{◌≡◌, ◌≤◌, [], ◌∷◌, IfOk, length};
+ghost use Rattle.site_core.specs.Meaning.{Compiles};
 ghost use Rattle.site_docs.specs.CatalogText.{catalog_text};
 ghost use Rattle.site_docs.specs.FaultText.{fault_text};
-ghost use Rattle.site_commands.specs.Outputs.{output_meant, manifest_output};
+ghost use Rattle.site_bundle.specs.Refusals.{bad_shape};
+ghost use Rattle.site_commands.specs.Outputs.{output_meant, manifest_output, refusal_line};
 ghost use Rattle.site_bundle.specs.declared.limits.TheConstants.{MOST_FILE_BYTES};
-ghost use Rattle.site_commands.specs.Puppet.{manifest_meaning};
+ghost use Rattle.compile_core.specs.Puppet.{manifest_meaning};
 ghost use Rattle.site_commands.specs.World.{line};
 
 use crate::output::Output;
 use crate::lines::line;
 use compile_core::language::PuppetLanguage;
 use export_store::version::Version;
+use pp_values::fact_pairs::FactPairs;
 use pp_values::fault::Fault;
 use pp_values::memory::Memory;
 use pp_values::pairs::Pairs;
+use pp_values::place::MAIN_MANIFEST;
 use pp_values::text::Text;
+use pp_values::text_pairs::TextPairs;
 use pp_values::value::Value;
 use res_core::catalog::Catalog;
 use res_core::export_set::ExportSet;
-use site_bundle::site::Site;
+use site_bundle::bundle_stop::BundleStop;
+use site_bundle::site::{Site, make_site};
+use site_bundle::stop_lines::stop_text;
 use site_core::compile_stop::CompileStop;
 use site_core::language::Language;
 use site_docs::catalog_texts::catalog_text;
@@ -34,8 +40,17 @@ pub fn manifest_output(alloc: Global, node: &str, input: Bytes) -> Result<Output
 {
     match String::from_utf8(input.into_vec()) {
         Ok(manifest) => output_of_text(alloc, node, Text::new(manifest)),
-        Err(_) => Ok(Output::BadInput(Text::from_str(alloc, "B2 manifests/site.pp\n")?)),
+        Err(_) => no_text(alloc),
     }
+}
+
+/// The bytes are no text.
+fn no_text(alloc: Global) -> Result<Output, Memory>
+    ensures { IfOk result (λ output. output ≡ Output.BadInput (refusal_line (bad_shape MAIN_MANIFEST.now))) }
+{
+    let path = Text::from_str(alloc, MAIN_MANIFEST)?;
+    let refusal = stop_text(alloc, &BundleStop::BadShape(path))?;
+    Ok(Output::BadInput(line(refusal)?))
 }
 
 fn output_of_text(alloc: Global, node: &str, manifest: Text) -> Result<Output, Memory>
@@ -56,12 +71,23 @@ fn compile_alone(
     manifest: Text,
 ) -> Result<(Catalog, ExportSet), CompileStop<Fault>>
     requires { length manifest ≤ MOST_FILE_BYTES }
-    ensures { Answers result (manifest_meaning node.now manifest) }
+    ensures { Compiles result (manifest_meaning node.now manifest) }
 {
     let node = Text::from_str(alloc, node)?;
-    let site = Site::new(alloc, manifest);
+    let site = site_alone(alloc, manifest)?;
     let facts = Value::Hash(Pairs::new(alloc));
     PuppetLanguage.compile(alloc, &site, &node, &facts, &Version::empty(alloc))
+}
+
+/// The site of the main manifest alone, without nodes.
+#[tactic(auto, unfolding(site_bundle::specs::SiteView::put_in))]
+fn site_alone(alloc: Global, manifest: Text) -> Result<Site, Memory>
+    requires { length manifest ≤ MOST_FILE_BYTES }
+    ensures { IfOk result (λ s. s ≡ record { files = (MAIN_MANIFEST.now, manifest) ∷ []; nodes = [] }) }
+{
+    let mut files = TextPairs::new(alloc);
+    files.push((Text::from_str(alloc, MAIN_MANIFEST)?, manifest))?;
+    make_site(alloc, files, FactPairs::new(alloc))
 }
 
 fn catalog_line(alloc: Global, catalog: &Catalog) -> Result<Text, Memory>

@@ -16,6 +16,7 @@ use crate::manifest_output::manifest_output;
 use crate::say::{say, say_word};
 use crate::words::{Command, Complaint, read_words};
 use pp_values::memory::Memory;
+use pp_values::place::MAIN_MANIFEST;
 use site_bundle::limits::{MOST_BUNDLE_BYTES, MOST_FILE_BYTES};
 use site_io::{Bytes, ReadStop, Sink, Source, read_all, write_all};
 use std::alloc::Global;
@@ -68,7 +69,8 @@ pub fn site_main<S: Source, K: Sink, E: Sink>(
 
     // Faulty words are told exactly, and where the source tells its input, so is every other status.
     ensures words { (result ≡ 10) ↔ IsComplaint (asked_of (texts_of words.now)) }
-    ensures settled { (input : List ℕ) → (S.stream source.old).left ≡ Some input → IsSettled result (asked_of (texts_of words.now)) input }
+    ensures settled { (input : List ℕ) → (S.stream source.old).left ≡ Some input →
+        IsSettled result (asked_of (texts_of words.now)) input }
     ensures statuses { IsStatus result }
     ensures ended { HasEnded result (texts_of words.now)
         (world (S.stream source.old) (K.stream out.old) (E.stream err.old))
@@ -142,7 +144,8 @@ fn work<K: Sink, E: Sink>(
     err: &mut E,
 ) -> Ending
     requires { length input ≤ limit_of (asked_by command) }
-    ensures { Works result (asked_by command.entry) input (K.stream out.old) (K.stream out.new) (E.stream err.old) (E.stream err.new) }
+    ensures { Works result (asked_by command.entry) input (K.stream out.old) (K.stream out.new) (E.stream err.old)
+        (E.stream err.new) }
 {
     match output_for(alloc, command, input) {
         Ok(output) => deliver(&output, out, err),
@@ -177,9 +180,10 @@ fn refuse_long<E: Sink>(command: Command<'_>, err: &mut E) -> Ending
     ensures line { Says (line (too_long (asked_by command.entry))) (E.stream err.old) (E.stream err.new) }
 {
     match command {
-        Command::Manifest { .. } => refuse(err, Ending::BadInput, "B3 manifests/site.pp\n"),
-        Command::Sequence => refuse(err, Ending::BadInput, "B3 bundle\n"),
+        Command::Manifest { .. } => say_word(err, "B3 ", MAIN_MANIFEST),
+        Command::Sequence => say_word(err, "B3 ", "bundle"),
     }
+    Ending::BadInput
 }
 
 /// Says why the run ends so, as far as the error stream takes it.

@@ -4,9 +4,9 @@ use std::thread::{Builder, Promise, Threads};
 
 /// The bytes of stack that the program's work has: 64 MiB.
 ///
-/// The dearest manifest whose syntax nests 200 levels, a chain through all binding strengths, took 7.1 MiB of stack in a
-/// measured run. Evaluation within 1,000 levels is reckoned at 17 to 34 KiB a level, so 34 MiB at most, and 200 look-ups
-/// within one another at no more than an evaluation's level each, 7 MiB. These together are 48 MiB.
+/// The dearest manifest whose syntax nests 200 levels, a chain through all binding strengths, took 7.1 MiB of stack in
+/// a measured run. Evaluation within 1,000 levels is reckoned at 17 to 34 KiB a level, so 34 MiB at most, and 200
+/// look-ups within one another at no more than a level of evaluation each, 7 MiB. These together are 48 MiB.
 const STACK: usize = 67_108_864;
 
 /// The promise that any result keeps.

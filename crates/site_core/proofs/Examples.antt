@@ -16,7 +16,8 @@ use Rattle.site_core.specs.Steps.{snap, done, drop_call, deactivate, opened_stat
 
 -- facts
 
-a_and_b : are_facts (hash (entry (text (codes "a")) (int (pos 1)) (entry (text (codes "b")) (list (datum undef no_data)) no_entries))) ≡ true
+a_and_b : are_facts (hash (entry (text (codes "a")) (int (pos 1))
+    (entry (text (codes "b")) (list (datum undef no_data)) no_entries))) ≡ true
 a_and_b = refl
 
 no_facts_at_all : are_facts (hash no_entries) ≡ true
@@ -37,7 +38,8 @@ default_within = refl
 no_hash : are_facts (text (codes "a")) ≡ false
 no_hash = refl
 
--- A site is a number, and a node exports nothing or one notice. In this language node `x` has a fault, and each other node exports the
+-- A site is a number, and a node exports nothing or one notice. In this language node `x` has a fault, and each other
+-- node exports the
 -- notice; a catalog is what it was made from.
 
 abbrev nothing : ExportSet
@@ -58,7 +60,8 @@ abbrev none : Datum
 none = hash no_entries
 
 abbrev published : ℕ → ℕ → ℕ → List ℕ → Event ℕ
-published author call k node = publishes (record { author = author; call = call; node = node; facts = none; k = k; set = one })
+published author call k node = publishes (record { author = author; call = call; node = node; facts = none; k = k;
+    set = one })
 
 abbrev removed : ℕ → ℕ → List ℕ → Event ℕ
 removed author call node = deactivates (record { author = author; call = call; node = node })
@@ -86,7 +89,9 @@ others_have_none : latest_set (codes "b") (reverse short) ≡ None
 others_have_none = refl
 
 -- a set that is published once more takes the place of the first one
-latest_counts : latest_set (codes "a") (reverse (published 0 0 1 (codes "a") ∷ publishes (record { author = 1; call = 0; node = codes "a"; facts = none; k = 1; set = nothing }) ∷ [])) ≡ Some nothing
+latest_counts : latest_set (codes "a") (reverse (published 0 0 1 (codes "a") ∷
+    publishes (record { author = 1; call = 0; node = codes "a"; facts = none; k = 1; set = nothing }) ∷ [])) ≡ Some
+    nothing
 latest_counts = refl
 
 site_is_five : site_at short 3 ≡ Some 5
@@ -127,14 +132,17 @@ made_from_itself legal = let wrong : 2 ≤ 1 = legal.0.earlier in omega (arith, 
 published_a_fault : Legal toy (opens 5 ∷ published 0 0 1 (codes "x") ∷ []) → ⊥
 published_a_fault legal = legal.0.exported
 
-empty_beside_a_right_catalog : Legal toy (opens 5 ∷ publishes (record { author = 0; call = 0; node = codes "a"; facts = none; k = 1; set = nothing }) ∷ []) → ⊥
-empty_beside_a_right_catalog legal = let wrong : 1 ≡ 0 = ap (λ (s : ExportSet). length s.items) legal.0.exported in omega (arith, wrong)
+empty_beside_a_right_catalog : Legal toy (opens 5 ∷
+    publishes (record { author = 0; call = 0; node = codes "a"; facts = none; k = 1; set = nothing }) ∷ []) → ⊥
+empty_beside_a_right_catalog legal = let wrong : 1 ≡ 0 = ap (λ (s : ExportSet). length s.items) legal.0.exported in
+    omega (arith, wrong)
 
 -- what may happen
 
 published_and_removed :
     after_steps toy 3 (opened_state 5) (snap ∷ done 0 0 (codes "a") none ∷ deactivate 0 (codes "a") ∷ [])
-    ≡ Some (record { history = short; version = fin.remove (fin.insert fin.empty (codes "a") one) (codes "a"); site = 5; flights = [] })
+    ≡ Some (record { history = short; version = fin.remove (fin.insert fin.empty (codes "a") one) (codes "a"); site = 5;
+        flights = [] })
 published_and_removed = refl
 
 -- the compile that ends last publishes last, though it began first
@@ -150,10 +158,12 @@ two_in_flight = refl
 
 begins_with_all_entries :
     after_steps toy 9 (opened_state 5) (deactivate 0 (codes "a") ∷ snap ∷ [])
-    ≡ Some (record { history = opens 5 ∷ removed 0 0 (codes "a") ∷ []; version = fin.remove fin.empty (codes "a"); site = 5; flights = 2 ∷ [] })
+    ≡ Some (record { history = opens 5 ∷ removed 0 0 (codes "a") ∷ []; version = fin.remove fin.empty (codes "a");
+        site = 5; flights = 2 ∷ [] })
 begins_with_all_entries = refl
 
-no_room : after_steps toy 2 (opened_state 5) (snap ∷ snap ∷ done 0 0 (codes "a") none ∷ done 0 0 (codes "a") none ∷ []) ≡ None
+no_room : after_steps toy 2 (opened_state 5) (snap ∷ snap ∷ done 0 0 (codes "a") none ∷ done 0 0 (codes "a") none ∷
+    []) ≡ None
 no_room = refl
 
 no_room_for_a_removal : after_steps toy 1 (opened_state 5) (deactivate 0 (codes "a") ∷ []) ≡ None

@@ -18,5 +18,7 @@ module _ {S : Type 0} where
       }
 
   -- as `done` and `deactivate` say it of a core
-  pub stays_with : (s : Snapshot S) (old new : Core S) (e : Event S) → new ≡ with_event old e → Of s old.history → Of s new.history
-  stays_with s old new e is of = let P : Core S → Type 0 = λ core. Of s core.history in subst P (sym is) (stays s old.history (e ∷ []) of)
+  pub stays_with : (s : Snapshot S) (old new : Core S) (e : Event S) → new ≡ with_event old e → Of s old.history →
+      Of s new.history
+  stays_with s old new e is of = let P : Core S → Type 0 = λ core. Of s core.history in
+      subst P (sym is) (stays s old.history (e ∷ []) of)

@@ -12,7 +12,8 @@ use Rattle.site_core.proofs.Sets.{sets_at-push, site_at-push}
 use Rattle.site_core.proofs.Legal.{Legal-push}
 
 module _ {S C F : Type 0} (meaning : Meaning S C F) where
-  pub sound_push : (core : Core S) (e : Event S) → IsSound meaning core → MayFollow meaning core.history e → length core.history < core.limit → IsSound meaning (with_event core e)
+  pub sound_push : (core : Core S) (e : Event S) → IsSound meaning core → MayFollow meaning core.history e →
+      length core.history < core.limit → IsSound meaning (with_event core e)
   sound_push core e sound follows room =
       record {
         legal = Legal-push meaning core.history e sound.legal follows;
@@ -20,8 +21,10 @@ module _ {S C F : Type 0} (meaning : Meaning S C F) where
         bounded = sound.bounded;
       }
 
-  pub kept_push : (core : Core S) (version next : Sets) (site : S) (e : Event S) → IsKept meaning core version site → MayFollow meaning core.history e →
-      is_opening e ≡ false → length core.history < core.limit → next ≡ sets_after (sets_at core.history (length core.history)) e →
+  pub kept_push : (core : Core S) (version next : Sets) (site : S) (e : Event S) → IsKept meaning core version site →
+      MayFollow meaning core.history e →
+      is_opening e ≡ false → length core.history < core.limit →
+          next ≡ sets_after (sets_at core.history (length core.history)) e →
       IsKept meaning (with_event core e) next site
   kept_push core version next site e kept follows later room next_is =
       record {
@@ -31,10 +34,13 @@ module _ {S C F : Type 0} (meaning : Meaning S C F) where
       }
 
   -- the same, where what is known speaks of the value as it was seen before
-  pub kept_append : (inside seen : Core S) → inside ≡ seen → (version next : Sets) (site : S) (e : Event S) → IsKept meaning inside version site →
+  pub kept_append : (inside seen : Core S) → inside ≡ seen → (version next : Sets) (site : S) (e : Event S) →
+      IsKept meaning inside version site →
       MayFollow meaning seen.history e → is_opening e ≡ false → length seen.history < seen.limit →
       next ≡ sets_after (sets_at seen.history (length seen.history)) e → IsKept meaning (with_event inside e) next site
   kept_append inside seen same version next site e kept =
-      let P : Core S → Type 0 = λ core. MayFollow meaning core.history e → is_opening e ≡ false → length core.history < core.limit →
-      next ≡ sets_after (sets_at core.history (length core.history)) e → IsKept meaning (with_event inside e) next site in
+      let P : Core S → Type 0 = λ core. MayFollow meaning core.history e → is_opening e ≡ false →
+          length core.history < core.limit →
+      next ≡ sets_after (sets_at core.history (length core.history)) e →
+          IsKept meaning (with_event inside e) next site in
       subst P same (kept_push inside version next site e kept)

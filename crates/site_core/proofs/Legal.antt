@@ -11,12 +11,15 @@ use Rattle.site_core.specs.Sets.{sets_at, site_at}
 use Rattle.site_core.specs.Legal.{meaning_at, MayFollow, EachFollows, Legal, PrefixesAreLegal}
 
 module _ {S C F : Type 0} (meaning : Meaning S C F) where
-  EachFollows-push : (h es : List (Event S)) (e : Event S) → EachFollows meaning h es → MayFollow meaning (h ++ es) e → EachFollows meaning h (es ++ e ∷ [])
+  EachFollows-push : (h es : List (Event S)) (e : Event S) → EachFollows meaning h es → MayFollow meaning (h ++ es) e →
+      EachFollows meaning h (es ++ e ∷ [])
   EachFollows-push h [] e all last = (subst (λ x. MayFollow meaning x e) (append-nil h) last, tt)
   EachFollows-push h (x ∷ es) e all last =
-      (all.0, EachFollows-push (h ++ x ∷ []) es e all.1 (subst (λ y. MayFollow meaning y e) (sym (append_assoc h (x ∷ []) es)) last))
+      (all.0, EachFollows-push (h ++ x ∷ []) es e all.1
+          (subst (λ y. MayFollow meaning y e) (sym (append_assoc h (x ∷ []) es)) last))
 
-  pub Legal-push : (h : List (Event S)) (e : Event S) → Legal meaning h → MayFollow meaning h e → Legal meaning (h ++ e ∷ [])
+  pub Legal-push : (h : List (Event S)) (e : Event S) → Legal meaning h → MayFollow meaning h e →
+      Legal meaning (h ++ e ∷ [])
   Legal-push [] e legal last = absurd legal
   Legal-push (opens site ∷ es) e legal last = EachFollows-push (opens site ∷ []) es e legal last
   Legal-push (publishes p ∷ es) e legal last = absurd legal
@@ -38,7 +41,8 @@ module _ {S C F : Type 0} (meaning : Meaning S C F) where
   prefixes h (suc k) some legal = Legal-take h k legal
 
   -- what a snapshot of the first k entries shows has the meaning of these entries
-  pub exported_of : (h : List (Event S)) (k : ℕ) (site : S) (sets : Sets) (node : List ℕ) (facts : Datum) (set : ExportSet) →
+  pub exported_of : (h : List (Event S)) (k : ℕ) (site : S) (sets : Sets) (node : List ℕ) (facts : Datum)
+      (set : ExportSet) →
       sets ≡ sets_at h k → site_at h k ≡ Some site → HasExports (meaning site node facts sets) set →
       IsSomeAnd (meaning_at meaning h k node facts) (λ meant. HasExports meant set)
   exported_of h k site sets node facts set version_is site_is has =

@@ -13,21 +13,25 @@ use Rattle.site_core.specs.Events.{Event, opens, publishes, deactivates, is_open
 use Rattle.site_core.specs.Sets.{sets_after, sets_from, sets_at, latest_set, latest_site, site_at, SetsAreTheLatest}
 
 module _ {S : Type 0} where
-  pub sets_from-push : (sets : Sets) (h : List (Event S)) (e : Event S) → sets_from sets (h ++ e ∷ []) ≡ sets_after (sets_from sets h) e
+  pub sets_from-push : (sets : Sets) (h : List (Event S)) (e : Event S) →
+      sets_from sets (h ++ e ∷ []) ≡ sets_after (sets_from sets h) e
   sets_from-push sets [] e = refl
   sets_from-push sets (d ∷ h) e = sets_from-push (sets_after sets d) h e
 
   -- the sets after all entries, when one more comes
-  pub sets_at-push : (h : List (Event S)) (e : Event S) → sets_at (h ++ e ∷ []) (length (h ++ e ∷ [])) ≡ sets_after (sets_at h (length h)) e
+  pub sets_at-push : (h : List (Event S)) (e : Event S) →
+      sets_at (h ++ e ∷ []) (length (h ++ e ∷ [])) ≡ sets_after (sets_at h (length h)) e
   sets_at-push h e = rw (take-length (h ++ e ∷ []), take-length h) (sets_from-push fin.empty h e)
 
-  latest_site-push : (h : List (Event S)) (e : Event S) → is_opening e ≡ false → latest_site (reverse (h ++ e ∷ [])) ≡ latest_site (reverse h)
+  latest_site-push : (h : List (Event S)) (e : Event S) → is_opening e ≡ false →
+      latest_site (reverse (h ++ e ∷ [])) ≡ latest_site (reverse h)
   latest_site-push h (opens site) later = cc
   latest_site-push h (publishes p) later = rw (reverse-append h (publishes p ∷ [])) refl
   latest_site-push h (deactivates d) later = rw (reverse-append h (deactivates d ∷ [])) refl
 
   -- the site after all entries, when one more comes that opens none
-  pub site_at-push : (h : List (Event S)) (e : Event S) → is_opening e ≡ false → site_at (h ++ e ∷ []) (length (h ++ e ∷ [])) ≡ site_at h (length h)
+  pub site_at-push : (h : List (Event S)) (e : Event S) → is_opening e ≡ false →
+      site_at (h ++ e ∷ []) (length (h ++ e ∷ [])) ≡ site_at h (length h)
   site_at-push h e later = rw (take-length (h ++ e ∷ []), take-length h) (latest_site-push h e later)
 
   -- what the first k entries left stays when more come
@@ -48,31 +52,41 @@ module _ {S : Type 0} where
   unfolding latest_or
   latest_or-none node [] = refl
   latest_or-none node (opens site ∷ earlier) = latest_or-none node earlier
-  latest_or-none node (publishes p ∷ earlier) = ap (cond (bytes_eq node p.node) (Some p.set)) (latest_or-none node earlier)
+  latest_or-none node (publishes p ∷ earlier) = ap (cond (bytes_eq node p.node) (Some p.set))
+      (latest_or-none node earlier)
   latest_or-none node (deactivates d ∷ earlier) = ap (cond (bytes_eq node d.node) None) (latest_or-none node earlier)
 
-  latest_or-append : (node : List ℕ) (es fs : List (Event S)) (set : Option ExportSet) → latest_or node (es ++ fs) set ≡ latest_or node es (latest_or node fs set)
+  latest_or-append : (node : List ℕ) (es fs : List (Event S)) (set : Option ExportSet) →
+      latest_or node (es ++ fs) set ≡ latest_or node es (latest_or node fs set)
   unfolding latest_or
   latest_or-append node [] fs set = refl
   latest_or-append node (opens site ∷ earlier) fs set = latest_or-append node earlier fs set
-  latest_or-append node (publishes p ∷ earlier) fs set = ap (cond (bytes_eq node p.node) (Some p.set)) (latest_or-append node earlier fs set)
-  latest_or-append node (deactivates d ∷ earlier) fs set = ap (cond (bytes_eq node d.node) None) (latest_or-append node earlier fs set)
+  latest_or-append node (publishes p ∷ earlier) fs set =
+      ap (cond (bytes_eq node p.node) (Some p.set)) (latest_or-append node earlier fs set)
+  latest_or-append node (deactivates d ∷ earlier) fs set =
+      ap (cond (bytes_eq node d.node) None) (latest_or-append node earlier fs set)
 
-  get-sets_after : (sets : Sets) (e : Event S) (node : List ℕ) → fin.get (sets_after sets e) node ≡ latest_or node (e ∷ []) (fin.get sets node)
+  get-sets_after : (sets : Sets) (e : Event S) (node : List ℕ) →
+      fin.get (sets_after sets e) node ≡ latest_or node (e ∷ []) (fin.get sets node)
   unfolding latest_or
   get-sets_after sets (opens site) node = refl
   get-sets_after sets (publishes p) node =
-      fin.get-insert nat_list_cmp_total sets p.node p.set node ∙ ap (λ b. cond b (Some p.set) (fin.get sets node)) (sym (texts_ties node p.node))
+      fin.get-insert nat_list_cmp_total sets p.node p.set node
+          ∙ ap (λ b. cond b (Some p.set) (fin.get sets node)) (sym (texts_ties node p.node))
   get-sets_after sets (deactivates d) node =
-      fin.get-remove nat_list_cmp_total sets d.node node ∙ ap (λ b. cond b None (fin.get sets node)) (sym (texts_ties node d.node))
+      fin.get-remove nat_list_cmp_total sets d.node node
+          ∙ ap (λ b. cond b None (fin.get sets node)) (sym (texts_ties node d.node))
 
-  get-sets_from : (sets : Sets) (es : List (Event S)) (node : List ℕ) → fin.get (sets_from sets es) node ≡ latest_or node (reverse es) (fin.get sets node)
+  get-sets_from : (sets : Sets) (es : List (Event S)) (node : List ℕ) →
+      fin.get (sets_from sets es) node ≡ latest_or node (reverse es) (fin.get sets node)
   unfolding latest_or
   get-sets_from sets [] node = refl
   get-sets_from sets (e ∷ es) node =
       get-sets_from (sets_after sets e) es node ∙ ap (latest_or node (reverse es)) (get-sets_after sets e node)
-      ∙ sym (latest_or-append node (reverse es) (e ∷ []) (fin.get sets node)) ∙ ap (λ fs. latest_or node fs (fin.get sets node)) (sym (reverse-append (e ∷ []) es))
+      ∙ sym (latest_or-append node (reverse es) (e ∷ []) (fin.get sets node))
+          ∙ ap (λ fs. latest_or node fs (fin.get sets node)) (sym (reverse-append (e ∷ []) es))
 
   pub latest_sets : SetsAreTheLatest S
   latest_sets h k node =
-      get-sets_from fin.empty (take k h) node ∙ ap (latest_or node (reverse (take k h))) (fin.get-empty text_cmp node) ∙ latest_or-none node (reverse (take k h))
+      get-sets_from fin.empty (take k h) node ∙ ap (latest_or node (reverse (take k h))) (fin.get-empty text_cmp node)
+          ∙ latest_or-none node (reverse (take k h))

@@ -70,7 +70,8 @@ coded_publication =
     code_by ((ℕ × ℕ) × ((List ℕ × Datum) × (ℕ × ExportSet)))
     (coded× (coded× coded_ℕ coded_ℕ) (coded× (coded× coded_text coded_datum) (coded× coded_ℕ coded_export_set)))
     (λ p. ((p.author, p.call), ((p.node, p.facts), (p.k, p.set))))
-    (λ q. record { author = q.0.0; call = q.0.1; node = q.1.0.0; facts = q.1.0.1; k = q.1.1.0; set = q.1.1.1 }) (λ _. refl)
+    (λ q. record { author = q.0.0; call = q.0.1; node = q.1.0.0; facts = q.1.0.1; k = q.1.1.0; set = q.1.1.1 })
+        (λ _. refl)
 
 abbrev pub coded_deactivation : Coded Deactivation
 coded_deactivation =
@@ -94,7 +95,8 @@ module _ {S : Type 0} where
   event-cases (deactivates d) = refl
 
   abbrev pub coded_event : Coded S → Coded (Event S)
-  coded_event site = code_by (S ⊎ (Publication ⊎ Deactivation)) (coded⊎ site (coded⊎ coded_publication coded_deactivation)) cases event event-cases
+  coded_event site = code_by (S ⊎ (Publication ⊎ Deactivation))
+      (coded⊎ site (coded⊎ coded_publication coded_deactivation)) cases event event-cases
 
   abbrev pub coded_events : Coded S → Coded (List (Event S))
   coded_events site = coded_list (coded_event site)

@@ -11,7 +11,8 @@ module _ {S C F : Type 0} (meaning : Meaning S C F) where
   abbrev pub meaning_at : List (Event S) → ℕ → List ℕ → Datum → Option (Result (C × ExportSet) F)
   meaning_at h k node facts = option_map (λ site. meaning site node facts (sets_at h k)) (site_at h k)
 
-  -- a publication behind the entries h: the author's calls are numbered, the first k of these entries are what it was made from,
+  -- a publication behind the entries h: the author's calls are numbered, the first k of these entries are what it was
+  -- made from,
   -- their meaning is no fault, and its set is that meaning's exports
   pub record MayPublish (h : List (Event S)) (p : Publication) : Type 0 where
     pub numbered : p.call ≡ calls_of p.author h

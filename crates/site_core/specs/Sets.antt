@@ -21,7 +21,8 @@ module _ {S : Type 0} where
   abbrev pub sets_at : List (Event S) → ℕ → Sets
   sets_at h k = sets_from fin.empty (take k h)
 
-  -- of entries from the latest to the first: the set of the node's latest publication, unless a deactivation of the node came later
+  -- of entries from the latest to the first: the set of the node's latest publication, unless a deactivation of the
+  -- node came later
   abbrev pub latest_set : List ℕ → List (Event S) → Option ExportSet
   latest_set node [] = None
   latest_set node (opens site ∷ earlier) = latest_set node earlier
@@ -39,7 +40,9 @@ module _ {S : Type 0} where
   abbrev pub site_at : List (Event S) → ℕ → Option S
   site_at h k = latest_site (reverse (take k h))
 
--- After the first k entries each node has the set of its last publication among them after which no deactivation of it stands
+-- After the first k entries each node has the set of its last publication among them after which no deactivation of it
+-- stands
 -- among them, and the other nodes have none.
 abbrev pub SetsAreTheLatest : Type 0 → Type 0
-SetsAreTheLatest S = (h : List (Event S)) (k : ℕ) (node : List ℕ) → fin.get (sets_at h k) node ≡ latest_set node (reverse (take k h))
+SetsAreTheLatest S = (h : List (Event S)) (k : ℕ) (node : List ℕ) →
+    fin.get (sets_at h k) node ≡ latest_set node (reverse (take k h))

@@ -12,14 +12,16 @@ use Rattle.site_core.specs.Legal.{meaning_at}
 use Rattle.site_core.specs.Core.{IsKept}
 use Rattle.site_core.specs.declared.history.TheConstants.{MOST_ENTRIES}
 
--- A compile begins (`snap`) and ends: it publishes (`done`), or its call is dropped. The calls in flight are numbered from 0.
+-- A compile begins (`snap`) and ends: it publishes (`done`), or its call is dropped. The calls in flight are numbered
+-- from 0.
 pub data Step : Type 0 where
   snap : Step
   done : (flight author : ℕ) (node : List ℕ) (facts : Datum) → Step
   drop_call : (flight : ℕ) → Step
   deactivate : (author : ℕ) (node : List ℕ) → Step
 
--- a history, the version and the site that are kept beside it, and of each call in flight the number of entries that it began with
+-- a history, the version and the site that are kept beside it, and of each call in flight the number of entries that it
+-- began with
 pub record State (S : Type 0) : Type 0 where
   pub history : List (Event S)
   pub version : Sets
@@ -58,9 +60,11 @@ module _ {S C F : Type 0} (meaning : Meaning S C F) (limit : ℕ) where
   abbrev pub after_step : State S → Step → Option (State S)
   after_step s snap = Some (with_flight s)
   after_step s (done flight author node facts) =
-      if nat_lt (length s.history) limit then option_and_then (after_done s flight author node facts) (slice_get s.flights flight) else None
+      if nat_lt (length s.history) limit then option_and_then (after_done s flight author node facts)
+          (slice_get s.flights flight) else None
   after_step s (drop_call flight) = if nat_lt flight (length s.flights) then Some (without_flight s flight) else None
-  after_step s (deactivate author node) = if nat_lt (length s.history) limit then Some (with_entry s (deactivation s.history author node)) else None
+  after_step s (deactivate author node) = if nat_lt (length s.history) limit then Some
+      (with_entry s (deactivation s.history author node)) else None
 
   -- the state after all steps in turn
   abbrev pub after_steps : State S → List Step → Option (State S)

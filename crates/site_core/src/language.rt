@@ -26,7 +26,7 @@ pub trait Language {
 
     ghost use Rattle.std.specs.Prelude.{ℕ, List, Option};
     ghost use Rattle.pp_values.specs.Datum.{Datum};
-    ghost use Rattle.site_core.specs.Meaning.{Meaning, Answers};
+    ghost use Rattle.site_core.specs.Meaning.{Meaning, Compiles};
 
     ghost meaning: { Meaning Self.Site Self.Catalog Self.Fault };
 
@@ -50,7 +50,7 @@ pub trait Language {
         sets: &Version,
     ) -> Result<(Self::Catalog, ExportSet), CompileStop<Self::Fault>>
         requires { IsTrue (are_facts (view facts.now)) }
-        ensures { Answers result (meaning site.now node.now (view facts.now) sets.now) };
+        ensures { Compiles result (meaning site.now node.now (view facts.now) sets.now) };
 
     /// The facts that the site lists for a node.
     fn facts_of<'a>(&self, site: &'a Self::Site, node: &Text) -> Option<&'a Value>

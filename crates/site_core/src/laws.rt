@@ -7,7 +7,8 @@ ghost use Rattle.site_core.specs.Steps.{RunsAreSound};
 use crate::language::Language;
 
 /// From the opening on, over whatever begins, ends, is dropped and is deactivated: the history is legal and within its
-/// limit, the version and the site that are kept are those after all entries, and each call in flight began with entries of the history.
+/// limit, the version and the site that are kept are those after all entries, and each call in flight began with
+/// entries of the history.
 pub fn runs_are_sound<L: Language>()
     ensures { RunsAreSound L.meaning }
 {}

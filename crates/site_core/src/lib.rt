@@ -12,3 +12,13 @@ pub mod laws;
 pub mod reply;
 pub mod snapshot;
 pub mod state;
+
+pub use compile_stop::CompileStop;
+pub use done_stop::DoneStop;
+pub use entries::Entries;
+pub use entry::Entry;
+pub use history::{History, MOST_ENTRIES};
+pub use language::Language;
+pub use reply::{Reply, ReplyOf};
+pub use snapshot::Snapshot;
+pub use state::CoreState;

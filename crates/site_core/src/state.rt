@@ -51,7 +51,8 @@ impl<L: Language> Model for CoreState<L> {
 
     ghost view = { λ s. record { history = s.history.entries; limit = s.limit } };
 
-    ghost invariant = { λ s. IsKept L.meaning (record { history = s.history.entries; limit = s.limit }) s.version (arc_value s.site)
+    ghost invariant = { λ s. IsKept L.meaning (record { history = s.history.entries; limit = s.limit }) s.version
+        (arc_value s.site)
         × AreCountsOf s.counts.by_author s.history.entries };
 }
 
@@ -110,7 +111,8 @@ impl<L: Language> CoreState<L> {
         requires of { Of snapshot self.old.history }
         requires meant { HasExports (L.meaning (arc_value snapshot.site) node (view facts) snapshot.version) set }
         ensures stop { Stops self.old result }
-        ensures ok { OnOk result (self.new ≡ with_event self.old (publication self.old.history author node (view facts) snapshot.k set)) }
+        ensures ok { OnOk result (self.new ≡ with_event self.old
+            (publication self.old.history author node (view facts) snapshot.k set)) }
         ensures err { OnErr result (self.new ≡ self.old) }
     {
         let number = self.next_number()?;

@@ -1,5 +1,5 @@
 -- Documents, and their texts.
-use Rattle.std.proofs.Common.{◌≡◌, ℕ, true, List, [], ◌∷◌, ◌++◌, None, refl, codes}
+use Rattle.std.proofs.Common.{◌≡◌, ℕ, true, List, [], ◌∷◌, ◌++◌, None, map, refl, codes}
 use Rattle.std.specs.Fmt.{digits}
 use Rattle.serde_json.proofs.OnLiterals.{serde_json_on_literals}
 use Rattle.pp_values.specs.Datum as d
@@ -19,6 +19,7 @@ use Rattle.site_core.specs.declared.reply.ReplyOf.TheVariants.{Served, Refused, 
 use Rattle.site_bundle.specs.SiteView.{SiteView}
 use Rattle.site_docs.specs.CatalogText.{held_object, held_data, edge_data, catalog_object, catalog_data, catalog_text}
 use Rattle.site_docs.specs.FaultText.{plain_line, fault_text}
+use Rattle.site_docs.specs.declared.fault_names.TheConstants.{FAULT_NAMES}
 use Rattle.site_docs.specs.SiteText.{site_object, site_data, site_text}
 use Rattle.site_docs.specs.JournalText.{export_object, export_data, opening_object, publication_object, deactivation_object, count_object, entry_data, entry_lines, journal_text}
 use Rattle.site_docs.specs.ReplyText.{served_text, refused_object, full_object, ahead_object, unknown_object, deactivated_object, memory_object, reply_text, reply_line}
@@ -26,39 +27,62 @@ use Rattle.site_docs.specs.ReplyText.{served_text, refused_object, full_object, 
 abbrev fault : What → Fault
 fault what = record { at = record { file = codes "m.pp"; line = 7 }; what = what }
 
+-- the names, whole
+names : map (λ name. name.now) FAULT_NAMES ≡
+    codes "Syntax" ∷ codes "UnknownVariable" ∷ codes "Reassigned" ∷ codes "UnknownClass" ∷ codes "UnknownType" ∷
+    codes "UnknownFunction" ∷ codes "WrongArguments" ∷ codes "TypeMismatch" ∷ codes "MissingParameter" ∷
+        codes "UnknownParameter" ∷
+    codes "BadOperand" ∷ codes "NumberRange" ∷ codes "ZeroDivisor" ∷ codes "Duplicate" ∷ codes "AlreadySet" ∷
+    codes "NoOverrideTarget" ∷ codes "NoRelationTarget" ∷ codes "Cycle" ∷ codes "NoNode" ∷ codes "LookupMissing" ∷
+    codes "LookupLoop" ∷ codes "MergeMismatch" ∷ codes "BadData" ∷ codes "BadInterpolation" ∷ codes "Failed" ∷
+    codes "ClassVirtual" ∷ codes "RoundLimit" ∷ codes "ResourceLimit" ∷ codes "DepthLimit" ∷ codes "SameNamevar" ∷
+    codes "NotBuilt" ∷ []
+names = refl
+
 -- details that are none, or empty; a line feed within; a cycle; an earlier place
 lines : (fault_text (fault Syntax) ≡ codes "F1 m.pp:7 Syntax")
     × (fault_text (fault (Failed [])) ≡ codes "F25 m.pp:7 Failed")
     × (fault_text (fault (Failed (97 ∷ 10 ∷ 98 ∷ []))) ≡ codes "F25 m.pp:7 Failed a b")
-    × (fault_text (fault (AlreadySet (subject.Kind (codes "web::vhost")) (codes "ip"))) ≡ codes "F15 m.pp:7 AlreadySet Web::Vhost ip")
-    × (fault_text (fault (Cycle (record { kind = codes "notify"; title = codes "f" } ∷ record { kind = codes "file"; title = codes "/a" } ∷ []))) ≡ codes "F18 m.pp:7 Cycle Notify[f] -> File[/a] -> Notify[f]")
-    × (fault_text (fault (Duplicate (record { kind = codes "notify"; title = codes "a" }) (record { file = codes "n.pp"; line = 10 }))) ≡ codes "F14 m.pp:7 Duplicate Notify[a] n.pp:10")
+    × (fault_text (fault (AlreadySet (subject.Kind (codes "web::vhost")) (codes "ip"))) ≡ codes
+        "F15 m.pp:7 AlreadySet Web::Vhost ip")
+    × (fault_text (fault (Cycle (record { kind = codes "notify"; title = codes "f" } ∷
+        record { kind = codes "file"; title = codes "/a" } ∷ []))) ≡ codes
+        "F18 m.pp:7 Cycle Notify[f] -> File[/a] -> Notify[f]")
+    × (fault_text (fault (Duplicate (record { kind = codes "notify"; title = codes "a" })
+        (record { file = codes "n.pp"; line = 10 }))) ≡ codes "F14 m.pp:7 Duplicate Notify[a] n.pp:10")
 unfolding fault_text plain_line digits
 lines = (refl, refl, refl, refl, refl, refl)
 
 abbrev main_class : Held
-main_class = record { item = record { kind = codes "class"; title = codes "main"; attributes = []; tags = codes "class" ∷ codes "main" ∷ [] }; inside = [] }
+main_class = record { item = record { kind = codes "class"; title = codes "main"; attributes = [];
+    tags = codes "class" ∷ codes "main" ∷ [] }; inside = [] }
 
 abbrev notify : List Setting → Held
-notify attributes = record { item = record { kind = codes "notify"; title = codes "hi"; attributes = attributes; tags = codes "hi" ∷ codes "notify" ∷ [] }; inside = 0 ∷ [] }
+notify attributes = record { item = record { kind = codes "notify"; title = codes "hi"; attributes = attributes;
+    tags = codes "hi" ∷ codes "notify" ∷ [] }; inside = 0 ∷ [] }
 
--- a catalog with nothing but its first resource, and one with an attribute and an edge; log lines are no part of the text
-catalogs : (catalog_text (record { node = codes "a"; resources = main_class ∷ []; edges = []; log = record { level = codes "notice"; text = codes "x" } ∷ [] })
+-- a catalog with nothing but its first resource, and one with an attribute and an edge; log lines are no part of the
+-- text
+catalogs : (catalog_text (record { node = codes "a"; resources = main_class ∷ []; edges = [];
+    log = record { level = codes "notice"; text = codes "x" } ∷ [] })
     ≡ codes "{\"catalog\":1,\"edges\":[],\"node\":\"a\",\"resources\":[{\"attrs\":{},\"in\":[],\"tags\":[\"class\",\"main\"],\"title\":\"main\",\"type\":\"Class\"}]}")
-    × (catalog_text (record { node = codes "a"; resources = notify ((codes "message", d.text (codes "hello")) ∷ []) ∷ []; edges = record { from = 1; to = 0; signal = true } ∷ []; log = [] })
+    × (catalog_text (record { node = codes "a"; resources = notify ((codes "message", d.text (codes "hello")) ∷ []) ∷
+        []; edges = record { from = 1; to = 0; signal = true } ∷ []; log = [] })
     ≡ codes "{\"catalog\":1,\"edges\":[[1,0,true]],\"node\":\"a\",\"resources\":[{\"attrs\":{\"message\":\"hello\"},\"in\":[0],\"tags\":[\"hi\",\"notify\"],\"title\":\"hi\",\"type\":\"Notify\"}]}")
 unfolding held_object held_data edge_data catalog_object catalog_data digits serde_json_on_literals
 catalogs = (refl, refl)
 
 abbrev listing : List ℕ → List (List ℕ) → SiteView
 listing manifest [] = record { files = (MAIN_MANIFEST.now, manifest) ∷ []; nodes = [] }
-listing manifest (n ∷ ns) = record { files = (MAIN_MANIFEST.now, manifest) ∷ []; nodes = (n, d.hash d.no_entries) ∷ (listing manifest ns).nodes }
+listing manifest (n ∷ ns) = record { files = (MAIN_MANIFEST.now, manifest) ∷ []; nodes = (n, d.hash d.no_entries) ∷
+    (listing manifest ns).nodes }
 
 -- sites with no node, and with two of which one has a fact
 sites : (site_text (listing [] []) ≡ codes "{\"files\":{\"manifests/site.pp\":\"\"},\"nodes\":{}}")
     × (site_text (record {
       files = (MAIN_MANIFEST.now, codes "x") ∷ (codes "modules/a/init.pp", codes "y") ∷ [];
-      nodes = (codes "a", d.hash d.no_entries) ∷ (codes "b.c", d.hash (d.entry (d.text (codes "os")) (d.flag true) d.no_entries)) ∷ [];
+      nodes = (codes "a", d.hash d.no_entries) ∷ (codes "b.c",
+          d.hash (d.entry (d.text (codes "os")) (d.flag true) d.no_entries)) ∷ [];
     })
     ≡ codes "{\"files\":{\"manifests/site.pp\":\"x\",\"modules/a/init.pp\":\"y\"},\"nodes\":{\"a\":{},\"b.c\":{\"os\":true}}}")
 unfolding site_object site_data digits serde_json_on_literals
@@ -66,12 +90,14 @@ sites = (refl, refl)
 
 -- entry `call` of author 0, who published this set for node `a`
 abbrev published : ℕ → ℕ → List Exported → Event SiteView
-published call k set = publishes (record { author = 0; call = call; node = codes "a"; facts = d.hash d.no_entries; k = k; set = record { items = set } })
+published call k set = publishes (record { author = 0; call = call; node = codes "a"; facts = d.hash d.no_entries;
+    k = k; set = record { items = set } })
 
 abbrev me : Exported
 me = record {
   node_place = record { file = codes "manifests/site.pp"; line = 1 };
-  item = record { kind = codes "notify"; title = codes "me"; attributes = []; tags = codes "class" ∷ codes "main" ∷ codes "me" ∷ codes "notify" ∷ [] };
+  item = record { kind = codes "notify"; title = codes "me"; attributes = []; tags = codes "class" ∷ codes "main" ∷
+      codes "me" ∷ codes "notify" ∷ [] };
 }
 
 -- an empty manifest, compiled once
@@ -79,16 +105,19 @@ once : journal_text (opens (listing [] (codes "a" ∷ [])) ∷ published 0 1 [] 
     ≡ codes "{\"entry\":0,\"journal\":1,\"kind\":\"open\",\"site\":{\"files\":{\"manifests/site.pp\":\"\"},\"nodes\":{\"a\":{}}}}" ++ 10 ∷
     codes "{\"author\":0,\"call\":0,\"entry\":1,\"facts\":{},\"k\":1,\"kind\":\"publish\",\"node\":\"a\",\"set\":[]}" ++ 10 ∷
     codes "{\"entries\":2}" ++ 10 ∷ []
-unfolding site_object site_data opening_object publication_object count_object entry_data entry_lines digits serde_json_on_literals
+unfolding site_object site_data opening_object publication_object count_object entry_data entry_lines digits
+    serde_json_on_literals
 once = refl
 
 -- a node that exports a resource, compiled twice
-again : journal_text (opens (listing (codes "@@notify { 'me': }" ++ 10 ∷ codes "Notify <<| |>>") (codes "a" ∷ [])) ∷ published 0 1 (me ∷ []) ∷ published 1 2 (me ∷ []) ∷ [])
+again : journal_text (opens (listing (codes "@@notify { 'me': }" ++ 10 ∷ codes "Notify <<| |>>") (codes "a" ∷ [])) ∷
+    published 0 1 (me ∷ []) ∷ published 1 2 (me ∷ []) ∷ [])
     ≡ codes "{\"entry\":0,\"journal\":1,\"kind\":\"open\",\"site\":{\"files\":{\"manifests/site.pp\":\"@@notify { 'me': }\\nNotify <<| |>>\"},\"nodes\":{\"a\":{}}}}" ++ 10 ∷
     codes "{\"author\":0,\"call\":0,\"entry\":1,\"facts\":{},\"k\":1,\"kind\":\"publish\",\"node\":\"a\",\"set\":[{\"at\":\"manifests/site.pp:1\",\"attrs\":{},\"tags\":[\"class\",\"main\",\"me\",\"notify\"],\"title\":\"me\",\"type\":\"Notify\"}]}" ++ 10 ∷
     codes "{\"author\":0,\"call\":1,\"entry\":2,\"facts\":{},\"k\":2,\"kind\":\"publish\",\"node\":\"a\",\"set\":[{\"at\":\"manifests/site.pp:1\",\"attrs\":{},\"tags\":[\"class\",\"main\",\"me\",\"notify\"],\"title\":\"me\",\"type\":\"Notify\"}]}" ++ 10 ∷
     codes "{\"entries\":3}" ++ 10 ∷ []
-unfolding site_object site_data export_object export_data opening_object publication_object count_object entry_data entry_lines digits serde_json_on_literals
+unfolding site_object site_data export_object export_data opening_object publication_object count_object entry_data
+    entry_lines digits serde_json_on_literals
 again = refl
 
 -- a node is gone
@@ -96,7 +125,8 @@ gone : journal_text (opens (listing [] []) ∷ deactivates (record { author = 3;
     ≡ codes "{\"entry\":0,\"journal\":1,\"kind\":\"open\",\"site\":{\"files\":{\"manifests/site.pp\":\"\"},\"nodes\":{}}}" ++ 10 ∷
     codes "{\"author\":3,\"call\":7,\"entry\":1,\"kind\":\"deactivate\",\"node\":\"b\"}" ++ 10 ∷
     codes "{\"entries\":2}" ++ 10 ∷ []
-unfolding site_object site_data opening_object deactivation_object count_object entry_data entry_lines digits serde_json_on_literals
+unfolding site_object site_data opening_object deactivation_object count_object entry_data entry_lines digits
+    serde_json_on_literals
 gone = refl
 
 abbrev asks : List ℕ → ℕ → Asked
@@ -106,14 +136,17 @@ abbrev replies : ℕ → Asked → ReplyOf Catalog Fault → List ℕ
 replies = reply_line catalog_text fault_text
 
 -- one of each kind of reply
-served : replies 0 (asks (codes "a") 0) (Served 1 1 (record { node = codes "a"; resources = main_class ∷ []; edges = []; log = [] }))
+served : replies 0 (asks (codes "a") 0) (Served 1 1
+    (record { node = codes "a"; resources = main_class ∷ []; edges = []; log = [] }))
     ≡ codes "{\"catalog\":{\"catalog\":1,\"edges\":[],\"node\":\"a\",\"resources\":[{\"attrs\":{},\"in\":[],\"tags\":[\"class\",\"main\"],\"title\":\"main\",\"type\":\"Class\"}]},\"entry\":1,\"k\":1,\"reply\":0}" ++ 10 ∷ []
-unfolding reply_text served_text held_object held_data edge_data catalog_object catalog_data digits serde_json_on_literals
+unfolding reply_text served_text held_object held_data edge_data catalog_object catalog_data digits
+    serde_json_on_literals
 served = refl
 
 refused : replies 1 (asks (codes "b") 0) (Refused 2 (record {
   at = record { file = codes "manifests/site.pp"; line = 1 };
-  what = Duplicate (record { kind = codes "notify"; title = codes "me" }) (record { file = codes "manifests/site.pp"; line = 1 });
+  what = Duplicate (record { kind = codes "notify"; title = codes "me" })
+      (record { file = codes "manifests/site.pp"; line = 1 });
 }))
     ≡ codes "{\"fault\":\"F14 manifests/site.pp:1 Duplicate Notify[me] manifests/site.pp:1\",\"k\":2,\"reply\":1}" ++ 10 ∷ []
 unfolding reply_text refused_object fault_text plain_line digits serde_json_on_literals
@@ -124,5 +157,6 @@ others : (replies 0 (asks (codes "z") 0) (UnknownNode 1) ≡ codes "{\"k\":1,\"r
     × (replies 2 (asks (codes "a") 0) (HistoryFull 10) ≡ codes "{\"full\":10,\"reply\":2}" ++ 10 ∷ [])
     × (replies 3 (deactivate (codes "a")) (Deactivated 4) ≡ codes "{\"entry\":4,\"reply\":3}" ++ 10 ∷ [])
     × (replies 12 (deactivate (codes "a")) Memory ≡ codes "{\"memory\":true,\"reply\":12}" ++ 10 ∷ [])
-unfolding reply_text full_object ahead_object unknown_object deactivated_object memory_object digits serde_json_on_literals
+unfolding reply_text full_object ahead_object unknown_object deactivated_object memory_object digits
+    serde_json_on_literals
 others = (refl, refl, refl, refl, refl)

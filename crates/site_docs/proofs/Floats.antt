@@ -21,7 +21,8 @@ held_no_float : (h : Held) → has_float (held_data h) ≡ false
 unfolding held_data held_object
 held_no_float h =
     either _ _ (settings_no_float h.item.attributes)
-    (either _ _ (all_no_float index_data (λ i. refl) h.inside) (either _ _ (all_no_float string (λ t. refl) h.item.tags) refl))
+    (either _ _ (all_no_float index_data (λ i. refl) h.inside)
+        (either _ _ (all_no_float string (λ t. refl) h.item.tags) refl))
 
 edge_no_float : (e : Edge) → has_float (edge_data e) ≡ false
 unfolding edge_data
@@ -29,7 +30,8 @@ edge_no_float e = refl
 
 pub catalog_no_float : (c : Catalog) → has_float (catalog_data c) ≡ false
 unfolding catalog_data catalog_object
-catalog_no_float c = either _ _ (all_no_float edge_data edge_no_float c.edges) (either _ _ (all_no_float held_data held_no_float c.resources) refl)
+catalog_no_float c = either _ _ (all_no_float edge_data edge_no_float c.edges)
+    (either _ _ (all_no_float held_data held_no_float c.resources) refl)
 
 pub site_no_float : (s : SiteView) → has_float (site_data s) ≡ false
 unfolding site_data site_object
@@ -37,19 +39,22 @@ site_no_float s = either _ _ (settings_no_float (file_settings s.files)) (either
 
 export_no_float : (e : Exported) → has_float (export_data e) ≡ false
 unfolding export_data export_object
-export_no_float e = either _ _ (settings_no_float e.item.attributes) (either _ _ (all_no_float string (λ t. refl) e.item.tags) refl)
+export_no_float e = either _ _ (settings_no_float e.item.attributes)
+    (either _ _ (all_no_float string (λ t. refl) e.item.tags) refl)
 
 opening_no_float : (n : ℕ) (s : SiteView) → has_float (opening_object n (site_data s)) ≡ false
 unfolding opening_object
 opening_no_float n s = either _ _ (site_no_float s) refl
 
 publication_no_float : (author call entry k : ℕ) (facts : Datum) (node : List ℕ) (set : List Exported) →
-    has_float (publication_object author call entry (form facts) k node (array (items_of (map export_data set)))) ≡ false
+    has_float (publication_object author call entry (form facts) k node
+        (array (items_of (map export_data set)))) ≡ false
 unfolding publication_object
 publication_no_float author call entry k facts node set =
     either _ _ (form_no_float facts) (either _ _ (all_no_float export_data export_no_float set) refl)
 
-deactivation_no_float : (author call entry : ℕ) (node : List ℕ) → has_float (deactivation_object author call entry node) ≡ false
+deactivation_no_float : (author call entry : ℕ) (node : List ℕ) →
+    has_float (deactivation_object author call entry node) ≡ false
 unfolding deactivation_object
 deactivation_no_float author call entry node = refl
 

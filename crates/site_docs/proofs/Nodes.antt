@@ -23,15 +23,20 @@ rises-files (f ∷ g ∷ fs) h = both_true (first_so _ _ (first_so _ _ h)) (rise
 
 pub nodes_members : (ms : Members) (made nodes : List Setting) → ms ≡ put_all made no_members → made ≡ nodes →
     is_sorted text_cmp nodes ≡ true → ms ≡ setting_members nodes
-nodes_members ms made nodes put same sorted = put ∙ ap (λ ss. put_all ss no_members) same ∙ put_all-settings nodes (rises-nodes nodes sorted)
+nodes_members ms made nodes put same sorted = put ∙ ap (λ ss. put_all ss no_members) same
+    ∙ put_all-settings nodes (rises-nodes nodes sorted)
 
-pub files_members : (ms : Members) (made files : List Filed) → ms ≡ put_all (file_settings made) no_members → made ≡ files →
+pub files_members : (ms : Members) (made files : List Filed) → ms ≡ put_all (file_settings made) no_members →
+    made ≡ files →
     is_sorted text_cmp files ≡ true → ms ≡ setting_members (file_settings files)
 files_members ms made files put same sorted =
-    put ∙ ap (λ fs. put_all (file_settings fs) no_members) same ∙ put_all-settings (file_settings files) (rises-files files sorted)
+    put ∙ ap (λ fs. put_all (file_settings fs) no_members) same
+        ∙ put_all-settings (file_settings files) (rises-files files sorted)
 
 pub site_of_parts : (j files nodes : Data) (fs ns : Members) (s : SiteView) → j ≡ site_object files nodes →
-    files ≡ object fs → fs ≡ setting_members (file_settings s.files) → nodes ≡ object ns → ns ≡ setting_members s.nodes → j ≡ site_data s
+    files ≡ object fs → fs ≡ setting_members (file_settings s.files) → nodes ≡ object ns →
+        ns ≡ setting_members s.nodes → j ≡ site_data s
 unfolding site_data
 site_of_parts j files nodes fs ns s made has filed lists named =
-    made ∙ ap (λ f. site_object f nodes) (has ∙ ap object filed) ∙ ap (site_object (object (setting_members (file_settings s.files)))) (lists ∙ ap object named)
+    made ∙ ap (λ f. site_object f nodes) (has ∙ ap object filed)
+        ∙ ap (site_object (object (setting_members (file_settings s.files)))) (lists ∙ ap object named)

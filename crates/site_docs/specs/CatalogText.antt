@@ -24,7 +24,8 @@ held_object attributes inside tags title kind =
 
 unfoldable pub held_data : Held → Data
 held_data h =
-    held_object (object (setting_members h.item.attributes)) (array (items_of (map index_data h.inside))) (array (items_of (map string h.item.tags)))
+    held_object (object (setting_members h.item.attributes)) (array (items_of (map index_data h.inside)))
+        (array (items_of (map string h.item.tags)))
     h.item.title (kind_text h.item.kind)
 
 unfoldable pub edge_data : Edge → Data
@@ -39,7 +40,8 @@ catalog_object edges node resources =
     (member (codes "resources") resources no_members))))
 
 unfoldable pub catalog_data : Catalog → Data
-catalog_data c = catalog_object (array (items_of (map edge_data c.edges))) c.node (array (items_of (map held_data c.resources)))
+catalog_data c = catalog_object (array (items_of (map edge_data c.edges))) c.node
+    (array (items_of (map held_data c.resources)))
 
 -- without a line feed at the end
 abbrev pub catalog_text : Catalog → List ℕ

@@ -1,5 +1,5 @@
 -- The line that tells a fault.
-use Rattle.std.specs.Prelude.{ℕ, ◌==◌, if◌then◌else◌, List, [], ◌∷◌, ◌++◌, map, codes, decimal}
+use Rattle.std.specs.Prelude.{ℕ, ◌==◌, if◌then◌else◌, List, [], ◌∷◌, ◌++◌, ◌-◌, map, slice_index_or, codes, decimal}
 use Rattle.pp_values.specs.declared.fault.Fault.{Fault}
 use Rattle.pp_values.specs.declared.fault.What.{What}
 use Rattle.pp_values.specs.declared.fault.What.TheVariants.{Syntax, UnknownVariable, Reassigned, UnknownClass, UnknownType, UnknownFunction, WrongArguments, TypeMismatch, MissingParameter, UnknownParameter, BadOperand, NumberRange, ZeroDivisor, Duplicate, AlreadySet, NoOverrideTarget, NoRelationTarget, Cycle, NoNode, LookupMissing, LookupLoop, MergeMismatch, BadData, BadInterpolation, Failed, ClassVirtual, RoundLimit, ResourceLimit, DepthLimit, SameNamevar, NotBuilt}
@@ -7,6 +7,7 @@ use Rattle.pp_values.specs.declared.fault.Subject.{Subject}
 use Rattle.pp_values.specs.declared.fault.Subject.TheVariants as subject
 use Rattle.pp_values.specs.declared.place.Place.{Place}
 use Rattle.pp_values.specs.declared.reference.Reference.{Reference}
+use Rattle.site_docs.specs.declared.fault_names.TheConstants.{FAULT_NAMES}
 use Rattle.pp_values.specs.Words.{kind_text, reference_text}
 
 -- the faults are numbered from 1
@@ -43,38 +44,9 @@ fault_number DepthLimit = 29
 fault_number (SameNamevar later earlier) = 30
 fault_number NotBuilt = 31
 
+-- each number has its name
 abbrev pub fault_name : What → List ℕ
-fault_name Syntax = codes "Syntax"
-fault_name (UnknownVariable name) = codes "UnknownVariable"
-fault_name (Reassigned name) = codes "Reassigned"
-fault_name (UnknownClass name) = codes "UnknownClass"
-fault_name (UnknownType name) = codes "UnknownType"
-fault_name (UnknownFunction name) = codes "UnknownFunction"
-fault_name (WrongArguments name) = codes "WrongArguments"
-fault_name (TypeMismatch name) = codes "TypeMismatch"
-fault_name (MissingParameter reference name) = codes "MissingParameter"
-fault_name (UnknownParameter reference name) = codes "UnknownParameter"
-fault_name (BadOperand name) = codes "BadOperand"
-fault_name (NumberRange name) = codes "NumberRange"
-fault_name (ZeroDivisor name) = codes "ZeroDivisor"
-fault_name (Duplicate reference earlier) = codes "Duplicate"
-fault_name (AlreadySet about name) = codes "AlreadySet"
-fault_name (NoOverrideTarget reference) = codes "NoOverrideTarget"
-fault_name (NoRelationTarget reference) = codes "NoRelationTarget"
-fault_name (Cycle references) = codes "Cycle"
-fault_name (NoNode node) = codes "NoNode"
-fault_name (LookupMissing key) = codes "LookupMissing"
-fault_name (LookupLoop key) = codes "LookupLoop"
-fault_name (MergeMismatch key) = codes "MergeMismatch"
-fault_name (BadData path) = codes "BadData"
-fault_name (BadInterpolation text) = codes "BadInterpolation"
-fault_name (Failed message) = codes "Failed"
-fault_name (ClassVirtual about) = codes "ClassVirtual"
-fault_name RoundLimit = codes "RoundLimit"
-fault_name ResourceLimit = codes "ResourceLimit"
-fault_name DepthLimit = codes "DepthLimit"
-fault_name (SameNamevar later earlier) = codes "SameNamevar"
-fault_name NotBuilt = codes "NotBuilt"
+fault_name what = slice_index_or (map (λ name. name.now) FAULT_NAMES) (fault_number what - 1) []
 
 -- a file and a line: `manifests/site.pp:2`
 abbrev pub place_text : Place → List ℕ
@@ -140,7 +112,8 @@ in_line b = if b == 10 then 32 else b
 -- `Fn FILE:LINE Name DETAILS`, without the last space where there are no details
 unfoldable pub plain_line : Fault → List ℕ
 plain_line f =
-    codes "F" ++ (decimal (fault_number f.what) ++ (codes " " ++ (place_text f.at ++ (codes " " ++ (fault_name f.what ++ spaced (details f.what))))))
+    codes "F" ++ (decimal (fault_number f.what) ++ (codes " " ++
+        (place_text f.at ++ (codes " " ++ (fault_name f.what ++ spaced (details f.what))))))
 
 -- the line that tells the fault, without a line feed at its end
 unfoldable pub fault_text : Fault → List ℕ

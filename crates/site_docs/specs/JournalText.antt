@@ -1,4 +1,5 @@
--- The text of a history: a line of compact JSON for each entry, with the members of each object in byte order, and a last line
+-- The text of a history: a line of compact JSON for each entry, with the members of each object in byte order, and a
+-- last line
 -- with the number of entries.
 use Rattle.std.specs.Prelude.{ℕ, ◌+◌, List, [], ◌∷◌, ◌++◌, length, map, codes}
 use Rattle.serde_json.specs.Data.{Data, string, array, object, no_members, member}
@@ -24,7 +25,8 @@ export_object at attributes tags title kind =
 
 unfoldable pub export_data : Exported → Data
 export_data e =
-    export_object (place_text e.node_place) (object (setting_members e.item.attributes)) (array (items_of (map string e.item.tags)))
+    export_object (place_text e.node_place) (object (setting_members e.item.attributes))
+        (array (items_of (map string e.item.tags)))
     e.item.title (kind_text e.item.kind)
 
 -- an entry that opens a site; 1 is the version of this form
@@ -61,7 +63,8 @@ count_object count = object (member (codes "entries") (index_data count) no_memb
 -- entry n
 unfoldable pub entry_data : ℕ → Event SiteView → Data
 entry_data n (opens site) = opening_object n (site_data site)
-entry_data n (publishes p) = publication_object p.author p.call n (form p.facts) p.k p.node (array (items_of (map export_data p.set.items)))
+entry_data n (publishes p) = publication_object p.author p.call n (form p.facts) p.k p.node
+    (array (items_of (map export_data p.set.items)))
 entry_data n (deactivates d) = deactivation_object d.author d.call n d.node
 
 -- a document as a line

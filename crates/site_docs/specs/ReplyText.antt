@@ -24,24 +24,30 @@ served_text reply entry k catalog =
 
 unfoldable pub refused_object : (reply k : ℕ) → List ℕ → Data
 refused_object reply k fault =
-    object (member (codes "fault") (string fault) (member (codes "k") (index_data k) (member (codes "reply") (index_data reply) no_members)))
+    object (member (codes "fault") (string fault) (member (codes "k") (index_data k)
+        (member (codes "reply") (index_data reply) no_members)))
 
 unfoldable pub full_object : (reply length : ℕ) → Data
-full_object reply length = object (member (codes "full") (index_data length) (member (codes "reply") (index_data reply) no_members))
+full_object reply length = object (member (codes "full") (index_data length)
+    (member (codes "reply") (index_data reply) no_members))
 
 unfoldable pub ahead_object : (reply length seen : ℕ) → Data
 ahead_object reply length seen =
-    object (member (codes "length") (index_data length) (member (codes "reply") (index_data reply) (member (codes "seen") (index_data seen) no_members)))
+    object (member (codes "length") (index_data length)
+        (member (codes "reply") (index_data reply) (member (codes "seen") (index_data seen) no_members)))
 
 unfoldable pub unknown_object : (reply k : ℕ) → List ℕ → Data
 unknown_object reply k node =
-    object (member (codes "k") (index_data k) (member (codes "reply") (index_data reply) (member (codes "unknown") (string node) no_members)))
+    object (member (codes "k") (index_data k) (member (codes "reply") (index_data reply)
+        (member (codes "unknown") (string node) no_members)))
 
 unfoldable pub deactivated_object : (reply entry : ℕ) → Data
-deactivated_object reply entry = object (member (codes "entry") (index_data entry) (member (codes "reply") (index_data reply) no_members))
+deactivated_object reply entry = object (member (codes "entry") (index_data entry)
+    (member (codes "reply") (index_data reply) no_members))
 
 unfoldable pub memory_object : (reply : ℕ) → Data
-memory_object reply = object (member (codes "memory") (boolean true) (member (codes "reply") (index_data reply) no_members))
+memory_object reply = object (member (codes "memory") (boolean true)
+    (member (codes "reply") (index_data reply) no_members))
 
 -- the reply with this number, over the texts of catalogs and faults
 module _ {C F : Type 0} (catalog_form : C → List ℕ) (fault_form : F → List ℕ) where

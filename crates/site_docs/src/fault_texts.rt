@@ -2,6 +2,7 @@ ghost use Rattle.std.specs.Prelude.{◌≡◌, ◌++◌, map, codes, decimal, st
 ghost use Rattle.pp_values.specs.Words.{reference_text};
 ghost use Rattle.site_docs.specs.FaultText.{fault_number as number_of, fault_name as name_of, place_text, subject_text, links, cycle_text, details, spaced, in_line, plain_line as plain_line_of, fault_text};
 
+use crate::fault_names::FAULT_NAMES;
 use pp_values::fault::{Fault, Subject, What};
 use pp_values::memory::Memory;
 use pp_values::place::Place;
@@ -28,7 +29,7 @@ fn plain_line(alloc: Global, fault: &Fault) -> Result<String, Memory>
     let mut line = String::new(alloc);
     write_head(&mut line, fault)?;
     let mut rest = String::new(alloc);
-    write_details(&mut rest, &fault.what)?;
+    write_details(&mut rest, fault.what.get())?;
     write_spaced(&mut line, rest.as_str())?;
     Ok(line)
 }
@@ -38,11 +39,11 @@ fn write_head(out: &mut String, fault: &Fault) -> Result<(), Memory>
     ensures { OnOk result (string_bytes out.new ≡ string_bytes out.old
         ++ (codes "F" ++ (decimal (number_of fault.now.what) ++ (codes " " ++ (place_text fault.now.at ++ (codes " " ++ name_of fault.now.what)))))) }
 {
-    let number = fault_number(&fault.what);
+    let number = fault_number(fault.what.get());
     write!(out, "F{number} ")?;
     write_place(out, &fault.at)?;
     out.push_str(" ")?;
-    out.push_str(fault_name(&fault.what))?;
+    out.push_str(fault_name(fault.what.get()))?;
     Ok(())
 }
 
@@ -96,39 +97,7 @@ fn fault_number(what: &What) -> u32
 fn fault_name(what: &What) -> &'static str
     ensures { result.now ≡ name_of what.now }
 {
-    match what {
-        What::Syntax => "Syntax",
-        What::UnknownVariable(_) => "UnknownVariable",
-        What::Reassigned(_) => "Reassigned",
-        What::UnknownClass(_) => "UnknownClass",
-        What::UnknownType(_) => "UnknownType",
-        What::UnknownFunction(_) => "UnknownFunction",
-        What::WrongArguments(_) => "WrongArguments",
-        What::TypeMismatch(_) => "TypeMismatch",
-        What::MissingParameter { .. } => "MissingParameter",
-        What::UnknownParameter { .. } => "UnknownParameter",
-        What::BadOperand(_) => "BadOperand",
-        What::NumberRange(_) => "NumberRange",
-        What::ZeroDivisor(_) => "ZeroDivisor",
-        What::Duplicate { .. } => "Duplicate",
-        What::AlreadySet { .. } => "AlreadySet",
-        What::NoOverrideTarget(_) => "NoOverrideTarget",
-        What::NoRelationTarget(_) => "NoRelationTarget",
-        What::Cycle(_) => "Cycle",
-        What::NoNode(_) => "NoNode",
-        What::LookupMissing(_) => "LookupMissing",
-        What::LookupLoop(_) => "LookupLoop",
-        What::MergeMismatch(_) => "MergeMismatch",
-        What::BadData(_) => "BadData",
-        What::BadInterpolation(_) => "BadInterpolation",
-        What::Failed(_) => "Failed",
-        What::ClassVirtual(_) => "ClassVirtual",
-        What::RoundLimit => "RoundLimit",
-        What::ResourceLimit => "ResourceLimit",
-        What::DepthLimit => "DepthLimit",
-        What::SameNamevar { .. } => "SameNamevar",
-        What::NotBuilt => "NotBuilt",
-    }
+    FAULT_NAMES[fault_number(what) as usize - 1]
 }
 
 fn write_details(out: &mut String, what: &What) -> Result<(), Memory>
@@ -175,7 +144,8 @@ fn write_text(out: &mut String, text: &Text) -> Result<(), Memory>
 }
 
 fn write_parameter(out: &mut String, reference: &Reference, name: &Text) -> Result<(), Memory>
-    ensures { OnOk result (string_bytes out.new ≡ string_bytes out.old ++ (reference_text reference.now ++ (codes " " ++ name.now))) }
+    ensures { OnOk result (string_bytes out.new ≡ string_bytes out.old ++
+        (reference_text reference.now ++ (codes " " ++ name.now))) }
 {
     write_reference(out, reference)?;
     out.push_str(" ")?;
@@ -183,7 +153,8 @@ fn write_parameter(out: &mut String, reference: &Reference, name: &Text) -> Resu
 }
 
 fn write_duplicate(out: &mut String, reference: &Reference, earlier: &Place) -> Result<(), Memory>
-    ensures { OnOk result (string_bytes out.new ≡ string_bytes out.old ++ (reference_text reference.now ++ (codes " " ++ place_text earlier.now))) }
+    ensures { OnOk result (string_bytes out.new ≡ string_bytes out.old ++
+        (reference_text reference.now ++ (codes " " ++ place_text earlier.now))) }
 {
     write_reference(out, reference)?;
     out.push_str(" ")?;
@@ -191,7 +162,8 @@ fn write_duplicate(out: &mut String, reference: &Reference, earlier: &Place) -> 
 }
 
 fn write_already_set(out: &mut String, about: &Subject, name: &Text) -> Result<(), Memory>
-    ensures { OnOk result (string_bytes out.new ≡ string_bytes out.old ++ (subject_text about.now ++ (codes " " ++ name.now))) }
+    ensures { OnOk result (string_bytes out.new ≡ string_bytes out.old ++
+        (subject_text about.now ++ (codes " " ++ name.now))) }
 {
     write_subject(out, about)?;
     out.push_str(" ")?;
@@ -199,7 +171,8 @@ fn write_already_set(out: &mut String, about: &Subject, name: &Text) -> Result<(
 }
 
 fn write_two(out: &mut String, later: &Reference, earlier: &Reference) -> Result<(), Memory>
-    ensures { OnOk result (string_bytes out.new ≡ string_bytes out.old ++ (reference_text later.now ++ (codes " " ++ reference_text earlier.now))) }
+    ensures { OnOk result (string_bytes out.new ≡ string_bytes out.old ++
+        (reference_text later.now ++ (codes " " ++ reference_text earlier.now))) }
 {
     write_reference(out, later)?;
     out.push_str(" ")?;
@@ -240,7 +213,8 @@ fn write_links(out: &mut String, references: &[Reference]) -> Result<(), Memory>
 }
 
 fn write_link(out: &mut String, reference: &Reference) -> Result<(), Memory>
-    ensures { OnOk result (string_bytes out.new ≡ string_bytes out.old ++ (codes " -> " ++ reference_text reference.now)) }
+    ensures { OnOk result (string_bytes out.new ≡ string_bytes out.old ++
+        (codes " -> " ++ reference_text reference.now)) }
 {
     out.push_str(" -> ")?;
     write_reference(out, reference)

@@ -133,7 +133,8 @@ fn publication_object(
     set: Json,
 ) -> Result<Json, AllocError>
     ensures { IfOk result (λ j. json_view j
-        ≡ object_of_publication numbers.author numbers.call numbers.entry (json_view facts) k node.now (json_view set)) }
+        ≡ object_of_publication numbers.author numbers.call numbers.entry (json_view facts) k node.now
+            (json_view set)) }
 {
     json!(in alloc; {
         "author": numbers.author,

@@ -2,8 +2,16 @@
 #![tactic(auto)]
 
 pub mod catalog_texts;
+pub mod fault_names;
 pub mod fault_texts;
 pub mod journals;
 pub mod replies;
 mod resource_forms;
 pub mod site_texts;
+
+pub use catalog_texts::catalog_text;
+pub use fault_names::FAULT_NAMES;
+pub use fault_texts::fault_text;
+pub use journals::write_journal;
+pub use replies::write_reply;
+pub use site_texts::site_text;

@@ -1,4 +1,5 @@
-//! The program of the site: `manifest NODE` reads a manifest and writes the node's catalog; `sequence` reads a bundle, answers its
+//! The program of the site: `manifest NODE` reads a manifest and writes the node's catalog; `sequence` reads a bundle,
+//! answers its
 //! requests one after another, and writes the history and the replies.
 #![tactic(auto)]
 

@@ -11,16 +11,23 @@ use Rattle.site_sequence.specs.Sequence.{AnsweredInTurn}
 
 module _ {S C F : Type 0} (meaning : Meaning S C F) (listed : S → List ℕ → Option Datum) (limit : ℕ) where
   -- with these replies so far, a run of the requests that are left is one of all
-  pub record GoesOn (start : List (Event S)) (all : List Asked) (replies : List (ReplyOf C F)) (h : List (Event S)) (left : List Asked) : Type 0 where
-    pub runs : (more : List (ReplyOf C F)) (after : List (Event S)) → AnsweredInTurn meaning listed limit h left more after →
+  pub record GoesOn (start : List (Event S)) (all : List Asked) (replies : List (ReplyOf C F)) (h : List (Event S))
+      (left : List Asked) : Type 0 where
+    pub runs : (more : List (ReplyOf C F)) (after : List (Event S)) →
+        AnsweredInTurn meaning listed limit h left more after →
         AnsweredInTurn meaning listed limit start all (replies ++ more) after
 
-  has_run : (start : List (Event S)) (all : List Asked) (replies : List (ReplyOf C F)) (h : List (Event S)) → GoesOn start all replies h [] →
+  has_run : (start : List (Event S)) (all : List Asked) (replies : List (ReplyOf C F)) (h : List (Event S)) →
+      GoesOn start all replies h [] →
       AnsweredInTurn meaning listed limit start all replies h
-  has_run start all replies h on = subst (λ r. AnsweredInTurn meaning listed limit start all r h) (append-nil replies) (on.runs [] h refl)
+  has_run start all replies h on = subst (λ r. AnsweredInTurn meaning listed limit start all r h) (append-nil replies)
+      (on.runs [] h refl)
 
   -- no request is left
-  pub has_run_all : (start : List (Event S)) (all : List Asked) (replies : List (ReplyOf C F)) (h after : List (Event S)) (left : List Request) →
-      length left < 1 → GoesOn start all replies h (all_asked left) → after ≡ h → AnsweredInTurn meaning listed limit start all replies after
-  has_run_all start all replies h after [] none on is = subst (AnsweredInTurn meaning listed limit start all replies) (sym is) (has_run start all replies h on)
+  pub has_run_all : (start : List (Event S)) (all : List Asked) (replies : List (ReplyOf C F))
+      (h after : List (Event S)) (left : List Request) →
+      length left < 1 → GoesOn start all replies h (all_asked left) → after ≡ h →
+          AnsweredInTurn meaning listed limit start all replies after
+  has_run_all start all replies h after [] none on is =
+      subst (AnsweredInTurn meaning listed limit start all replies) (sym is) (has_run start all replies h on)
   has_run_all start all replies h after (request ∷ left) none on is = absurd (omega arith)

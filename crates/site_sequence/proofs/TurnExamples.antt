@@ -8,12 +8,11 @@ use Rattle.res_core.specs.declared.export_set.ExportSet.{ExportSet}
 use Rattle.site_core.specs.Meaning.{Meaning}
 use Rattle.site_core.specs.Events.{Event, opens, publishes, deactivates}
 use Rattle.site_core.specs.declared.reply.ReplyOf.TheVariants as r
-use Rattle.site_commands.specs.Outputs.{answer_of}
 use Rattle.site_sequence.specs.Sequence.{turn, turn_for, outcome_of}
 use Rattle.site_sequence.specs.SequenceLaws.{are_made_in_turn}
-use Rattle.site_commands.specs.declared.output.Output.TheVariants as a
 
--- A site is a number, which is each catalog. Node `bad` has a fault, and each other one exports nothing. The site lists node `a`.
+-- A site is a number, which is each catalog. Node `bad` has a fault, and each other one exports nothing. The site lists
+-- node `a`.
 
 abbrev nothing : ExportSet
 nothing = record { items = [] }
@@ -39,7 +38,8 @@ asks node seen = compile (record { node = node; facts = None; seen = seen })
 abbrev asks_with_facts : List ℕ → Asked
 asks_with_facts node = compile (record { node = node; facts = Some none; seen = 0 })
 
-served : turn_for toy listed 2 start (asks (codes "a") 1) ≡ Some (turn (r.Served 1 1 5) (opens 5 ∷ published 0 1 (codes "a") ∷ []))
+served : turn_for toy listed 2 start (asks (codes "a") 1) ≡ Some
+    (turn (r.Served 1 1 5) (opens 5 ∷ published 0 1 (codes "a") ∷ []))
 served = refl
 
 seen_ahead : turn_for toy listed 2 start (asks (codes "b") 2) ≡ Some (turn (r.SeenAhead 1) start)
@@ -48,7 +48,8 @@ seen_ahead = refl
 not_listed : turn_for toy listed 2 start (asks (codes "b") 1) ≡ Some (turn (r.UnknownNode 1) start)
 not_listed = refl
 
-not_listed_but_given : turn_for toy listed 2 start (asks_with_facts (codes "b")) ≡ Some (turn (r.Served 1 1 5) (opens 5 ∷ published 0 1 (codes "b") ∷ []))
+not_listed_but_given : turn_for toy listed 2 start (asks_with_facts (codes "b")) ≡ Some
+    (turn (r.Served 1 1 5) (opens 5 ∷ published 0 1 (codes "b") ∷ []))
 not_listed_but_given = refl
 
 refused : turn_for toy listed 2 start (asks_with_facts (codes "bad")) ≡ Some (turn (r.Refused 1 (codes "bad")) start)
@@ -57,7 +58,8 @@ refused = refl
 full : turn_for toy listed 1 start (asks (codes "a") 0) ≡ Some (turn (r.HistoryFull 1) start)
 full = refl
 
-refused_before_full : turn_for toy listed 1 start (asks_with_facts (codes "bad")) ≡ Some (turn (r.Refused 1 (codes "bad")) start)
+refused_before_full : turn_for toy listed 1 start (asks_with_facts (codes "bad")) ≡ Some
+    (turn (r.Refused 1 (codes "bad")) start)
 refused_before_full = refl
 
 removed : turn_for toy listed 2 start (deactivate (codes "b"))
@@ -80,15 +82,3 @@ three = refl
 
 made_from_too_few : are_made_in_turn 0 (opens 5 ∷ published 0 1 (codes "a") ∷ published 1 1 (codes "a") ∷ []) ≡ false
 made_from_too_few = refl
-
-abbrev served_and : r.the_data ℕ (List ℕ) → List (r.the_data ℕ (List ℕ))
-served_and reply = r.Served 1 1 5 ∷ reply ∷ []
-
-refusals : (answer_of (served_and (r.Refused 2 (codes "bad"))) (codes "x") ≡ a.Refused (codes "x"))
-    × (answer_of (served_and (r.HistoryFull 2)) (codes "x") ≡ a.Refused (codes "x"))
-    × (answer_of (served_and (r.SeenAhead 2)) (codes "x") ≡ a.Refused (codes "x"))
-    × (answer_of (served_and (r.UnknownNode 2)) (codes "x") ≡ a.Refused (codes "x"))
-    × (answer_of (served_and (r.Deactivated 2)) (codes "x") ≡ a.Done (codes "x"))
-    × (answer_of (served_and r.Memory) (codes "x") ≡ a.Short (codes "x"))
-    × (answer_of (r.UnknownNode 1 ∷ served_and r.Memory) (codes "x") ≡ a.Short (codes "x"))
-refusals = (refl, refl, refl, refl, refl, refl, refl)

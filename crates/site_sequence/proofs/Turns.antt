@@ -36,73 +36,94 @@ module _ {S C F : Type 0} where
   comes_if h true t u first second = first
   comes_if h false t u first second = second
 
-  stays : (h : List (Event S)) (reply : ReplyOf C F) → is_memory reply ≡ false → named_entry reply ≡ None → Comes h (turn reply h)
+  stays : (h : List (Event S)) (reply : ReplyOf C F) → is_memory reply ≡ false → named_entry reply ≡ None →
+      Comes h (turn reply h)
   stays h reply told unnamed = record { told = told; kind = inl (record { same = refl; unnamed = unnamed }) }
 
-  adds : (h : List (Event S)) (reply : ReplyOf C F) (e : Event S) → is_memory reply ≡ false → named_entry reply ≡ Some (length h) →
+  adds : (h : List (Event S)) (reply : ReplyOf C F) (e : Event S) → is_memory reply ≡ false →
+      named_entry reply ≡ Some (length h) →
       IsTrue (is_made_from (length h) e) → Comes h (turn reply (h ++ e ∷ []))
-  adds h reply e told named in_turn = record { told = told; kind = inr (record { entry = e; more = refl; named = named; in_turn = in_turn }) }
+  adds h reply e told named in_turn = record { told = told;
+      kind = inr (record { entry = e; more = refl; named = named; in_turn = in_turn }) }
 
   comes_meant : (limit : ℕ) (h : List (Event S)) (node : List ℕ) (facts : Datum) (meant : Result (C × ExportSet) F) →
       Comes h (turn_meant limit h node facts meant)
   comes_meant limit h node facts (Err fault) = stays h (a.Refused (length h) fault) refl refl
   comes_meant limit h node facts (Ok made) =
-      comes_if h (nat_lt (length h) limit) _ _ (adds h (a.Served (length h) (length h) made.0) _ refl refl (eq-eqb (length h) (length h) refl))
+      comes_if h (nat_lt (length h) limit) _ _ (adds h (a.Served (length h) (length h) made.0) _ refl refl
+          (eq-eqb (length h) (length h) refl))
       (stays h (a.HistoryFull (length h)) refl refl)
 
   comes_removed : (limit : ℕ) (h : List (Event S)) (node : List ℕ) → Comes h (turn_removed {C = C} {F = F} limit h node)
   comes_removed limit h node =
-      comes_if h (nat_lt (length h) limit) _ _ (adds h (a.Deactivated (length h)) _ refl refl refl) (stays h (a.HistoryFull (length h)) refl refl)
+      comes_if h (nat_lt (length h) limit) _ _ (adds h (a.Deactivated (length h)) _ refl refl refl)
+          (stays h (a.HistoryFull (length h)) refl refl)
 
 module _ {S C F : Type 0} (meaning : Meaning S C F) (listed : S → List ℕ → Option Datum) (limit : ℕ) where
-  comes_known : (h : List (Event S)) (site : S) (node : List ℕ) (facts : Option Datum) → Comes h (turn_known meaning listed limit h site node facts)
+  comes_known : (h : List (Event S)) (site : S) (node : List ℕ) (facts : Option Datum) →
+      Comes h (turn_known meaning listed limit h site node facts)
   comes_known h site node None = stays h (a.UnknownNode (length h)) refl refl
   comes_known h site node (Some facts) = comes_meant limit h node facts (meaning site node facts (sets_at h (length h)))
 
-  comes_at : (h : List (Event S)) (f : S → Turn S C F) (site : Option S) (t : Turn S C F) → ((s : S) → Comes h (f s)) → option_map f site ≡ Some t → Comes h t
+  comes_at : (h : List (Event S)) (f : S → Turn S C F) (site : Option S) (t : Turn S C F) → ((s : S) → Comes h (f s)) →
+      option_map f site ≡ Some t → Comes h t
   comes_at h f None t all is = cc
   comes_at h f (Some site) t all is = let e : f site ≡ t = cc in subst (Comes h) e (all site)
 
-  comes_unless : (h : List (Event S)) (ahead : Bool) (early : Turn S C F) (later : Option (Turn S C F)) (t : Turn S C F) → Comes h early →
+  comes_unless : (h : List (Event S)) (ahead : Bool) (early : Turn S C F) (later : Option (Turn S C F))
+      (t : Turn S C F) → Comes h early →
       (later ≡ Some t → Comes h t) → (if ahead then Some early else later) ≡ Some t → Comes h t
   comes_unless h true early later t first rest is = let e : early ≡ t = cc in subst (Comes h) e first
   comes_unless h false early later t first rest is = rest is
 
-  comes : (h : List (Event S)) (asked : Asked) (t : Turn S C F) → turn_for meaning listed limit h asked ≡ Some t → Comes h t
+  comes : (h : List (Event S)) (asked : Asked) (t : Turn S C F) → turn_for meaning listed limit h asked ≡ Some t →
+      Comes h t
   comes h (compile w) t is =
-      comes_unless h (nat_lt (length h) w.seen) (turn (a.SeenAhead (length h)) h) _ t (stays h (a.SeenAhead (length h)) refl refl)
-      (comes_at h (λ site. turn_known meaning listed limit h site w.node (facts_or w.facts (listed site w.node))) (site_at h (length h)) t
+      comes_unless h (nat_lt (length h) w.seen) (turn (a.SeenAhead (length h)) h) _ t
+          (stays h (a.SeenAhead (length h)) refl refl)
+      (comes_at h (λ site. turn_known meaning listed limit h site w.node (facts_or w.facts (listed site w.node)))
+          (site_at h (length h)) t
       (λ site. comes_known h site w.node (facts_or w.facts (listed site w.node)))) is
-  comes h (deactivate node) t is = let e : turn_removed limit h node ≡ t = cc in subst (Comes h) e (comes_removed limit h node)
+  comes h (deactivate node) t is = let e : turn_removed limit h node ≡ t = cc in
+      subst (Comes h) e (comes_removed limit h node)
 
   -- each answer names the one entry that came, or none came
-  kind_of : (h next : List (Event S)) (asked : Asked) (reply : ReplyOf C F) → Takes meaning listed limit h asked reply next →
+  kind_of : (h next : List (Event S)) (asked : Asked) (reply : ReplyOf C F) →
+      Takes meaning listed limit h asked reply next →
       IsSilent h reply next ⊎ Adds h reply next
   kind_of h next asked reply (inl is) = (comes h asked (turn reply next) is).kind
   kind_of h next asked reply (inr is) = inl (record { same = is.1; unnamed = ap named_entry is.0 })
 
-  count_on : (h next after : List (Event S)) (reply : ReplyOf C F) (xs : List ℕ) → IsSilent h reply next ⊎ Adds h reply next →
+  count_on : (h next after : List (Event S)) (reply : ReplyOf C F) (xs : List ℕ) → IsSilent h reply next
+      ⊎ Adds h reply next →
       CountUp (length next) (length after) xs → CountUp (length h) (length after) (cons_option (named_entry reply) xs)
-  count_on h next after reply xs (inl silent) up = rw silent.unnamed (subst (λ es. CountUp (length es) (length after) xs) silent.same up)
+  count_on h next after reply xs (inl silent) up =
+      rw silent.unnamed (subst (λ es. CountUp (length es) (length after) xs) silent.same up)
   count_on h next after reply xs (inr added) up =
-      rw added.named (refl, subst (λ n. CountUp n (length after) xs) (ap length added.more ∙ length-append h (added.entry ∷ [])) up)
+      rw added.named (refl, subst (λ n. CountUp n (length after) xs)
+          (ap length added.more ∙ length-append h (added.entry ∷ [])) up)
 
   pub names : RepliesNameEntries meaning listed limit
   names h after [] [] run = ap length (sym run)
   names h after (asked ∷ requests) (reply ∷ replies) run =
-      count_on h run.0 after reply (filter_map named_entry replies) (kind_of h run.0 asked reply run.1) (names run.0 after requests replies run.2)
+      count_on h run.0 after reply (filter_map named_entry replies) (kind_of h run.0 asked reply run.1)
+          (names run.0 after requests replies run.2)
   names h after [] (reply ∷ replies) run = absurd run
   names h after (asked ∷ requests) [] run = absurd run
 
-  in_turn-push : (n : ℕ) (h : List (Event S)) (e : Event S) → IsTrue (are_made_in_turn n h) → IsTrue (is_made_from (n + length h) e) →
+  in_turn-push : (n : ℕ) (h : List (Event S)) (e : Event S) → IsTrue (are_made_in_turn n h) →
+      IsTrue (is_made_from (n + length h) e) →
       IsTrue (are_made_in_turn n (h ++ e ∷ []))
-  in_turn-push n [] e all last = and_from (is_made_from n e) true (subst (λ m. IsTrue (is_made_from m e)) (omega arith) last) refl
+  in_turn-push n [] e all last = and_from (is_made_from n e) true
+      (subst (λ m. IsTrue (is_made_from m e)) (omega arith) last) refl
   in_turn-push n (x ∷ h) e all last =
-      and_from (is_made_from n x) (are_made_in_turn (n + 1) (h ++ e ∷ [])) (and_parts (is_made_from n x) (are_made_in_turn (n + 1) h) all).0
+      and_from (is_made_from n x) (are_made_in_turn (n + 1) (h ++ e ∷ []))
+          (and_parts (is_made_from n x) (are_made_in_turn (n + 1) h) all).0
       (in_turn-push (n + 1) h e (and_parts (is_made_from n x) (are_made_in_turn (n + 1) h) all).1
       (subst (λ m. IsTrue (is_made_from m e)) (omega arith) last))
 
-  in_turn_on : (h next : List (Event S)) (reply : ReplyOf C F) → IsSilent h reply next ⊎ Adds h reply next → IsTrue (are_made_in_turn 0 h) →
+  in_turn_on : (h next : List (Event S)) (reply : ReplyOf C F) → IsSilent h reply next ⊎ Adds h reply next →
+      IsTrue (are_made_in_turn 0 h) →
       IsTrue (are_made_in_turn 0 next)
   in_turn_on h next reply (inl silent) all = subst (λ es. IsTrue (are_made_in_turn 0 es)) (sym silent.same) all
   in_turn_on h next reply (inr added) all =
@@ -117,7 +138,8 @@ module _ {S C F : Type 0} (meaning : Meaning S C F) (listed : S → List ℕ →
   in_turn h after (asked ∷ requests) [] run all = absurd run
 
   -- the turn that is meant
-  told_turn : (h next : List (Event S)) (asked : Asked) (reply : ReplyOf C F) → Takes meaning listed limit h asked reply next →
+  told_turn : (h next : List (Event S)) (asked : Asked) (reply : ReplyOf C F) →
+      Takes meaning listed limit h asked reply next →
       is_memory reply ≡ false → turn_for meaning listed limit h asked ≡ Some (turn reply next)
   told_turn h next asked reply (inl is) told = is
   told_turn h next asked reply (inr is) told = let wrong : true ≡ false = sym (ap is_memory is.0) ∙ told in cc
@@ -133,26 +155,34 @@ module _ {S C F : Type 0} (meaning : Meaning S C F) (listed : S → List ℕ →
   meant h after (asked ∷ requests) [] run told = absurd run
 
   Meant : List (Event S) → List Asked → Outcome S C F → Type 0
-  Meant h requests o = AnsweredInTurn meaning listed limit h requests o.replies o.history × (list_any is_memory o.replies ≡ false)
+  Meant h requests o = AnsweredInTurn meaning listed limit h requests o.replies o.history
+      × (list_any is_memory o.replies ≡ false)
 
-  run_later : (h : List (Event S)) (asked : Asked) (requests : List Asked) (t : Turn S C F) (later : Option (Outcome S C F)) (o : Outcome S C F) →
-      turn_for meaning listed limit h asked ≡ Some t → ((u : Outcome S C F) → later ≡ Some u → Meant t.history requests u) →
+  run_later : (h : List (Event S)) (asked : Asked) (requests : List Asked) (t : Turn S C F)
+      (later : Option (Outcome S C F)) (o : Outcome S C F) →
+      turn_for meaning listed limit h asked ≡ Some t →
+          ((u : Outcome S C F) → later ≡ Some u → Meant t.history requests u) →
       option_map (with_turn t) later ≡ Some o → Meant h (asked ∷ requests) o
   unfolding Meant
   run_later h asked requests t None o is rest all = cc
   run_later h asked requests t (Some u) o is rest all =
       let e : with_turn t u ≡ o = cc in
       subst (Meant h (asked ∷ requests)) e
-      ((t.history, inl is, (rest u refl).0), ap (λ b. b || list_any is_memory u.replies) (comes h asked t is).told ∙ (rest u refl).1)
+      ((t.history, inl is, (rest u refl).0), ap (λ b. b || list_any is_memory u.replies) (comes h asked t is).told
+          ∙ (rest u refl).1)
 
-  run_from : (h : List (Event S)) (asked : Asked) (requests : List Asked) (t : Option (Turn S C F)) (o : Outcome S C F) →
-      turn_for meaning listed limit h asked ≡ t → ((next : List (Event S)) (u : Outcome S C F) → outcome_of meaning listed limit next requests ≡ Some u → Meant next requests u) →
-      option_and_then (λ t. option_map (with_turn t) (outcome_of meaning listed limit t.history requests)) t ≡ Some o → Meant h (asked ∷ requests) o
+  run_from : (h : List (Event S)) (asked : Asked) (requests : List Asked) (t : Option (Turn S C F))
+      (o : Outcome S C F) →
+      turn_for meaning listed limit h asked ≡ t → ((next : List (Event S)) (u : Outcome S C F) →
+          outcome_of meaning listed limit next requests ≡ Some u → Meant next requests u) →
+      option_and_then (λ t. option_map (with_turn t) (outcome_of meaning listed limit t.history requests)) t ≡ Some o →
+          Meant h (asked ∷ requests) o
   run_from h asked requests None o is rest all = cc
   run_from h asked requests (Some t) o is rest all =
       run_later h asked requests t (outcome_of meaning listed limit t.history requests) o is (rest t.history) all
 
-  runs : (h : List (Event S)) (requests : List Asked) (o : Outcome S C F) → outcome_of meaning listed limit h requests ≡ Some o → Meant h requests o
+  runs : (h : List (Event S)) (requests : List Asked) (o : Outcome S C F) →
+      outcome_of meaning listed limit h requests ≡ Some o → Meant h requests o
   unfolding outcome_of Meant
   runs h [] o is = let e : record { replies = []; history = h } ≡ o = cc in subst (Meant h []) e (refl, refl)
   runs h (asked ∷ requests) o is =

@@ -53,7 +53,8 @@ module _ {S C F : Type 0} (meaning : Meaning S C F) (listed : S → List ℕ →
       else option_map (λ site. turn_known h site w.node (facts_or w.facts (listed site w.node))) (site_at h (length h))
   turn_for h (deactivate node) = Some (turn_removed limit h node)
 
-  -- The request is answered so, and this is the history after it. Want of memory may be the answer to any request, and leaves the
+  -- The request is answered so, and this is the history after it. Want of memory may be the answer to any request, and
+  -- leaves the
   -- history as it was.
   abbrev pub Takes : List (Event S) → Asked → ReplyOf C F → List (Event S) → Type 0
   Takes h asked reply after = (turn_for h asked ≡ Some (turn reply after)) ⊎ ((reply ≡ a.Memory) × (after ≡ h))
@@ -81,4 +82,5 @@ module _ {S C F : Type 0} (meaning : Meaning S C F) (listed : S → List ℕ →
   unfoldable pub outcome_of : List (Event S) → List Asked → Option (Outcome S C F)
   outcome_of h [] = Some (record { replies = []; history = h })
   outcome_of h (asked ∷ requests) =
-      option_and_then (λ t. option_map (with_turn t) (outcome_of t.history requests)) (turn_for meaning listed limit h asked)
+      option_and_then (λ t. option_map (with_turn t) (outcome_of t.history requests))
+          (turn_for meaning listed limit h asked)

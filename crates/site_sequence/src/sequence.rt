@@ -75,7 +75,8 @@ pub fn answer<L: Language>(
     request: &Request,
 ) -> Reply<L>
     requires { IsTrue (asks_with_facts (asked request.now)) }
-    ensures turn { Takes L.meaning L.listed core.old.limit core.old.history (asked request.now) result core.new.history }
+    ensures turn { Takes L.meaning L.listed core.old.limit core.old.history (asked request.now) result
+        core.new.history }
     ensures limit { core.new.limit ≡ core.old.limit }
 {
     match try_answer(alloc, language, core, request) {
@@ -91,7 +92,8 @@ fn try_answer<L: Language>(
     request: &Request,
 ) -> Result<Reply<L>, Memory>
     requires { IsTrue (asks_with_facts (asked request.now)) }
-    ensures { Gives core.old (turn_for L.meaning L.listed core.old.limit core.old.history (asked request.now)) result core.new }
+    ensures { Gives core.old (turn_for L.meaning L.listed core.old.limit core.old.history (asked request.now)) result
+        core.new }
 {
     match request {
         Request::Compile(request) => serve(alloc, language, core, request),
@@ -107,7 +109,8 @@ fn serve<L: Language>(
     request: &CompileRequest,
 ) -> Result<Reply<L>, Memory>
     requires { IsTrue (asks_with_facts (wants (wanted request.now))) }
-    ensures { Gives core.old (turn_for L.meaning L.listed core.old.limit core.old.history (wants (wanted request.now))) result core.new }
+    ensures { Gives core.old (turn_for L.meaning L.listed core.old.limit core.old.history (wants (wanted request.now)))
+        result core.new }
 {
     let length = core.len();
     if request.seen > length {
@@ -153,7 +156,8 @@ fn serve_known<L: Language>(
     requires of { Of snapshot core.old.history }
     requires all { snapshot.k ≡ length core.old.history }
     ensures { Gives core.old
-        (Some (turn_known L.meaning L.listed core.old.limit core.old.history (arc_value snapshot.site) node (option_map view facts)))
+        (Some (turn_known L.meaning L.listed core.old.limit core.old.history (arc_value snapshot.site) node
+            (option_map view facts)))
         result core.new }
 {
     match facts {
@@ -208,7 +212,8 @@ fn publish<L: Language>(
     requires of { Of snapshot core.old.history }
     requires all { snapshot.k ≡ length core.old.history }
     requires meant { HasExports (L.meaning (arc_value snapshot.site) node (view facts) snapshot.version) set }
-    ensures { Gives core.old (Some (turn_meant core.old.limit core.old.history node (view facts) (Ok (catalog, set)))) result core.new }
+    ensures { Gives core.old (Some (turn_meant core.old.limit core.old.history node (view facts) (Ok (catalog, set))))
+        result core.new }
 {
     let k = snapshot.k;
     match core.done(alloc, AUTHOR, node, facts, snapshot, set) {

@@ -54,7 +54,11 @@ fn drawn_by_two<R: Threads + Sync>(
 const COUNTS: [u32; 3] = [0, 1, 1000];
 
 /// Whether two threads drew each number once, and no number is left.
-fn are_drawn_once<R: Threads + Sync>(rt: &R, alloc: Global, count: u32) -> Result<bool, AllocError> {
+fn are_drawn_once<R: Threads + Sync>(
+    rt: &R,
+    alloc: Global,
+    count: u32,
+) -> Result<bool, AllocError> {
     let (claims, mut first) = Claims::new(alloc, count)?;
     let second = claims.split(&mut first)?;
     let (mut seat, mut drawn) = drawn_by_two(rt, alloc, &claims, first, second)?;
@@ -100,7 +104,10 @@ fn squared<R: Threads + Sync>(rt: &R, alloc: Global, count: u32) -> Result<Vec<u
 
 /// Whether these are the squares of the numbers below the count, in order.
 fn are_squares(squares: &[u64], count: u32) -> bool {
-    squares.iter().copied().eq((0..count).map(|number| number as u64 * number as u64))
+    squares
+        .iter()
+        .copied()
+        .eq((0..count).map(|number| number as u64 * number as u64))
 }
 
 #[test]
@@ -176,11 +183,18 @@ impl<'a> WaitingJob for Meeter<'a> {
 const MEETERS: [u64; 3] = [2, 7, 64];
 
 /// Whether so many jobs met, each of which waits until all have come: with fewer threads none comes back.
-fn all_meet<R: Threads + Wait + Sync>(rt: &R, alloc: Global, count: u64) -> Result<bool, AllocError> {
+fn all_meet<R: Threads + Wait + Sync>(
+    rt: &R,
+    alloc: Global,
+    count: u64,
+) -> Result<bool, AllocError> {
     let barrier = Barrier::new(count as usize);
     let mut jobs = Vec::new(alloc);
     for number in 0..count {
-        jobs.push(Meeter { number, barrier: &barrier })?;
+        jobs.push(Meeter {
+            number,
+            barrier: &barrier,
+        })?;
     }
     let numbers = run_waiting(rt, alloc, jobs)?;
     Ok(numbers.as_slice().iter().copied().eq(0..count))
@@ -200,13 +214,19 @@ struct Digger {
     depth: u32,
 }
 
-/// The depth, counted by calls within calls.
-fn dug(depth: u32) -> u64 {
-    let mut frame = [0u8; 1024];
-    let place = depth as usize % 1024;
-    frame[place] = 1;
-    let below = if depth == 0 { 0 } else { dug(depth - 1) };
-    below.wrapping_add(frame[place] as u64)
+/// The bytes of a level.
+const FRAME: usize = 1024;
+
+/// The levels from this one down, where each counts a byte that the level above it left on the stack.
+fn dug(depth: u32, above: &[u8; FRAME]) -> u64 {
+    let mut frame = [0; FRAME];
+    frame[depth as usize % FRAME] = 1;
+    let below = if depth == 0 {
+        0
+    } else {
+        dug(depth - 1, &frame)
+    };
+    below.wrapping_add(above[(depth as usize + 1) % FRAME] as u64)
 }
 
 impl WaitingJob for Digger {
@@ -217,7 +237,7 @@ impl WaitingJob for Digger {
     ghost promise = { λ _ _. ⊤ };
 
     fn run<R: Wait>(self, _rt: &R) -> u64 {
-        dug(self.depth)
+        dug(self.depth, &[1; FRAME])
     }
 }
 

@@ -1,4 +1,4 @@
-ghost use Rattle.std.specs.Prelude.{◌≡◌, ◌+◌, ◌-◌, ◌≤◌, ◌<◌, [], ◌∷◌, length, All, Some, true, false, IfOk, IfErr};
+ghost use Rattle.std.specs.Prelude.{◌≡◌, ◌+◌, ◌-◌, ◌≤◌, ◌<◌, length, All, true, false, IfOk};
 ghost use Rattle.hist_lock.specs.Held.{held, IsShare};
 
 use hist_lock::{HistLock, Pass, StandsFor, Turn};
@@ -34,7 +34,8 @@ impl StandsFor for Log {
 /// One turn that writes a line. Says whether memory was there for it.
 fn write_line<R: Wait>(rt: &R, lock: &HistLock<Log>, pass: &mut Pass<Log>, number: u32) -> bool
     requires { (pass.old.lock ≡ lock.now) × (pass.old.turn ≡ false) }
-    ensures { (pass.new.lock ≡ pass.old.lock) × (pass.new.turn ≡ false) × (pass.new.room ≡ pass.old.room) × (pass.new.numbers ≡ pass.old.numbers) }
+    ensures lock { (pass.new.lock ≡ pass.old.lock) × (pass.new.turn ≡ false) }
+    ensures share { (pass.new.room ≡ pass.old.room) × (pass.new.numbers ≡ pass.old.numbers) }
 {
     let mut turn = lock.take(rt, pass);
     let by = pass.author();
@@ -49,7 +50,8 @@ fn write_line<R: Wait>(rt: &R, lock: &HistLock<Log>, pass: &mut Pass<Log>, numbe
 /// So many lines, each in a turn of its own.
 fn write_lines<R: Wait>(rt: &R, lock: &HistLock<Log>, mut pass: Pass<Log>, count: u32) -> Pass<Log>
     requires { (pass.lock ≡ lock.now) × (pass.turn ≡ false) }
-    ensures { (result.lock ≡ lock.now) × (result.turn ≡ false) × (result.room ≡ pass.room) × (result.numbers ≡ pass.numbers) }
+    ensures lock { (result.lock ≡ lock.now) × (result.turn ≡ false) }
+    ensures share { (result.room ≡ pass.room) × (result.numbers ≡ pass.numbers) }
 {
     for number in 0..count {
         if !write_line(rt, lock, &mut pass, number) {
@@ -68,7 +70,8 @@ fn split_passes<R: Wait>(
     count: u32,
 ) -> Result<Vec<Pass<Log>>, AllocError>
     requires { IsShare lock.now 65536 first.old × (first.old.room ≡ 65535) × (count ≤ 100) }
-    ensures first { IfOk result (λ passes. IsShare lock.now (65536 - length passes.items) first.new × (length passes.items ≡ count)) }
+    ensures first { IfOk result (λ passes. IsShare lock.now (65536 - length passes.items) first.new) }
+    ensures len { IfOk result (λ passes. length passes.items ≡ count) }
     ensures new { IfOk result (λ passes. All (IsShare lock.now 1) passes.items) }
 {
     let mut passes = Vec::new(alloc);
@@ -240,12 +243,13 @@ fn woken<R: Threads + Wait + Clock + Sync>(rt: &R, alloc: Global) -> Result<Log,
     let (second, mut first) = thread::join(
         rt,
         || -> Pass<Log>
-            requires { IsShare lock.now 1 second }
-            ensures { IsShare lock.entry.now 1 result }
+            requires { IsShare lock 1 second }
+            ensures { IsShare lock 1 result }
         { write_lines(rt, &lock, second, 1) },
         || -> Pass<Log>
-            requires { (first.lock ≡ lock.now) × (first.turn ≡ true) × (first.room + held first ≡ 65535) × (turn.value.lines.items ≡ first.front) }
-            ensures { IsShare lock.entry.now 65535 result }
+            requires pass { (first.lock ≡ lock) × (first.turn ≡ true) × (first.room + held first ≡ 65535) }
+            requires list { turn.value.lines.items ≡ first.front }
+            ensures { IsShare lock 65535 result }
         { give_late(rt, &lock, first, turn) },
     );
     lock.join(&mut first, second);

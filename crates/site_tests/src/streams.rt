@@ -1,4 +1,4 @@
-ghost use Rattle.std.specs.Prelude.{◌≡◌, Err, true};
+ghost use Rattle.std.specs.Prelude.{◌≡◌, ◌≤◌, Err, true, length};
 ghost use Rattle.site_io.specs.declared.transfer.ReadStop.TheVariants.{Fault};
 
 use site_io::{
@@ -145,7 +145,9 @@ struct FlakyReader {
 }
 
 /// Copies the bytes to the front of the buffer, where they fit.
-fn give(bytes: &[u8], into: &mut [u8]) -> usize {
+fn give(bytes: &[u8], into: &mut [u8]) -> usize
+    ensures { result ≤ length into.old }
+{
     let count = bytes.len().min(into.len());
     into[..count].copy_from_slice(&bytes[..count]);
     count

@@ -1,5 +1,5 @@
 -- Jobs that are cut off run by run: what is left for the runs to come is within their shares.
-use Rattle.std.proofs.Common.{◌≡◌, ℕ, zero, suc, ◌+◌, ◌-◌, ◌*◌, ◌/◌, ◌%◌, ◌<◌, ◌≤◌, List, [], ◌∷◌, ◌++◌, length, Vec, ◌∙◌, ap, arith, add-mul, one-mul, mul_comm, mul-le-mul_right}
+use Rattle.std.proofs.Common.{◌≡◌, ℕ, zero, suc, ◌+◌, ◌-◌, ◌*◌, ◌/◌, ◌<◌, ◌≤◌, List, [], ◌∷◌, ◌++◌, length, Vec, ◌∙◌, ap, arith, add-mul, one-mul, mul_comm, mul-le-mul_right}
 use Rattle.std.proofs.lemmas.Nat.{div-add-mod', mod_below}
 use Rattle.std.proofs.lemmas.List.Elements.{All-append}
 use Rattle.std.specs.declared.alloc.Global.{Global}
@@ -28,10 +28,10 @@ rest_within jobs left most some_ covered =
     dite (dec_le most run)
     (λ full. omega (arith, covered, split, full))
     (λ not_full.
-        let more : run + 1 ≤ most = omega arith in
-        let whole = div-add-mod' jobs left in let small = mod_below jobs left some_ in let runs = one_more run left some_ in
-        let shared = mul-le-mul_right (left - 1) more in let apart = add-mul run 1 (left - 1) in let one = one-mul (left - 1) in
-        omega (arith, some_, whole, small, runs, shared, apart, one))
+    let more : run + 1 ≤ most = omega arith in
+    let whole = div-add-mod' jobs left in let small = mod_below jobs left some_ in let runs = one_more run left some_ in
+    let shared = mul-le-mul_right (left - 1) more in let apart = add-mul run 1 (left - 1) in let one = one-mul (left - 1) in
+    omega (arith, some_, whole, small, runs, shared, apart, one))
 
 -- the same of the lengths that the code computes: what stays, and what is cut off
 pub front_within : (jobs len len' left most front : ℕ) → len ≡ jobs → len' ≡ jobs → 0 < left → jobs ≤ most * left

@@ -50,12 +50,7 @@ impl<J: WaitingJob> Promise<Result<Vec<J::Out>, AllocError>> for RunOf<J> {
 
 // Starts a thread for each run of jobs, from the last to the first, and then waits for them from the first to the
 // last. A run for which no thread can be had is run here when its turn to be waited for has come.
-fn run_in_scope<
-    's,
-    E: 's,
-    J: WaitingJob + Send + Drop + 's,
-    R: Threads + Wait + Sync + 's,
->(
+fn run_in_scope<'s, E: 's, J: WaitingJob + Send + Drop + 's, R: Threads + Wait + Sync + 's>(
     scope: &Scope<'s, E>,
     rt: &'s R,
     alloc: Global,

@@ -304,12 +304,12 @@ module _ {c : Cut} {a b : Inner} (I : InnerLocal c a b) where
   unfolding default_rule
   default_rule_local bars = peek_local (default_by_local bars)
 
-  pub typed_param_local : {d : Bool} (bars : Bool) (at : ℕ) (type : Expr) → IsLocal c d any (typed_param a bars at type) (typed_param b bars at type)
+  pub typed_param_local : {d : Bool} (bars : Bool) (type : Expr) → IsLocal c d any (typed_param a bars type) (typed_param b bars type)
   unfolding typed_param
-  typed_param_local bars at type = bind_local (expect_local _) (λ _. bind_local (default_rule_local bars) (λ _. pure_local _))
+  typed_param_local bars type = bind_local (expect_local _) (λ _. bind_local (default_rule_local bars) (λ _. pure_local _))
 
   pub param_by_local : {d : Bool} (bars : Bool) (at : ℕ) (x : Expr) (next : Option Kind) → IsLocal c d any (param_by a bars at x next) (param_by b bars at x next)
-  param_by_local bars at x (Some k.Variable) = typed_param_local bars at x
+  param_by_local bars at x (Some k.Variable) = typed_param_local bars x
   param_by_local bars at x _ = param_from_local at x
 
   pub param_rule_local : {d : Bool} (bars : Bool) → IsLocal c d any (param_rule a bars) (param_rule b bars)

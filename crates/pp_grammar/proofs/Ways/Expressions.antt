@@ -452,21 +452,21 @@ module _ {n : ℕ} (I : InnerGoes n) where
   unfolding default_rule
   default_rule_goes bars = peek_none (pure_goes None) (default_by_goes bars) (λ _ next e m. no_default (within m) bars next e)
 
-  typed_param_goes : (bars : Bool) (at : ℕ) (type : Expr) → Rule n (Some k.Variable) (always ends_param) (typed_param (within n) bars at type) (λ m. typed_param (within m) bars at type)
+  typed_param_goes : (bars : Bool) (type : Expr) → Rule n (Some k.Variable) (always ends_param) (typed_param (within n) bars type) (λ m. typed_param (within m) bars type)
   unfolding typed_param is_kind same_kind
-  typed_param_goes bars at type = first_any (expect_goes k.Variable refl) (λ _. after (default_rule_goes bars) (λ _. pure_goes _) (λ _ _ next e. param_ends next e))
+  typed_param_goes bars type = first_any (expect_goes k.Variable refl) (λ _. after (default_rule_goes bars) (λ _. pure_goes _) (λ _ _ next e. param_ends next e))
 
   given_goes : (bars : Bool) (at : ℕ) (x : Expr) (next : Option Kind) → Branch n (always ends_param) (param_from at x) (λ m. param_from at x) (param_by (within n) bars at x next) (λ m. param_by (within m) bars at x next)
-  given_goes bars at x (Some k.Variable) = taking (typed_param_goes bars at x)
+  given_goes bars at x (Some k.Variable) = taking (typed_param_goes bars x)
   given_goes bars at x _ = leaves refl refl
 
   asked_holds : (bars : Bool) (at : ℕ) (x : Expr) → param_from at x ≡ refuse → (next : Option Kind) → Holds n 1 (always ends_param) (param_by (within n) bars at x next) (λ m. param_by (within m) bars at x next)
-  asked_holds bars at x e (Some k.Variable) = (typed_param_goes bars at x).holds
+  asked_holds bars at x e (Some k.Variable) = (typed_param_goes bars x).holds
   asked_holds bars at x e _ = subst (λ (p : Parser _). Holds n 1 (always ends_param) p (λ m. param_from at x)) (sym e) refuse_holds
 
   param_by_goes : (bars : Bool) (at : ℕ) (x : Expr) (a : Answer (param_from at x)) → Rule n (asks a) (always ends_param) (peek >>= param_by (within n) bars at x) (λ m. peek >>= param_by (within m) bars at x)
   param_by_goes bars at x (gives y e) = peek_none (subst (λ (p : Parser _). Rule n None (always ends_param) p (λ m. p)) (sym e) (pure_goes y)) (given_goes bars at x) (λ _ next h m. no_type bars at x (within m) next h)
-  param_by_goes bars at x (refuses e) = peek_some (asked_holds bars at x e) (typed_param_goes bars at x).fresh
+  param_by_goes bars at x (refuses e) = peek_some (asked_holds bars at x e) (typed_param_goes bars x).fresh
 
   pub param_rule_goes : (bars : Bool) → Rule n (Some k.Name) (always ends_param) (param_rule (within n) bars) (λ m. param_rule (within m) bars)
   unfolding param_rule

@@ -99,13 +99,13 @@ param_expression (Some k.Comma) e = refl
 param_expression (Some k.CloseParen) e = refl
 param_expression _ e = absurd cc
 
-typed_param_fresh : (bars : Bool) (at : ℕ) (type : Expr) → Fresh (Some k.Variable) (always ends_param) (λ m. typed_param (within m) bars at type)
+typed_param_fresh : (bars : Bool) (type : Expr) → Fresh (Some k.Variable) (always ends_param) (λ m. typed_param (within m) bars type)
 unfolding typed_param is_kind same_kind
-typed_param_fresh bars at type = fresh_first {E = everything} (expect_goes {n = 0} k.Variable refl).fresh (λ _. fresh_after (default_rule_fresh bars) (λ _. pure_fresh _) (λ _ _ next e. param_expression next e)) (λ _ _ _ _. refl)
+typed_param_fresh bars type = fresh_first {E = everything} (expect_goes {n = 0} k.Variable refl).fresh (λ _. fresh_after (default_rule_fresh bars) (λ _. pure_fresh _) (λ _ _ next e. param_expression next e)) (λ _ _ _ _. refl)
 
 param_by_fresh : (bars : Bool) (at : ℕ) (x : Expr) (a : Answer (param_from at x)) → Fresh (asks a) (always ends_param) (λ m. peek >>= param_by (within m) bars at x)
 param_by_fresh bars at x (gives y e) = peek_none_fresh (λ next m. param_by (within m) bars at x next) (subst (λ (p : Parser _). Fresh None (always ends_param) (λ m. p)) (sym e) (pure_fresh y)) (λ next h m. no_type bars at x (within m) next h)
-param_by_fresh bars at x (refuses e) = peek_fresh k.Variable (λ next m. param_by (within m) bars at x next) (typed_param_fresh bars at x)
+param_by_fresh bars at x (refuses e) = peek_fresh k.Variable (λ next m. param_by (within m) bars at x next) (typed_param_fresh bars x)
 
 pub param_rule_fresh : (bars : Bool) → Fresh (Some k.Name) (always ends_param) (λ m. param_rule (within m) bars)
 unfolding param_rule

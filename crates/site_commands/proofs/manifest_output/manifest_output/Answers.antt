@@ -1,8 +1,7 @@
 use Rattle.std.proofs.Common.{◌≡◌, ◌∙◌, true, false, ap, sym, subst}
 use Rattle.std.proofs.lemmas.Str.{IsUtf8-string_bytes}
 use Rattle.std.specs.Str.{IsUtf8}
-use Rattle.site_commands.specs.declared.output.Output.TheVariants as a
-use Rattle.site_commands.proofs.Readable.{IfOk-text, bad-no_text}
+use Rattle.site_commands.proofs.Readable.{IfOk-text, IfOk-no_text}
 use Rattle.site_commands.proofs.manifest_output.manifest_output.Goals as goal
 
 pub returns-in-Ok : goal.returns-in-Ok
@@ -13,5 +12,6 @@ returns-in-Ok c =
 pub returns : goal.returns
 returns c =
     let no_text : IsUtf8 c.args.input → ⊥ =
-    λ utf8. let wrong : false ≡ true = c.in-Err.ensures.succeeds (subst IsUtf8 (sym c.into_vec.ensures) utf8) in cc wrong in
-    ap a.BadInput c.in_ok-from_str-in-Err.ensures ∙ bad-no_text c.args.node.now c.args.input no_text
+    λ utf8. let wrong : false ≡ true = c.in-Err.ensures.succeeds (subst IsUtf8 (sym c.into_vec.ensures) utf8) in
+        cc wrong in
+    IfOk-no_text _ c.args.node.now c.args.input no_text c.no_text.ensures

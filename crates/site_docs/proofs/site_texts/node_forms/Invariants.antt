@@ -6,4 +6,5 @@ use Rattle.site_bundle.specs.Listing.{listed}
 use Rattle.site_docs.proofs.site_texts.node_forms.Given as goal
 
 abbrev pub invariant-loop-name : goal.invariant-loop-name
-invariant-loop-name l = put_all (listed l.name-iterator) (members_view l.members.entries) ≡ put_all (listed l.nodes.entries) no_members
+invariant-loop-name l = put_all (listed l.name-iterator) (members_view l.members.entries) ≡ put_all
+    (listed l.nodes.entries) no_members

@@ -1,7 +1,7 @@
 use Rattle.std.proofs.Common.{◌≡◌, ◌+◌, ◌-◌, ◌/◌, ◌∙◌, ap, arith, length, length-append, subst, sym, ◌∷◌, []}
 use Rattle.work_pool.specs.Groups.{together, run_count, share, AreWithin}
 use Rattle.work_pool.proofs.GroupLemmas.{cut, together_push}
-use Rattle.work_pool.proofs.Shares.{front_within, back_within, last_within, within_push}
+use Rattle.work_pool.proofs.Shares.{front_within, back_within, within_push}
 use Rattle.work_pool.proofs.groups.grouped.Goals as goal
 
 pub loop-left-preserved : goal.loop-left-preserved

@@ -1,4 +1,4 @@
-use Rattle.std.proofs.Common.{◌≡◌, ◌∙◌, ap, sym, subst, subst₂, IfOk, ◌++◌, ◌∷◌, []}
+use Rattle.std.proofs.Common.{◌≡◌, ◌∙◌, ap, sym, subst, subst₂, IfOk}
 use Rattle.std.specs.List.{AllZip}
 use Rattle.work_pool.proofs.GroupLemmas.{zip_push}
 use Rattle.work_pool.proofs.side.+run_in_scope.Goals as goal

@@ -1,7 +1,0 @@
--- The forms so far are those of the statements before the index.
-use Rattle.std.proofs.Common.{◌≡◌, take}
-use Rattle.compile_core.specs.Forms.{forms_of}
-use Rattle.compile_core.proofs.forms.forms_of.Given as goal
-
-abbrev pub invariant-loop-statement : goal.invariant-loop-statement
-invariant-loop-statement l = l.found ≡ forms_of (take l.statement-index l.statements)

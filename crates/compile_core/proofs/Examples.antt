@@ -21,7 +21,7 @@ at_line line exported title tag = record { exported = exported; title = title; m
     at = record { file = MAIN_MANIFEST.now; line = line } }
 
 abbrev asks : Option (List ℕ) → Collector
-asks tag = record { tag = tag; at = record { file = MAIN_MANIFEST.now; line = 9 } }
+asks tag = record { tag = tag }
 
 -- a resource of another node's set
 abbrev export : List ℕ → ℕ → List ℕ → List Setting → Placed

@@ -100,10 +100,10 @@ other_resources = (refl, refl, refl, refl, refl)
 -- ---- collectors
 
 collectors :
-    (collector_from (codes "Notify") true None [] 3 ≡ Some (record { tag = None; at = main_place 3 }))
-    × (collector_from (codes "Notify") false None [] 3 ≡ None)
-    × (collector_from (codes "File") true None [] 3 ≡ None)
-    × (collector_from (codes "Notify") true None (is (codes "message") (codes "a") ∷ []) 3 ≡ None)
+    (collector_from (codes "Notify") true None [] ≡ Some (record { tag = None }))
+    × (collector_from (codes "Notify") false None [] ≡ None)
+    × (collector_from (codes "File") true None [] ≡ None)
+    × (collector_from (codes "Notify") true None (is (codes "message") (codes "a") ∷ []) ≡ None)
     × (tag_by (Test-F.Compare (comparison (codes "tag") true (said (codes "web")) 3)) ≡ Some (codes "web"))
     × (tag_by (Test-F.Compare (comparison (codes "tag") false (said (codes "web")) 3)) ≡ None)
     × (tag_by (Test-F.Compare (comparison (codes "title") true (said (codes "web")) 3)) ≡ None)

@@ -1,4 +1,5 @@
 //! The operators, on tables of operands and the texts of what they give.
+use crate::samples::text;
 use pp_ops::{Op, apply_op, needs_types};
 use pp_values::fault::{Stop, What};
 use pp_values::interpolating::text_of;
@@ -11,8 +12,24 @@ use pp_values::values::Values;
 use std::alloc::Global;
 use std::test::Fail;
 
-fn text(alloc: Global, text: &str) -> Result<Value, Memory> {
-    Ok(Value::Text(Text::from_str(alloc, text)?))
+/// An operand of the table.
+#[derive(Clone, Copy)]
+enum Given {
+    Undef,
+    Int(i64),
+    /// The least integer of 64 bits.
+    Least,
+    Text(&'static str),
+    /// `['a', 'A', 'BC']`
+    Letters,
+    /// `['A']`
+    Capital,
+    /// `[n]`
+    One(i64),
+    /// `[n, m]`
+    Two(i64, i64),
+    /// The hash of these keys, each with ten times itself.
+    Hash(i64, i64),
 }
 
 fn numbers(alloc: Global, list: &[i64]) -> Result<Value, Memory> {
@@ -31,7 +48,6 @@ fn words(alloc: Global, list: &[&str]) -> Result<Value, Memory> {
     Ok(Value::List(items))
 }
 
-/// The hash of 1 and 2 with their neighbours.
 fn hash(alloc: Global, keys: &[i64]) -> Result<Value, Memory> {
     let mut pairs = Pairs::new(alloc);
     for key in keys {
@@ -40,62 +56,80 @@ fn hash(alloc: Global, keys: &[i64]) -> Result<Value, Memory> {
     Ok(Value::Hash(pairs))
 }
 
-/// The operands of the table below.
-fn sample(alloc: Global, number: usize) -> Result<Value, Memory> {
-    match number {
-        0 => Ok(Value::Undef),
-        1 => Ok(Value::Int(2)),
-        2 => Ok(Value::Int(3)),
-        3 => Ok(Value::Int(-7)),
-        4 => Ok(Value::Int(0)),
-        5 => Ok(Value::Int(i64::MIN)),
-        6 => text(alloc, "abc"),
-        7 => text(alloc, "BC"),
-        8 => words(alloc, &["a", "A", "BC"]),
-        9 => words(alloc, &["A"]),
-        10 => hash(alloc, &[1, 2]),
-        11 => hash(alloc, &[3, 2]),
-        12 => numbers(alloc, &[1]),
-        13 => numbers(alloc, &[-1]),
-        14 => numbers(alloc, &[1, -1]),
-        15 => numbers(alloc, &[-5, 3]),
-        _ => Ok(Value::Int(-1)),
+fn value(alloc: Global, given: Given) -> Result<Value, Memory> {
+    match given {
+        Given::Undef => Ok(Value::Undef),
+        Given::Int(number) => Ok(Value::Int(number)),
+        Given::Least => Ok(Value::Int(i64::MIN)),
+        Given::Text(says) => text(alloc, says),
+        Given::Letters => words(alloc, &["a", "A", "BC"]),
+        Given::Capital => words(alloc, &["A"]),
+        Given::One(number) => numbers(alloc, &[number]),
+        Given::Two(first, second) => numbers(alloc, &[first, second]),
+        Given::Hash(first, second) => hash(alloc, &[first, second]),
     }
 }
 
-const RESULTS: [(Op, usize, usize, &str); 32] = [
-    (Op::Add, 1, 2, "5"),
-    (Op::Add, 8, 12, "[a, A, BC, 1]"),
-    (Op::Add, 12, 10, "[1, [1, 10], [2, 20]]"),
-    (Op::Add, 12, 6, "[1, abc]"),
-    (Op::Add, 10, 11, "{1 => 10, 2 => 20, 3 => 30}"),
-    (Op::Add, 5, 16, "F12 +"),
-    (Op::Add, 6, 7, "F11 +"),
-    (Op::Subtract, 1, 2, "-1"),
-    (Op::Subtract, 8, 9, "[a, BC]"),
-    (Op::Subtract, 8, 7, "[a, A]"),
-    (Op::Subtract, 10, 11, "{1 => 10}"),
-    (Op::Subtract, 10, 12, "{2 => 20}"),
-    (Op::Subtract, 10, 1, "{1 => 10}"),
-    (Op::Multiply, 3, 2, "-21"),
-    (Op::Divide, 3, 1, "-4"),
-    (Op::Divide, 5, 16, "F12 /"),
-    (Op::Divide, 1, 4, "F13 /"),
-    (Op::Modulo, 3, 1, "1"),
-    (Op::Modulo, 1, 3, "-5"),
-    (Op::Append, 12, 12, "[1, [1]]"),
-    (Op::Append, 10, 12, "F11 <<"),
-    (Op::Equal, 7, 7, "true"),
-    (Op::Less, 3, 1, "true"),
-    (Op::AtMost, 6, 1, "F11 <="),
-    (Op::Member, 7, 6, "true"),
-    (Op::Member, 6, 8, "false"),
-    (Op::Negate, 5, 0, "F12 -"),
-    (Op::Access, 8, 13, "BC"),
-    (Op::Access, 8, 14, "[A, BC]"),
-    (Op::Access, 8, 15, "[a]"),
-    (Op::Access, 11, 13, ""),
-    (Op::Access, 6, 12, "F11 []"),
+const TABLE: [(Op, Given, Given, &str); 44] = [
+    (Op::Add, Given::Int(2), Given::Int(3), "5"),
+    (Op::Add, Given::Letters, Given::One(1), "[a, A, BC, 1]"),
+    (
+        Op::Add,
+        Given::One(1),
+        Given::Hash(1, 2),
+        "[1, [1, 10], [2, 20]]",
+    ),
+    (Op::Add, Given::One(1), Given::Text("abc"), "[1, abc]"),
+    (
+        Op::Add,
+        Given::Hash(1, 2),
+        Given::Hash(3, 2),
+        "{1 => 10, 2 => 20, 3 => 30}",
+    ),
+    (Op::Add, Given::Hash(1, 2), Given::One(1), "F11 +"),
+    (Op::Add, Given::Least, Given::Int(-1), "F12 +"),
+    (Op::Add, Given::Text("abc"), Given::Text("BC"), "F11 +"),
+    (Op::Subtract, Given::Int(2), Given::Int(3), "-1"),
+    (Op::Subtract, Given::Least, Given::Int(2), "F12 -"),
+    (Op::Subtract, Given::Letters, Given::Capital, "[a, BC]"),
+    (Op::Subtract, Given::Letters, Given::Text("BC"), "[a, A]"),
+    (
+        Op::Subtract,
+        Given::Hash(1, 2),
+        Given::Hash(3, 2),
+        "{1 => 10}",
+    ),
+    (Op::Subtract, Given::Hash(1, 2), Given::One(1), "{2 => 20}"),
+    (Op::Subtract, Given::Hash(1, 2), Given::Int(2), "{1 => 10}"),
+    (Op::Multiply, Given::Int(-7), Given::Int(3), "-21"),
+    (Op::Multiply, Given::Least, Given::Int(-1), "F12 *"),
+    (Op::Divide, Given::Int(-7), Given::Int(2), "-4"),
+    (Op::Divide, Given::Least, Given::Int(-1), "F12 /"),
+    (Op::Divide, Given::Int(2), Given::Int(0), "F13 /"),
+    (Op::Modulo, Given::Int(-7), Given::Int(2), "1"),
+    (Op::Modulo, Given::Int(2), Given::Int(-7), "-5"),
+    (Op::Modulo, Given::Least, Given::Int(-1), "0"),
+    (Op::Modulo, Given::Int(2), Given::Int(0), "F13 %"),
+    (Op::Append, Given::One(1), Given::One(1), "[1, [1]]"),
+    (Op::Append, Given::Hash(1, 2), Given::One(1), "F11 <<"),
+    (Op::Equal, Given::Text("BC"), Given::Text("bc"), "true"),
+    (Op::NotEqual, Given::Text("BC"), Given::Text("bc"), "false"),
+    (Op::Less, Given::Int(-7), Given::Int(2), "true"),
+    (Op::Greater, Given::Int(-7), Given::Int(2), "false"),
+    (Op::AtLeast, Given::Int(2), Given::Int(2), "true"),
+    (Op::AtMost, Given::Text("abc"), Given::Int(2), "F11 <="),
+    (Op::Member, Given::Text("BC"), Given::Text("abc"), "true"),
+    (Op::Member, Given::Text("bc"), Given::Letters, "true"),
+    (Op::Member, Given::Text("abc"), Given::Letters, "false"),
+    (Op::Member, Given::Int(2), Given::Hash(1, 2), "true"),
+    (Op::Negate, Given::Int(-7), Given::Undef, "7"),
+    (Op::Negate, Given::Least, Given::Undef, "F12 -"),
+    (Op::Access, Given::Letters, Given::One(-1), "BC"),
+    (Op::Access, Given::Letters, Given::Two(1, -1), "[A, BC]"),
+    (Op::Access, Given::Letters, Given::Two(-5, 3), "[a]"),
+    (Op::Access, Given::Hash(1, 2), Given::One(1), "10"),
+    (Op::Access, Given::Hash(1, 2), Given::One(-1), ""),
+    (Op::Access, Given::Text("abc"), Given::One(1), "F11 []"),
 ];
 
 fn fault_text(alloc: Global, what: &What) -> Result<Text, Memory> {
@@ -118,32 +152,30 @@ fn answer_text(alloc: Global, answer: Result<Value, Stop>) -> Result<Text, Memor
     }
 }
 
-fn answer(alloc: Global, op: Op, operands: &[Value]) -> Result<Text, Memory> {
+fn answer(alloc: Global, op: Op, left: &Value, right: &Value) -> Result<Text, Memory> {
     let at = Place {
         file: Text::from_str(alloc, "a.pp")?,
         line: 1,
     };
-    match operands {
-        [left, right] => {
-            if needs_types(op, left) {
-                return Text::from_str(alloc, "types");
-            }
-            answer_text(alloc, apply_op(alloc, op, left, right, &at))
-        }
-        _ => Err(Memory),
+    if needs_types(op, left) {
+        return Text::from_str(alloc, "types");
+    }
+    answer_text(alloc, apply_op(alloc, op, left, right, &at))
+}
+
+fn gives(alloc: Global, row: &(Op, Given, Given, &str)) -> Result<bool, Memory> {
+    let mut operands = Values::new(alloc);
+    operands.push(value(alloc, row.1)?)?;
+    operands.push(value(alloc, row.2)?)?;
+    match operands.as_slice() {
+        [left, right] => Ok(answer(alloc, row.0, left, right)?.is(row.3)),
+        _ => Ok(false),
     }
 }
 
-fn gives(alloc: Global, row: &(Op, usize, usize, &str)) -> Result<bool, Memory> {
-    let mut operands = Values::new(alloc);
-    operands.push(sample(alloc, row.1)?)?;
-    operands.push(sample(alloc, row.2)?)?;
-    Ok(answer(alloc, row.0, operands.as_slice())?.is(row.3))
-}
-
 #[test]
-fn applies_operators(rt: HostRuntime) -> Result<(), Fail> {
-    for row in &RESULTS {
+fn operators_are_applied(rt: HostRuntime) -> Result<(), Fail> {
+    for row in &TABLE {
         assert!(rt; gives(rt.alloc(), row)?, "{}", row.3);
     }
     Ok(())

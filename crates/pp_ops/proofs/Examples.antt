@@ -1,5 +1,5 @@
 -- The definitions at worked examples. Each line holds by computing.
-use Rattle.std.proofs.Common.{◌≡◌, ℕ, Bool, true, false, cond, List, [], ◌∷◌, map, ℤ, pos, negsuc, refl, codes, None, Some, Result, Ok, Err}
+use Rattle.std.proofs.Common.{◌≡◌, ℕ, Bool, true, false, cond, List, [], ◌∷◌, map, ℤ, pos, negsuc, refl, codes, Result, Ok, Err}
 use Rattle.std.specs.Prelude.{is_ok}
 use Rattle.pp_values.specs.declared.bounds.Bounds.TheVariants as bounds
 use Rattle.pp_values.specs.declared.fault.What.TheVariants as what
@@ -60,7 +60,8 @@ integer = d.kind (sort (v.Integer bounds.Omitted))
 
 -- one value of each kind
 abbrev samples : List Datum
-samples = d.undef ∷ d.flag true ∷ two ∷ a ∷ list (one ∷ a ∷ []) ∷ hash ((a, one) ∷ []) ∷ file (codes "/a") ∷ integer ∷ d.default ∷ []
+samples = d.undef ∷ d.flag true ∷ two ∷ a ∷ list (one ∷ a ∷ []) ∷ hash ((a, one) ∷ []) ∷ file (codes "/a") ∷ integer ∷
+    d.default ∷ []
 
 -- which pairs of kinds an operator takes, `y` or `-`: a row for each kind on the left
 abbrev taken : Op → List (List ℕ)
@@ -143,7 +144,8 @@ add_past_the_beginning = refl
 add_lists : computed op.Add (list (one ∷ [])) (list (one ∷ list [] ∷ [])) ≡ Ok (list (one ∷ one ∷ list [] ∷ []))
 add_lists = refl
 
-add_hash_to_list : computed op.Add (list (one ∷ [])) (hash ((a, one) ∷ (two, b) ∷ [])) ≡ Ok (list (one ∷ list (a ∷ one ∷ []) ∷ list (two ∷ b ∷ []) ∷ []))
+add_hash_to_list : computed op.Add (list (one ∷ [])) (hash ((a, one) ∷ (two, b) ∷ []))
+    ≡ Ok (list (one ∷ list (a ∷ one ∷ []) ∷ list (two ∷ b ∷ []) ∷ []))
 add_hash_to_list = refl
 
 add_value_to_list : computed op.Add (list (one ∷ [])) d.undef ≡ Ok (list (one ∷ d.undef ∷ []))
@@ -152,13 +154,16 @@ add_value_to_list = refl
 add_type_to_list : computed op.Add (list []) integer ≡ Ok (list (integer ∷ []))
 add_type_to_list = refl
 
-right_wins : computed op.Add (hash ((a, one) ∷ (b, one) ∷ [])) (hash ((two, two) ∷ (a, three) ∷ [])) ≡ Ok (hash ((a, three) ∷ (b, one) ∷ (two, two) ∷ []))
+right_wins : computed op.Add (hash ((a, one) ∷ (b, one) ∷ [])) (hash ((two, two) ∷ (a, three) ∷ []))
+    ≡ Ok (hash ((a, three) ∷ (b, one) ∷ (two, two) ∷ []))
 right_wins = refl
 
-keys_are_exact : computed op.Add (hash ((a, one) ∷ [])) (hash ((big_a, two) ∷ [])) ≡ Ok (hash ((a, one) ∷ (big_a, two) ∷ []))
+keys_are_exact : computed op.Add (hash ((a, one) ∷ [])) (hash ((big_a, two) ∷ []))
+    ≡ Ok (hash ((a, one) ∷ (big_a, two) ∷ []))
 keys_are_exact = refl
 
-keys_of_two_kinds : computed op.Add (hash ((one, a) ∷ [])) (hash ((text (codes "1"), b) ∷ [])) ≡ Ok (hash ((one, a) ∷ (text (codes "1"), b) ∷ []))
+keys_of_two_kinds : computed op.Add (hash ((one, a) ∷ [])) (hash ((text (codes "1"), b) ∷ []))
+    ≡ Ok (hash ((one, a) ∷ (text (codes "1"), b) ∷ []))
 keys_of_two_kinds = refl
 
 no_texts_added : computed op.Add a b ≡ Err Operand
@@ -177,26 +182,31 @@ subtract_past_the_beginning = refl
 subtract_to_past_the_end : computed op.Subtract (int (pos 0)) least ≡ Err Range
 subtract_to_past_the_end = refl
 
-subtract_members : computed op.Subtract (list (a ∷ big_a ∷ a ∷ one ∷ [])) (list (a ∷ two ∷ [])) ≡ Ok (list (big_a ∷ one ∷ []))
+subtract_members : computed op.Subtract (list (a ∷ big_a ∷ a ∷ one ∷ [])) (list (a ∷ two ∷ []))
+    ≡ Ok (list (big_a ∷ one ∷ []))
 subtract_members = refl
 
 subtract_value : computed op.Subtract (list (a ∷ one ∷ a ∷ [])) a ≡ Ok (list (one ∷ []))
 subtract_value = refl
 
-subtract_hash_as_value : computed op.Subtract (list (a ∷ hash ((a, one) ∷ []) ∷ [])) (hash ((a, one) ∷ [])) ≡ Ok (list (a ∷ []))
+subtract_hash_as_value : computed op.Subtract (list (a ∷ hash ((a, one) ∷ []) ∷ [])) (hash ((a, one) ∷ []))
+    ≡ Ok (list (a ∷ []))
 subtract_hash_as_value = refl
 
-order_of_pairs_counts : computed op.Subtract (list (hash ((a, one) ∷ (b, two) ∷ []) ∷ [])) (list (hash ((b, two) ∷ (a, one) ∷ []) ∷ []))
+order_of_pairs_counts : computed op.Subtract (list (hash ((a, one) ∷ (b, two) ∷ []) ∷ []))
+    (list (hash ((b, two) ∷ (a, one) ∷ []) ∷ []))
     ≡ Ok (list (hash ((a, one) ∷ (b, two) ∷ []) ∷ []))
 order_of_pairs_counts = refl
 
 list_within_list : computed op.Subtract (list (list (a ∷ []) ∷ a ∷ [])) (list (list (a ∷ []) ∷ [])) ≡ Ok (list (a ∷ []))
 list_within_list = refl
 
-subtract_keys_of_hash : computed op.Subtract (hash ((a, one) ∷ (b, two) ∷ [])) (hash ((b, d.undef) ∷ (three, a) ∷ [])) ≡ Ok (hash ((a, one) ∷ []))
+subtract_keys_of_hash : computed op.Subtract (hash ((a, one) ∷ (b, two) ∷ [])) (hash ((b, d.undef) ∷ (three, a) ∷ []))
+    ≡ Ok (hash ((a, one) ∷ []))
 subtract_keys_of_hash = refl
 
-subtract_keys_of_list : computed op.Subtract (hash ((a, one) ∷ (two, b) ∷ (b, b) ∷ [])) (list (big_a ∷ two ∷ d.undef ∷ b ∷ [])) ≡ Ok (hash ((a, one) ∷ []))
+subtract_keys_of_list : computed op.Subtract (hash ((a, one) ∷ (two, b) ∷ (b, b) ∷ []))
+    (list (big_a ∷ two ∷ d.undef ∷ b ∷ [])) ≡ Ok (hash ((a, one) ∷ []))
 subtract_keys_of_list = refl
 
 subtract_key : computed op.Subtract (hash ((a, one) ∷ (b, two) ∷ [])) a ≡ Ok (hash ((b, two) ∷ []))
@@ -217,7 +227,8 @@ multiply_least = refl
 
 abbrev divisions : Op → List (Result Datum Refusal)
 divisions o = map (λ (p : ℤ × ℤ). computed o (int p.0) (int p.1))
-    ((pos 7, pos 2) ∷ (negsuc 6, pos 2) ∷ (pos 7, negsuc 1) ∷ (negsuc 6, negsuc 1) ∷ (negsuc 5, pos 2) ∷ (pos 6, negsuc 1) ∷ (pos 0, negsuc 1) ∷ [])
+    ((pos 7, pos 2) ∷ (negsuc 6, pos 2) ∷ (pos 7, negsuc 1) ∷ (negsuc 6, negsuc 1) ∷ (negsuc 5, pos 2) ∷
+    (pos 6, negsuc 1) ∷ (pos 0, negsuc 1) ∷ [])
 
 -- 7 / 2, -7 / 2, 7 / -2, -7 / -2, -6 / 2, 6 / -2, 0 / -2
 division_rounds_down : divisions op.Divide ≡
@@ -451,7 +462,8 @@ same_titles = refl
 
 -- `true` on the diagonal alone
 sameness_of_kinds : map (λ x. map (λ y. cond (same x y) 121 45) samples) samples ≡
-    codes "y--------" ∷ codes "-y-------" ∷ codes "--y------" ∷ codes "---y-----" ∷ codes "----y----" ∷ codes "-----y---" ∷ codes "------y--" ∷ codes "-------y-" ∷ codes "--------y" ∷ []
+    codes "y--------" ∷ codes "-y-------" ∷ codes "--y------" ∷ codes "---y-----" ∷ codes "----y----" ∷
+    codes "-----y---" ∷ codes "------y--" ∷ codes "-------y-" ∷ codes "--------y" ∷ []
 sameness_of_kinds = refl
 
 -- faults, with the operator as it is written

@@ -1,5 +1,5 @@
 -- A part of a list whose ends are cut to the list.
-use Rattle.std.proofs.Common.{◌≡◌, ℕ, ◌-◌, ◌<◌, ◌≤◌, List, [], length, take, drop, ap, sym, ◌∙◌, inl, inr, refl, arith}
+use Rattle.std.proofs.Common.{◌≡◌, ℕ, ◌-◌, List, [], length, take, drop, ap, sym, ◌∙◌, inl, inr, refl, arith}
 use Rattle.std.specs.Prelude.{min, ℤ, slice_range}
 use Rattle.std.proofs.lemmas.Bool.{cases_lt}
 use Rattle.std.proofs.lemmas.List.{take_all, drop_all, length-drop, take-map, drop-map, length-map}
@@ -31,7 +31,8 @@ clipped {X} xs f e n is = elim (cases_lt (min e n) f) [
 ]
 
 pub part_clipped : (xs : List Value) (from count : ℤ) →
-    views (slice_range xs (min (first_place from (length xs)) (min (end_place from count (length xs)) (length xs))) (min (end_place from count (length xs)) (length xs)))
+    views (slice_range xs (min (first_place from (length xs)) (min (end_place from count (length xs)) (length xs)))
+    (min (end_place from count (length xs)) (length xs)))
     ≡ part from count (views xs)
 part_clipped xs from count =
     let n = length xs in

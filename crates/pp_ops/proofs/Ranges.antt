@@ -1,5 +1,5 @@
 -- Whether an integer has 64 bits, as a test and as a checked operation tells it.
-use Rattle.std.proofs.Common.{◌≡◌, ◌<◌, ◌^◌, ℕ, true, false, Option, None, Some, Result, Ok, Err, ℤ, pos, negsuc, refl, arith, ap, sym}
+use Rattle.std.proofs.Common.{◌≡◌, ◌<◌, ◌^◌, true, false, Option, None, Some, ℤ, pos, negsuc, refl, arith}
 use Rattle.std.specs.Prelude.{FitsSigned}
 use Rattle.std.specs.Int.{w64}
 use Rattle.std.specs.Option.{SomeIff}
@@ -15,7 +15,8 @@ fits-back (pos n) h = let k : n < 2 ^ 63 = grind (arith, nat_tests) in record { 
 fits-back (negsuc n) h = let k : n < 2 ^ 63 = grind (arith, nat_tests) in record { sfits = k }
 
 fits-false : (z : ℤ) → ¬ (FitsSigned w64 z) → fits z ≡ false
-fits-false z h = elim (fits z) as (λ b. fits z ≡ b → fits z ≡ false) [ true ↦ λ e. absurd (h (fits-back z e)) | false ↦ λ e. e ] refl
+fits-false z h = elim (fits z) as (λ b. fits z ≡ b → fits z ≡ false)
+    [ true ↦ λ e. absurd (h (fits-back z e)) | false ↦ λ e. e ] refl
 
 pub range_told : (o : Option ℤ) (z : ℤ) → SomeIff o (FitsSigned w64 z) z → in_range z ≡ ranged o
 range_told None z h = rw (fits-false z h) refl

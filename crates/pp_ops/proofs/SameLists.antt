@@ -10,7 +10,8 @@ members_same-data_of [] (y ∷ ys) = refl
 members_same-data_of (x ∷ xs) [] = refl
 members_same-data_of (x ∷ xs) (y ∷ ys) = rw (members_same-data_of xs ys) refl
 
-pub entries_same-entries_of : (ps qs : List Pair) → entries_same (entries_of ps) (entries_of qs) ≡ pointwise same_pair ps qs
+pub entries_same-entries_of : (ps qs : List Pair) → entries_same (entries_of ps) (entries_of qs)
+    ≡ pointwise same_pair ps qs
 entries_same-entries_of [] [] = refl
 entries_same-entries_of [] (q ∷ qs) = refl
 entries_same-entries_of (p ∷ ps) [] = refl

@@ -1,5 +1,5 @@
 -- Access to a list or a hash: `value[arguments]`.
-use Rattle.std.specs.Prelude.{ℕ, suc, ◌+◌, ◌-◌, nat_lt, if◌then◌else◌, Option, None, Some, Result, Ok, Err, List, [], ◌∷◌, length, ℤ, pos, negsuc, slice_get}
+use Rattle.std.specs.Prelude.{ℕ, suc, ◌+◌, ◌-◌, nat_lt, if◌then◌else◌, Option, None, Result, Ok, Err, List, [], ◌∷◌, length, ℤ, pos, negsuc, slice_get}
 use Rattle.std.proofs.Common.{take, drop}
 use Rattle.pp_values.specs.Datum.{Datum, undef, int, list, hash, Pair, members_of, pairs_of}
 use Rattle.pp_values.specs.Keys.{value_at}
@@ -26,7 +26,8 @@ end_place (pos n) (pos count) size = n + count
 end_place (negsuc n) (pos count) size = size + count - suc n
 
 abbrev pub part : ℤ → ℤ → List Datum → List Datum
-part from count ds = take (end_place from count (length ds) - first_place from (length ds)) (drop (first_place from (length ds)) ds)
+part from count ds =
+    take (end_place from count (length ds) - first_place from (length ds)) (drop (first_place from (length ds)) ds)
 
 abbrev pub of_list : List Datum → List Datum → Result Datum Refusal
 of_list ds (int at ∷ []) = Ok (or_else undef (member_at at ds))

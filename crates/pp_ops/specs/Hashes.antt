@@ -1,5 +1,5 @@
 -- Hashes under operators.
-use Rattle.std.specs.Prelude.{Bool, not, is_none, Option, None, Some, List, [], ◌∷◌, ◌++◌, map, filter}
+use Rattle.std.specs.Prelude.{not, is_none, Option, None, Some, List, [], ◌∷◌, ◌++◌, map, filter}
 use Rattle.std.specs.List.{list_any}
 use Rattle.pp_values.specs.Datum.{Datum, list, hash, Pair, members_of, pairs_of}
 use Rattle.pp_values.specs.Keys.{same_key, value_at}

@@ -1,5 +1,5 @@
 -- Lists under operators.
-use Rattle.std.specs.Prelude.{Bool, not, List, [], ◌∷◌, ◌++◌, map, filter}
+use Rattle.std.specs.Prelude.{not, List, [], ◌∷◌, map, filter}
 use Rattle.std.specs.List.{list_any}
 use Rattle.pp_values.specs.Datum.{Datum, list, hash, Pair, data_of, members_of, entries_of, pairs_of}
 use Rattle.pp_ops.specs.Same.{same}

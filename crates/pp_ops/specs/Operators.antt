@@ -1,5 +1,5 @@
 -- The table of the operators.
-use Rattle.std.specs.Prelude.{Bool, true, false, not, Option, None, Some, Result, Ok, Err, List, [], ◌∷◌, ◌++◌, ◌+ℤ◌, ◌-ℤ◌}
+use Rattle.std.specs.Prelude.{Bool, true, false, not, Option, None, Some, Result, Ok, Err, [], ◌∷◌, ◌++◌, ◌+ℤ◌, ◌-ℤ◌}
 use Rattle.std.specs.declared.cmp.Ordering.{Ordering}
 use Rattle.std.specs.Ordering.{is_lt, is_gt, is_le, is_ge}
 use Rattle.pp_values.specs.declared.fault.Fault.{Fault}

@@ -1,5 +1,5 @@
 -- Why an operator has no result, and an answer within this crate: a value, a refusal, or want of memory.
-use Rattle.std.specs.Prelude.{⊤, ◌≡◌, Result, Ok, Err, List, ℕ}
+use Rattle.std.specs.Prelude.{⊤, ◌≡◌, Result, Ok, Err}
 use Rattle.pp_values.specs.declared.value.Value.{Value}
 use Rattle.pp_values.specs.Datum.{Datum}
 use Rattle.pp_values.specs.Views.{view}

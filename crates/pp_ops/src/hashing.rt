@@ -29,7 +29,8 @@ fn add_overridden(
     pairs: &[(Value, Value)],
     others: &Pairs,
 ) -> Result<(), Memory>
-    ensures { OnOk result (pair_views out.new.items ≡ pair_views out.old.items ++ overridden others.now (pair_views pairs.now)) }
+    ensures { OnOk result (pair_views out.new.items
+        ≡ pair_views out.old.items ++ overridden others.now (pair_views pairs.now)) }
 {
     for (key, value) in pairs {
         match others.get(key) {
@@ -46,7 +47,8 @@ fn add_new(
     pairs: &[(Value, Value)],
     had: &Pairs,
 ) -> Result<(), Memory>
-    ensures { OnOk result (pair_views out.new.items ≡ pair_views out.old.items ++ added had.now (pair_views pairs.now)) }
+    ensures { OnOk result (pair_views out.new.items
+        ≡ pair_views out.old.items ++ added had.now (pair_views pairs.now)) }
 {
     for (key, value) in pairs {
         if had.get(key).is_none() {
@@ -92,7 +94,8 @@ fn add_unnamed(
     pairs: &[(Value, Value)],
     gone: &Value,
 ) -> Result<(), Memory>
-    ensures { OnOk result (pair_views out.new.items ≡ pair_views out.old.items ++ without_keys (named (view gone.now)) (pair_views pairs.now)) }
+    ensures { OnOk result (pair_views out.new.items
+        ≡ pair_views out.old.items ++ without_keys (named (view gone.now)) (pair_views pairs.now)) }
 {
     for (key, value) in pairs {
         if !names(gone, key) {

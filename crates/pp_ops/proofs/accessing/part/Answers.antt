@@ -1,7 +1,6 @@
 -- The slice is the part.
-use Rattle.std.proofs.Common.{◌≡◌, ap, ◌∙◌, arith}
+use Rattle.std.proofs.Common.{arith}
 use Rattle.std.proofs.lemmas.Grind.{common_steps}
-use Rattle.pp_values.specs.Views.{views}
 use Rattle.pp_ops.proofs.Parts.{part_clipped}
 use Rattle.pp_ops.proofs.accessing.part.Goals as goal
 

@@ -6,4 +6,5 @@ use Rattle.pp_ops.proofs.hashing.add_unnamed.Given as goal
 
 abbrev pub invariant-loop-key : goal.invariant-loop-key
 invariant-loop-key l =
-    pair_views l.out.items ++ without_keys (named (view l.gone)) (pair_views (drop l.key-index l.pairs)) ≡ pair_views l.initial.out.items ++ without_keys (named (view l.gone)) (pair_views l.pairs)
+    pair_views l.out.items ++ without_keys (named (view l.gone)) (pair_views (drop l.key-index l.pairs))
+    ≡ pair_views l.initial.out.items ++ without_keys (named (view l.gone)) (pair_views l.pairs)

@@ -6,4 +6,5 @@ use Rattle.pp_values.specs.Keys.{same_key}
 use Rattle.pp_ops.proofs.hashing.is_listed.Given as goal
 
 abbrev pub invariant-loop-item : goal.invariant-loop-item
-invariant-loop-item l = list_any (same_key (view l.key)) (views l.items) ≡ list_any (same_key (view l.key)) (views (drop l.item-index l.items))
+invariant-loop-item l = list_any (same_key (view l.key)) (views l.items)
+    ≡ list_any (same_key (view l.key)) (views (drop l.item-index l.items))

@@ -6,4 +6,5 @@ use Rattle.pp_ops.specs.Same.{same}
 use Rattle.pp_ops.proofs.listing.has_same.Given as goal
 
 abbrev pub invariant-loop-item : goal.invariant-loop-item
-invariant-loop-item l = list_any (same (view l.value)) (views l.items) ≡ list_any (same (view l.value)) (views (drop l.item-index l.items))
+invariant-loop-item l = list_any (same (view l.value)) (views l.items)
+    ≡ list_any (same (view l.value)) (views (drop l.item-index l.items))

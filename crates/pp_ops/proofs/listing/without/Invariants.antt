@@ -5,4 +5,5 @@ use Rattle.pp_ops.specs.Lists.{taken_off, without}
 use Rattle.pp_ops.proofs.listing.without.Given as goal
 
 abbrev pub invariant-loop-item : goal.invariant-loop-item
-invariant-loop-item l = l.kept ++ without (taken_off (view l.gone)) (views (drop l.item-index l.items)) ≡ without (taken_off (view l.gone)) (views l.items)
+invariant-loop-item l = l.kept ++ without (taken_off (view l.gone)) (views (drop l.item-index l.items))
+    ≡ without (taken_off (view l.gone)) (views l.items)

@@ -6,4 +6,5 @@ use Rattle.pp_values.specs.Equal.{equal}
 use Rattle.pp_ops.proofs.membership.has_equal.Given as goal
 
 abbrev pub invariant-loop-item : goal.invariant-loop-item
-invariant-loop-item l = list_any (equal (view l.value)) (views l.items) ≡ list_any (equal (view l.value)) (views (drop l.item-index l.items))
+invariant-loop-item l = list_any (equal (view l.value)) (views l.items)
+    ≡ list_any (equal (view l.value)) (views (drop l.item-index l.items))

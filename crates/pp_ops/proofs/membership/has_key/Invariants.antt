@@ -6,4 +6,5 @@ use Rattle.pp_values.specs.Equal.{equal}
 use Rattle.pp_ops.proofs.membership.has_key.Given as goal
 
 abbrev pub invariant-loop-key : goal.invariant-loop-key
-invariant-loop-key l = list_any (λ p. equal (view l.value) p.0) (pair_views l.pairs) ≡ list_any (λ p. equal (view l.value) p.0) (pair_views (drop l.key-index l.pairs))
+invariant-loop-key l = list_any (λ p. equal (view l.value) p.0) (pair_views l.pairs)
+    ≡ list_any (λ p. equal (view l.value) p.0) (pair_views (drop l.key-index l.pairs))

@@ -6,7 +6,8 @@ use Rattle.pp_ops.proofs.membership.occurs.Given as goal
 
 abbrev pub invariant-loop-rest : goal.invariant-loop-rest
 invariant-loop-rest l =
-    occurs (map to_ascii_lowercase l.text) (map to_ascii_lowercase l.whole) ≡ occurs (map to_ascii_lowercase l.text) (map to_ascii_lowercase l.rest)
+    occurs (map to_ascii_lowercase l.text) (map to_ascii_lowercase l.whole)
+    ≡ occurs (map to_ascii_lowercase l.text) (map to_ascii_lowercase l.rest)
 
 abbrev pub decreases-loop-rest : goal.decreases-loop-rest
 decreases-loop-rest l = length l.rest

@@ -16,8 +16,10 @@ abbrev pub decreases-have_same : goal.decreases-have_same
 decreases-have_same l = pairs_size (pair_views l.a.now)
 
 abbrev pub invariant-are_same-loop-i : goal.invariant-are_same-loop-i
-invariant-are_same-loop-i l = pointwise same (views l.a) (views l.b) ≡ pointwise same (views (drop l.i l.a)) (views (drop l.i l.b))
+invariant-are_same-loop-i l = pointwise same (views l.a) (views l.b)
+    ≡ pointwise same (views (drop l.i l.a)) (views (drop l.i l.b))
 
 abbrev pub invariant-have_same-loop-i : goal.invariant-have_same-loop-i
 invariant-have_same-loop-i l =
-    pointwise same_pair (pair_views l.a) (pair_views l.b) ≡ pointwise same_pair (pair_views (drop l.i l.a)) (pair_views (drop l.i l.b))
+    pointwise same_pair (pair_views l.a) (pair_views l.b)
+    ≡ pointwise same_pair (pair_views (drop l.i l.a)) (pair_views (drop l.i l.b))

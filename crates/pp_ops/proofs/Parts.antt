@@ -12,7 +12,8 @@ clipped : {X : Type 0} (xs : List X) (f e n : ℕ) → n ≡ length xs →
 clipped {X} xs f e n is = elim (cases_lt (min e n) f) [
   | inl past ↦
       let front : min e n - min f (min e n) ≡ 0 = omega arith in
-      let none : take (min e n - min f (min e n)) (drop (min f (min e n)) xs) ≡ [] = ap (λ k. take k (drop (min f (min e n)) xs)) front in
+      let none : take (min e n - min f (min e n)) (drop (min f (min e n)) xs) ≡ [] =
+      ap (λ k. take k (drop (min f (min e n)) xs)) front in
       elim (cases_lt f e) [
         | inl before ↦
             let gone : drop f xs ≡ [] = drop_all f xs (omega arith) in
@@ -25,7 +26,8 @@ clipped {X} xs f e n is = elim (cases_lt (min e n) f) [
       let first : min f (min e n) ≡ f = omega arith in
       rw first
       (elim (cases_lt n e) [
-        | inl less ↦ take_all (min e n - f) (drop f xs) (omega (arith, length-drop f xs)) ∙ sym (take_all (e - f) (drop f xs) (omega (arith, length-drop f xs)))
+        | inl less ↦ take_all (min e n - f) (drop f xs) (omega (arith, length-drop f xs))
+            ∙ sym (take_all (e - f) (drop f xs) (omega (arith, length-drop f xs)))
         | inr not_less ↦ let same : min e n ≡ e = omega arith in ap (λ k. take (k - f) (drop f xs)) same
       ])
 ]

@@ -1,4 +1,4 @@
-//! The tests of what the crates of the language offer to callers: values and data types, tokens, and manifests with their trees.
+//! The tests of what the crates of the language offer to callers: values and data types, operators, tokens, and manifests with their trees.
 #![tactic(auto)]
 
 #[cfg(test)]
@@ -15,6 +15,8 @@ mod hashes;
 mod levels;
 #[cfg(test)]
 mod manifests;
+#[cfg(test)]
+mod operators;
 #[cfg(test)]
 mod reading;
 #[cfg(test)]

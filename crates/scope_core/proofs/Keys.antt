@@ -28,5 +28,8 @@ module _ {T : Type 0} where
       → keyed (insert_entry (λ a b. text_cmp a.items b.items) es k v) ≡ with_value k.items v (keyed es)
   put_by_key [] k v = refl
   put_by_key (e ∷ es) k v =
-      rw (by_order (text_cmp k.items e.0.items) k v e es (insert_entry (λ a b. text_cmp a.items b.items) es k v), put_by_key es k v)
+      rw (
+        by_order (text_cmp k.items e.0.items) k v e es (insert_entry (λ a b. text_cmp a.items b.items) es k v),
+        put_by_key es k v,
+      )
       refl

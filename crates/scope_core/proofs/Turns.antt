@@ -7,7 +7,8 @@ use Rattle.scope_core.specs.Scopes.{Scopes, own, next, seen_from}
 
 module _ (x : Name) (s : Scopes) where
   pub seen_some : (n turn number : ℕ) → turn < n
-      → seen_from (n - turn) (Some number) x s ≡ option_or (own number x s) (seen_from (n - (turn + 1)) (next number s) x s)
+      → seen_from (n - turn) (Some number) x s
+      ≡ option_or (own number x s) (seen_from (n - (turn + 1)) (next number s) x s)
   unfolding seen_from
   seen_some n turn number below = let is : n - turn ≡ suc (n - (turn + 1)) = omega arith in rw is refl
 

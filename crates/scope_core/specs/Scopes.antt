@@ -109,9 +109,9 @@ abbrev pub is_of_class : Option Scope → Bool
 is_of_class None = false
 is_of_class (Some s) = is_class s.owner
 
--- What is read after a scope: after the node's, top scope; after a class's, its parent class's, where it was entered from
--- one, or else the node's, or top scope before there is one; after an instance's, the node's, or top scope before there is
--- one; after a lambda's, the one it is within.
+-- What is read after a scope: after the node's, top scope; after a class's, its parent class's, where it was entered
+-- from one, or else the node's, or top scope before there is one; after an instance's, the node's, or top scope before
+-- there is one; after a lambda's, the one it is within.
 abbrev pub after : Owner → ℕ → Scopes → Option ℕ
 after o.Top parent s = None
 after o.Node parent s = Some 0

@@ -6,4 +6,6 @@ use Rattle.scope_core.proofs.named.Named.get.Goals as goal
 
 pub returns : goal.returns
 returns g c =
-    c.get.ensures.value ∙ found_by_key c.args.name.now c.self.inside.map.entries ∙ ap (value_of c.args.name.now) c.self.view_is
+    c.get.ensures.value
+    ∙ found_by_key c.args.name.now c.self.inside.map.entries
+    ∙ ap (value_of c.args.name.now) c.self.view_is

@@ -2,8 +2,8 @@
 ghost use Rattle.std.specs.Prelude.{◌≡◌, IfOk, option_copied};
 ghost use Rattle.compile_core.specs.Collectors as collector;
 
-use crate::step::Collector;
 use crate::parts::{only, written_text};
+use crate::step::Collector;
 use pp_tree::collector::{Collector as Written, Comparison, Conjunction, Query, Test};
 use pp_values::memory::Memory;
 use pp_values::text::Text;

@@ -45,7 +45,12 @@ const TABLE: [(Sample, Sample, bool, &str); 16] = [
     (Sample::Hash("b"), Sample::Hash("b"), true, "none"),
     (Sample::Hash("b"), Sample::Hash("B"), false, "none"),
     (Sample::Reference("x"), Sample::Reference("x"), true, "none"),
-    (Sample::Reference("x"), Sample::Reference("y"), false, "none"),
+    (
+        Sample::Reference("x"),
+        Sample::Reference("y"),
+        false,
+        "none",
+    ),
     (Sample::Least, Sample::Least, true, "none"),
     (Sample::Least, Sample::Both, false, "none"),
     (Sample::Default, Sample::Default, true, "none"),
@@ -55,7 +60,10 @@ const TABLE: [(Sample, Sample, bool, &str); 16] = [
 #[test]
 fn values_are_compared(rt: HostRuntime) -> Result<(), Fail> {
     for (first, second, are_equal, ordering) in TABLE.iter() {
-        assert!(rt; compares_as(rt.alloc(), *first, *second, *are_equal, ordering)?, "{ordering}");
+        assert!(rt;
+            compares_as(rt.alloc(), *first, *second, *are_equal, ordering)?,
+            "{ordering}"
+        );
     }
     Ok(())
 }

@@ -77,7 +77,10 @@ const TABLES: [(&str, &str); 10] = [
     ("node default, x { }", "- node,x as -,"),
     ("node 'X' { } node x { }", "X node,x node,"),
     ("class a { }\ndefine ::a() { }", "F1 2"),
-    ("define a() { }\nnode b { }\nclass a { }\nnode b { }", "F1 3"),
+    (
+        "define a() { }\nnode b { }\nclass a { }\nnode b { }",
+        "F1 3",
+    ),
     ("node a { }\nnode b, c, a { }\nnode c { }", "F1 2"),
     ("node a,\na { }", "F1 2"),
     ("node default { }\nnode a, default { }", "F1 2"),

@@ -22,6 +22,8 @@ mod reading;
 #[cfg(test)]
 mod samples;
 #[cfg(test)]
+mod scopes;
+#[cfg(test)]
 mod tokens;
 #[cfg(test)]
 mod types;

@@ -182,7 +182,10 @@ const MODULES: [(&str, &str); 4] = [
 #[test]
 fn module_files_are_read(rt: HostRuntime) -> Result<(), Fail> {
     for (manifest, want) in MODULES.iter() {
-        assert!(rt; reads_as(rt.alloc(), "modules/m/manifests/init.pp", manifest, want)?, "{manifest}");
+        assert!(rt;
+            reads_as(rt.alloc(), "modules/m/manifests/init.pp", manifest, want)?,
+            "{manifest}"
+        );
     }
     Ok(())
 }

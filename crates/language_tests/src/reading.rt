@@ -48,11 +48,6 @@ fn told(alloc: Global, path: &str, manifest: &str) -> Result<String, AllocError>
 }
 
 /// Whether the manifest has so many statements and names of definitions, or this fault.
-pub fn reads_as(
-    alloc: Global,
-    path: &str,
-    manifest: &str,
-    want: &str,
-) -> Result<bool, AllocError> {
+pub fn reads_as(alloc: Global, path: &str, manifest: &str, want: &str) -> Result<bool, AllocError> {
     Ok(told(alloc, path, manifest)?.as_str() == want)
 }

@@ -13,8 +13,11 @@ use Rattle.site_bundle.proofs.OnLiterals.{bundle_on_literals}
 
 -- nodes by name, requests in their order
 whole : bundle_of (codes "{\"bundle\": 1, \"files\": {\"manifests/site.pp\": \"\"}, \"nodes\": {\"b\": {}, \"a\": {}}, \"requests\": [{\"node\": \"a\", \"seen\": 2}, {\"node\": \"b\", \"facts\": {}}, {\"deactivate\": \"z\"}]}") ≡ Ok (record {
-  site = record { files = (MAIN_MANIFEST.now, []) ∷ []; nodes = (codes "a", hash no_entries) ∷
-      (codes "b", hash no_entries) ∷ [] };
+  site = record {
+    files = (MAIN_MANIFEST.now, []) ∷ [];
+    nodes = (codes "a", hash no_entries) ∷
+        (codes "b", hash no_entries) ∷ [];
+  };
   requests = compile (record { node = codes "a"; facts = None; seen = 2 }) ∷
       compile (record { node = codes "b"; facts = Some (hash no_entries); seen = 0 }) ∷ deactivate (codes "z") ∷ [];
 })
@@ -131,8 +134,11 @@ capital_letter : is_node_name (codes "Web") ≡ false
 capital_letter = refl
 
 site : SiteView
-site = record { files = (MAIN_MANIFEST.now, []) ∷ []; nodes = (codes "a", hash no_entries) ∷
-    (codes "c", hash no_entries) ∷ [] }
+site = record {
+  files = (MAIN_MANIFEST.now, []) ∷ [];
+  nodes = (codes "a", hash no_entries) ∷
+      (codes "c", hash no_entries) ∷ [];
+}
 
 not_listed : facts_for site (codes "b") ≡ None
 unfolding site

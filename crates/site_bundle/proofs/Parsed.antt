@@ -18,7 +18,7 @@ pub not_parsed : (bytes : List ℕ) → (IsUtf8 bytes → read bytes ≡ None) �
 unfolding json_of
 not_parsed bytes is =
     elim (is_utf8 bytes) as (λ b. is_utf8 bytes ≡ b →
-        (if b then ok_or (read bytes) not_json else Err not_json) ≡ Err not_json) [
+    (if b then ok_or (read bytes) not_json else Err not_json) ≡ Err not_json) [
       | true ↦ λ e. ap (λ o. ok_or o not_json) (is (IsUtf8-from_is_utf8 bytes e))
       | false ↦ λ e. refl
     ] refl

@@ -31,7 +31,7 @@ first_of (y ∷ ys) x h at = ap (λ z. z ∷ ys) (sym at) ∙ ap (λ l. x ∷ l)
 
 first_of_items : (xs rest : List Value) (x : Value) (found : List Asked) → xs ≡ x ∷ rest →
     asked_from found (items_view xs) ≡ result_and_then (λ a. asked_from (found ++ a ∷ []) (items_view rest))
-        (asked_in (length found) (view x))
+    (asked_in (length found) (view x))
 unfolding asked_from
 first_of_items xs rest x found is = ap (λ l. asked_from found (items_view l)) is
 
@@ -41,7 +41,7 @@ pub request_found : (xs rest : List Value) (x : Value) (old new : List Asked) (a
 request_found xs rest x old new a n is count made more =
     ap (λ l. asked_from l (items_view rest)) more
     ∙ sym (first_of_items xs rest x old is ∙ ap (λ k. result_and_then
-        (λ b. asked_from (old ++ b ∷ []) (items_view rest)) (asked_in k (view x))) (sym count)
+    (λ b. asked_from (old ++ b ∷ []) (items_view rest)) (asked_in k (view x))) (sym count)
     ∙ ap (result_and_then (λ b. asked_from (old ++ b ∷ []) (items_view rest))) made)
 
 pub request_refused : (s : BundleStop) (xs rest : List Value) (x : Value) (found : List Asked) (n : ℕ) → xs ≡ x ∷ rest →
@@ -68,14 +68,14 @@ pub few_enough : (r : Result (List Asked) BundleStop) (xs : List Value) → leng
 few_enough r xs few h =
     reads_same r _ _
     (ap (λ b. if b then asked_from [] (items_view xs) else Err (too_large (codes "requests")))
-        (ap (λ n. nat_le n MOST_REQUESTS) (item_count-items_view xs) ∙ le-leb _ _ few)) h
+    (ap (λ n. nat_le n MOST_REQUESTS) (item_count-items_view xs) ∙ le-leb _ _ few)) h
 
 pub too_many : (s : BundleStop) (xs : List Value) → MOST_REQUESTS < length xs → Tells s (too_large (codes "requests")) →
     Refuses s (asked_among (items_view xs))
 too_many s xs many h =
     refuses_same s _ _
     (ap (λ b. if b then asked_from [] (items_view xs) else Err (too_large (codes "requests")))
-        (ap (λ n. nat_le n MOST_REQUESTS) (item_count-items_view xs) ∙ lt-leb _ _ many)) (told (List Asked) s _ h)
+    (ap (λ n. nat_le n MOST_REQUESTS) (item_count-items_view xs) ∙ lt-leb _ _ many)) (told (List Asked) s _ h)
 
 asked_from-length : (found : List Asked) (ds : Items) (n : ℕ) → length found + item_count ds ≡ n →
     IfOk (asked_from found ds) (λ rs. length rs ≡ n)
@@ -127,13 +127,13 @@ asked-facts : (index : ℕ) (o : Option Data) → IfOk (facts_asked index o) (λ
 asked-facts index None = refl
 asked-facts index (Some d) =
     if_then (ok_or (given_facts d) (bad_member index (codes "facts"))) (λ facts. Ok (Some facts))
-        (λ facts. IsTrue (are_facts facts)) (λ facts. IsTrue (has_facts facts))
+    (λ facts. IsTrue (are_facts facts)) (λ facts. IsTrue (has_facts facts))
     (given-facts d _) (λ facts p. p)
 
 wanted-facts : (index : ℕ) (request node : Data) → IfOk (wanted_in index request node) (λ w. IsTrue (has_facts w.facts))
 wanted-facts index request node =
     if_then (facts_asked index (get (codes "facts") request)) _ (λ facts. IsTrue (has_facts facts))
-        (λ w. IsTrue (has_facts w.facts))
+    (λ w. IsTrue (has_facts w.facts))
     (asked-facts index (get (codes "facts") request))
     (λ facts p. if_each (name_asked index (codes "node") node) _ (λ w. IsTrue (has_facts w.facts))
     (λ name. if_each (seen_asked index (get (codes "seen") request)) _ (λ w. IsTrue (has_facts w.facts)) (λ seen. p)))
@@ -142,10 +142,10 @@ by-facts : (index : ℕ) (request : Data) (node deactivated : Option Data) →
     IfOk (asked_by index request node deactivated) (λ a. IsTrue (asks_with_facts a))
 by-facts index request (Some node) None =
     if_then (wanted_in index request node) (λ w. Ok (compile w)) (λ w. IsTrue (has_facts w.facts))
-        (λ a. IsTrue (asks_with_facts a)) (wanted-facts index request node) (λ w p. p)
+    (λ a. IsTrue (asks_with_facts a)) (wanted-facts index request node) (λ w p. p)
 by-facts index request None (Some name) =
     if_each (name_asked index (codes "deactivate") name) (λ node. Ok (deactivate node))
-        (λ a. IsTrue (asks_with_facts a)) (λ node. refl)
+    (λ a. IsTrue (asks_with_facts a)) (λ node. refl)
 by-facts index request (Some node) (Some name) = tt
 by-facts index request None None = tt
 
@@ -155,9 +155,9 @@ unfolding asked_from
 asked_from-facts found no_items h = h
 asked_from-facts found (item d ds) h =
     if_then (asked_in (length found) d) (λ a. asked_from (found ++ a ∷ []) ds) (λ a. IsTrue (asks_with_facts a))
-        (λ rs. IsTrue (give_facts rs))
+    (λ rs. IsTrue (give_facts rs))
     (by-facts (length found) d (get (codes "node") d) (get (codes "deactivate") d))
-        (λ a p. asked_from-facts (found ++ a ∷ []) ds (give_facts-push found a h p))
+    (λ a p. asked_from-facts (found ++ a ∷ []) ds (give_facts-push found a h p))
 
 among-facts : (ds : Items) (b : Bool) → IfOk (if b then asked_from [] ds else Err (too_large (codes "requests")))
     (λ rs. IsTrue (give_facts rs))

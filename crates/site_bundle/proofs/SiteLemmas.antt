@@ -56,9 +56,9 @@ module _ {X Y : Type 0} (f : X → Y) where
   shown-insert [] k v = refl
   shown-insert (e ∷ es) k v =
       elim (text_cmp k e.0) as (λ r. shown f (match_ordering r ((k, v) ∷ e ∷ es) ((e.0, v) ∷ es)
-          (e ∷ insert_entry text_cmp es k v))
+      (e ∷ insert_entry text_cmp es k v))
       ≡ by_order r ((k, f v) ∷ shown f (e ∷ es)) ((e.0, f v) ∷ shown f es)
-          ((e.0, f e.1) ∷ put text_cmp k (f v) (shown f es))) [
+      ((e.0, f e.1) ∷ put text_cmp k (f v) (shown f es))) [
         | Less ↦ refl
         | Equal ↦ refl
         | Greater ↦ ap (λ l. (e.0, f e.1) ∷ l) (shown-insert es k v)
@@ -70,7 +70,7 @@ module _ {X Y : Type 0} (f : X → Y) where
   lookup-shown [] k = refl
   lookup-shown (e ∷ es) k =
       elim (eq_by_cmp text_cmp k e.0) as (λ b. option_map f (cond b (Some e.1) (lookup (is_at (text_cmp k)) es)) ≡ cond
-          b (Some (f e.1)) (find text_cmp k (shown f es))) [
+      b (Some (f e.1)) (find text_cmp k (shown f es))) [
         | true ↦ refl
         | false ↦ lookup-shown es k
       ]
@@ -129,7 +129,7 @@ found_if_given key (p ∷ ps) h =
     subst (λ o. IsSome o) (sym (find-put text_cmp nat_list_cmp_total key p.0 p.1 (put_in [] ps)))
     (some_if (eq_by_cmp text_cmp key p.0) p.1 (find text_cmp key (put_in [] ps))
     (λ other. found_if_given key ps (or_right (bytes_eq key p.0) (has_key key ps)
-        (sym (is_eq-slice_cmp key p.0) ∙ other) h)))
+    (sym (is_eq-slice_cmp key p.0) ∙ other) h)))
 
 -- what holds of each element holds of the last one, and of the others
 pub each_before : {X : Type 0} (p : X → Bool) (xs all : List X) (x : X) → all ≡ xs ++ x ∷ [] → IsTrue (list_all p all) →
@@ -152,7 +152,7 @@ found_facts : (es : List Listed) (k : List ℕ) → IsTrue (have_facts es) →
 found_facts [] k h = tt
 found_facts (e ∷ es) k h =
     elim (eq_by_cmp text_cmp k e.0) as (λ b. IfSome (cond b (Some e.1) (find text_cmp k es))
-        (λ d. IsTrue (are_facts d))) [
+    (λ d. IsTrue (are_facts d))) [
       | true ↦ first _ _ h
       | false ↦ found_facts es k (second _ _ h)
     ]
@@ -162,7 +162,7 @@ pub have_facts-put : (k : List ℕ) (d : Datum) (es : List Listed) → IsTrue (a
 have_facts-put k d [] p h = both _ _ p refl
 have_facts-put k d (e ∷ es) p h =
     elim (text_cmp k e.0) as (λ r. IsTrue (have_facts
-        (by_order r ((k, d) ∷ e ∷ es) ((e.0, d) ∷ es) (e ∷ put text_cmp k d es)))) [
+    (by_order r ((k, d) ∷ e ∷ es) ((e.0, d) ∷ es) (e ∷ put text_cmp k d es)))) [
       | Less ↦ both _ _ p h
       | Equal ↦ both _ _ p (second _ _ h)
       | Greater ↦ both _ _ (first _ _ h) (have_facts-put k d es p (second _ _ h))
@@ -186,11 +186,11 @@ pub are_read-insert : (es : List (List ℕ × SiteFile)) (k : List ℕ) (v : Sit
 are_read-insert [] k v read all = All-cons IsRead (k, v) [] read all
 are_read-insert (e ∷ es) k v read all =
     elim (text_cmp k e.0) as (λ r. text_cmp k e.0 ≡ r →
-        AreRead (match_ordering r ((k, v) ∷ e ∷ es) ((e.0, v) ∷ es) (e ∷ insert_entry text_cmp es k v))) [
+    AreRead (match_ordering r ((k, v) ∷ e ∷ es) ((e.0, v) ∷ es) (e ∷ insert_entry text_cmp es k v))) [
       | Less ↦ λ is. All-cons IsRead (k, v) (e ∷ es) read all
       | Equal ↦ λ is.
           All-cons IsRead (e.0, v) es (subst (λ p. v.read ≡ file_of p v.text) (same_key k e.0 (ap is_eq is)) read)
-              (All-tail IsRead e es all)
+          (All-tail IsRead e es all)
       | Greater ↦ λ is. All-cons IsRead e (insert_entry text_cmp es k v) (All-head IsRead e es all)
           (are_read-insert es k v read (All-tail IsRead e es all))
     ] refl

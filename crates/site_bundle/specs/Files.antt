@@ -30,7 +30,7 @@ abbrev pub manifest_among : Members → Result (List ℕ) Refusal
 manifest_among no_members = bad_file MAIN_MANIFEST.now
 manifest_among (member path d ms) =
     match_ordering (text_cmp path MAIN_MANIFEST.now) (bad_file path)
-        (result_and_then (with_nothing_behind ms) (content_of d)) (bad_file MAIN_MANIFEST.now)
+    (result_and_then (with_nothing_behind ms) (content_of d)) (bad_file MAIN_MANIFEST.now)
 
 abbrev pub manifest_of : Data → Result (List ℕ) Refusal
 manifest_of bundle = result_and_then manifest_among

@@ -45,9 +45,9 @@ name_asked index key d = ok_or (name_in d) (bad_member index key)
 abbrev pub wanted_in : ℕ → Data → Data → Result Wanted Refusal
 wanted_in index request node =
     result_and_then (λ facts. result_and_then (λ name. result_and_then
-        (λ seen. Ok (record { node = name; facts = facts; seen = seen }))
+    (λ seen. Ok (record { node = name; facts = facts; seen = seen }))
     (seen_asked index (get (codes "seen") request))) (name_asked index (codes "node") node))
-        (facts_asked index (get (codes "facts") request))
+    (facts_asked index (get (codes "facts") request))
 
 -- a request has exactly one of `node` and `deactivate`; beside `deactivate` nothing else counts
 abbrev pub asked_by : ℕ → Data → Option Data → Option Data → Result Asked Refusal

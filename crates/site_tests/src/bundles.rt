@@ -165,7 +165,10 @@ const MEMBERS: [(&str, &str); 29] = [
     ),
     (r#"{"bundle":1,M,"machine":{}}"#, "B2 machine"),
     (r#"{"bundle":1,M,"machine":{},"requests":1}"#, "B2 requests"),
-    (r#"{"bundle":2,"bundle":1,M}"#, "{\"files\":{\"manifests/site.pp\":\"\"},\"nodes\":{}}"),
+    (
+        r#"{"bundle":2,"bundle":1,M}"#,
+        "{\"files\":{\"manifests/site.pp\":\"\"},\"nodes\":{}}",
+    ),
 ];
 
 #[test]

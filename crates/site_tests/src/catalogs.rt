@@ -126,12 +126,7 @@ fn catalog(alloc: Global, notifies: &str, any_edge: bool) -> Result<Catalog, Mem
     })
 }
 
-fn catalog_says(
-    alloc: Global,
-    notifies: &str,
-    any_edge: bool,
-    want: &str,
-) -> Result<bool, Memory> {
+fn catalog_says(alloc: Global, notifies: &str, any_edge: bool, want: &str) -> Result<bool, Memory> {
     let catalog = catalog(alloc, notifies, any_edge)?;
     says(catalog_text(alloc, &catalog), want)
 }
@@ -157,7 +152,10 @@ const CATALOGS: [(&str, bool, &str); 3] = [
 #[test]
 fn texts_of_catalogs(rt: HostRuntime) -> Result<(), Fail> {
     for (notifies, any_edge, want) in CATALOGS.iter() {
-        assert!(rt; catalog_says(rt.alloc(), notifies, *any_edge, want)?, "{notifies}");
+        assert!(rt;
+            catalog_says(rt.alloc(), notifies, *any_edge, want)?,
+            "{notifies}"
+        );
     }
     Ok(())
 }

@@ -227,7 +227,10 @@ const COLLECTED: [(&str, &str, &str); 17] = [
 #[test]
 fn exports_and_collectors(rt: HostRuntime) -> Result<(), Fail> {
     for (manifest, nodes, want) in COLLECTED.iter() {
-        assert!(rt; collects_as(rt.alloc(), manifest, nodes, want)?, "{manifest} {nodes}");
+        assert!(rt;
+            collects_as(rt.alloc(), manifest, nodes, want)?,
+            "{manifest} {nodes}"
+        );
     }
     Ok(())
 }

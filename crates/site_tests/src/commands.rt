@@ -31,12 +31,7 @@ fn words_of(alloc: Global, words: &str) -> Result<Vec<String>, AllocError> {
     Ok(found)
 }
 
-fn run(
-    alloc: Global,
-    words: &str,
-    input: &[u8],
-    failing: Failing,
-) -> Result<Outcome, AllocError> {
+fn run(alloc: Global, words: &str, input: &[u8], failing: Failing) -> Result<Outcome, AllocError> {
     let words = words_of(alloc, words)?;
     let (source, out, err) = failing;
     let mut source = MemSource::new(alloc, input, &[source])?;
@@ -112,7 +107,10 @@ const CATALOGS: [(&str, &str, &str, &str); 4] = [
 #[test]
 fn catalogs_are_written(rt: HostRuntime) -> Result<(), Fail> {
     for (words, node, manifest, resources) in CATALOGS.iter() {
-        assert!(rt; writes_catalog(rt.alloc(), words, node, manifest, resources)?, "{manifest}");
+        assert!(rt;
+            writes_catalog(rt.alloc(), words, node, manifest, resources)?,
+            "{manifest}"
+        );
     }
     Ok(())
 }
@@ -231,12 +229,7 @@ fn bytes_of(alloc: Global, text: &str) -> Result<Vec<u8>, AllocError> {
     Ok(bytes)
 }
 
-fn refuses_input(
-    alloc: Global,
-    words: &str,
-    input: &str,
-    line: &str,
-) -> Result<bool, AllocError> {
+fn refuses_input(alloc: Global, words: &str, input: &str, line: &str) -> Result<bool, AllocError> {
     let bytes = bytes_of(alloc, input)?;
     ends_as(alloc, words, bytes.as_slice(), 11, "", line)
 }
@@ -286,7 +279,10 @@ const LONG: [(u8, usize, u8, &str); 3] = [
 #[test]
 fn the_length_of_input_is_bounded(rt: HostRuntime) -> Result<(), Fail> {
     for (byte, count, status, line) in LONG.iter() {
-        assert!(rt; ends_long_input(rt.alloc(), *byte, *count, *status, line)?, "{byte} {count}");
+        assert!(rt;
+            ends_long_input(rt.alloc(), *byte, *count, *status, line)?,
+            "{byte} {count}"
+        );
     }
     Ok(())
 }
@@ -343,7 +339,6 @@ const BUNDLES: [(&str, u8, &str); 5] = [
     ),
 ];
 
-
 fn answers_bundle(alloc: Global, bundle: &str, status: u8, out: &str) -> Result<bool, AllocError> {
     ends_as(alloc, "sequence", bundle.as_bytes(), status, out, "")
 }
@@ -351,7 +346,10 @@ fn answers_bundle(alloc: Global, bundle: &str, status: u8, out: &str) -> Result<
 #[test]
 fn bundles_are_answered(rt: HostRuntime) -> Result<(), Fail> {
     for (bundle, status, out) in BUNDLES.iter() {
-        assert!(rt; answers_bundle(rt.alloc(), bundle, *status, out)?, "{bundle}");
+        assert!(rt;
+            answers_bundle(rt.alloc(), bundle, *status, out)?,
+            "{bundle}"
+        );
     }
     Ok(())
 }
@@ -402,7 +400,10 @@ const STREAMS: [(&str, &str, Failing, u8, &str); 13] = [
 #[test]
 fn faults_of_streams_are_told(rt: HostRuntime) -> Result<(), Fail> {
     for (words, input, failing, status, line) in STREAMS.iter() {
-        assert!(rt; fails_as(rt.alloc(), words, input, *failing, *status, line)?, "{words} {status}");
+        assert!(rt;
+            fails_as(rt.alloc(), words, input, *failing, *status, line)?,
+            "{words} {status}"
+        );
     }
     Ok(())
 }
@@ -431,7 +432,10 @@ const REFUSED: [(Failing, u8, bool); 3] = [
 #[test]
 fn refusals_are_written(rt: HostRuntime) -> Result<(), Fail> {
     for (failing, status, is_written) in REFUSED.iter() {
-        assert!(rt; refuses_as(rt.alloc(), *failing, *status, *is_written)?, "{status}");
+        assert!(rt;
+            refuses_as(rt.alloc(), *failing, *status, *is_written)?,
+            "{status}"
+        );
     }
     Ok(())
 }

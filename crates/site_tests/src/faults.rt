@@ -149,45 +149,108 @@ fn copies_as(
 
 const FAULTS: [(Sort, u32, &str, &str); 34] = [
     (Sort::Bare, 1, "", "F1 m.pp:7 Syntax"),
-    (Sort::OfText, 2, "::a::b", "F2 m.pp:7 UnknownVariable ::a::b"),
+    (
+        Sort::OfText,
+        2,
+        "::a::b",
+        "F2 m.pp:7 UnknownVariable ::a::b",
+    ),
     (Sort::OfText, 3, "a", "F3 m.pp:7 Reassigned a"),
     (Sort::OfText, 4, "ntp", "F4 m.pp:7 UnknownClass ntp"),
     (Sort::OfText, 5, "vhost", "F5 m.pp:7 UnknownType vhost"),
     (Sort::OfText, 6, "f", "F6 m.pp:7 UnknownFunction f"),
     (Sort::OfText, 7, "epp", "F7 m.pp:7 WrongArguments epp"),
     (Sort::OfText, 8, "title", "F8 m.pp:7 TypeMismatch title"),
-    (Sort::OfParameter, 9, "mode", "F9 m.pp:7 MissingParameter File[/a] mode"),
-    (Sort::OfParameter, 10, "mode", "F10 m.pp:7 UnknownParameter File[/a] mode"),
+    (
+        Sort::OfParameter,
+        9,
+        "mode",
+        "F9 m.pp:7 MissingParameter File[/a] mode",
+    ),
+    (
+        Sort::OfParameter,
+        10,
+        "mode",
+        "F10 m.pp:7 UnknownParameter File[/a] mode",
+    ),
     (Sort::OfText, 11, "+", "F11 m.pp:7 BadOperand +"),
     (Sort::OfText, 12, "*", "F12 m.pp:7 NumberRange *"),
     (Sort::OfText, 13, "/", "F13 m.pp:7 ZeroDivisor /"),
-    (Sort::Duplicate, 14, "", "F14 m.pp:7 Duplicate Web::Vhost[a b] n.pp:2"),
-    (Sort::OfParameter, 15, "mode", "F15 m.pp:7 AlreadySet File[/a] mode"),
-    (Sort::DefaultSet, 15, "mode", "F15 m.pp:7 AlreadySet Web::Vhost mode"),
-    (Sort::OfParameter, 16, "", "F16 m.pp:7 NoOverrideTarget File[/a]"),
-    (Sort::OfParameter, 17, "", "F17 m.pp:7 NoRelationTarget File[/a]"),
-    (Sort::Cycle, 18, "", "F18 m.pp:7 Cycle File[/a] -> Notify[f] -> File[/a]"),
+    (
+        Sort::Duplicate,
+        14,
+        "",
+        "F14 m.pp:7 Duplicate Web::Vhost[a b] n.pp:2",
+    ),
+    (
+        Sort::OfParameter,
+        15,
+        "mode",
+        "F15 m.pp:7 AlreadySet File[/a] mode",
+    ),
+    (
+        Sort::DefaultSet,
+        15,
+        "mode",
+        "F15 m.pp:7 AlreadySet Web::Vhost mode",
+    ),
+    (
+        Sort::OfParameter,
+        16,
+        "",
+        "F16 m.pp:7 NoOverrideTarget File[/a]",
+    ),
+    (
+        Sort::OfParameter,
+        17,
+        "",
+        "F17 m.pp:7 NoRelationTarget File[/a]",
+    ),
+    (
+        Sort::Cycle,
+        18,
+        "",
+        "F18 m.pp:7 Cycle File[/a] -> Notify[f] -> File[/a]",
+    ),
     (Sort::OfText, 19, "web1", "F19 m.pp:7 NoNode web1"),
     (Sort::OfText, 20, "a::b", "F20 m.pp:7 LookupMissing a::b"),
     (Sort::OfText, 21, "a::b", "F21 m.pp:7 LookupLoop a::b"),
     (Sort::OfText, 22, "a::b", "F22 m.pp:7 MergeMismatch a::b"),
-    (Sort::OfText, 23, "data/a.json", "F23 m.pp:7 BadData data/a.json"),
+    (
+        Sort::OfText,
+        23,
+        "data/a.json",
+        "F23 m.pp:7 BadData data/a.json",
+    ),
     (Sort::OfText, 24, "%{a", "F24 m.pp:7 BadInterpolation %{a"),
     (Sort::OfText, 25, "a\nb\n", "F25 m.pp:7 Failed a b "),
     (Sort::OfText, 25, "", "F25 m.pp:7 Failed"),
-    (Sort::OfParameter, 26, "", "F26 m.pp:7 ClassVirtual File[/a]"),
+    (
+        Sort::OfParameter,
+        26,
+        "",
+        "F26 m.pp:7 ClassVirtual File[/a]",
+    ),
     (Sort::ClassVirtual, 26, "", "F26 m.pp:7 ClassVirtual Class"),
     (Sort::Bare, 27, "", "F27 m.pp:7 RoundLimit"),
     (Sort::Bare, 28, "", "F28 m.pp:7 ResourceLimit"),
     (Sort::Bare, 29, "", "F29 m.pp:7 DepthLimit"),
-    (Sort::SameNamevar, 30, "", "F30 m.pp:7 SameNamevar User[b] User[a]"),
+    (
+        Sort::SameNamevar,
+        30,
+        "",
+        "F30 m.pp:7 SameNamevar User[b] User[a]",
+    ),
     (Sort::Bare, 31, "", "F31 m.pp:7 NotBuilt"),
 ];
 
 #[test]
 fn lines_of_faults(rt: HostRuntime) -> Result<(), Fail> {
     for (sort, number, detail, want) in FAULTS.iter() {
-        assert!(rt; tells_as(rt.alloc(), *sort, *number, detail, want)?, "{want}");
+        assert!(rt;
+            tells_as(rt.alloc(), *sort, *number, detail, want)?,
+            "{want}"
+        );
     }
     Ok(())
 }
@@ -195,7 +258,10 @@ fn lines_of_faults(rt: HostRuntime) -> Result<(), Fail> {
 #[test]
 fn lines_of_copied_faults(rt: HostRuntime) -> Result<(), Fail> {
     for (sort, number, detail, want) in FAULTS.iter() {
-        assert!(rt; copies_as(rt.alloc(), *sort, *number, detail, want)?, "{want}");
+        assert!(rt;
+            copies_as(rt.alloc(), *sort, *number, detail, want)?,
+            "{want}"
+        );
     }
     Ok(())
 }

@@ -157,7 +157,10 @@ const HISTORIES: [(u32, [u32; 6], &str, &str); 4] = [
 #[test]
 fn histories_grow_by_events(rt: HostRuntime) -> Result<(), Fail> {
     for (limit, authors, events, want) in HISTORIES.iter() {
-        assert!(rt; comes_to(rt.alloc(), *limit, authors.as_slice(), events, want)?, "{events}");
+        assert!(rt;
+            comes_to(rt.alloc(), *limit, authors.as_slice(), events, want)?,
+            "{events}"
+        );
     }
     Ok(())
 }

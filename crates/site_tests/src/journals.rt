@@ -123,7 +123,10 @@ const JOURNALS: [(&str, &str, &str, &str); 5] = [
 #[test]
 fn journals(rt: HostRuntime) -> Result<(), Fail> {
     for (manifest, nodes, marks, want) in JOURNALS.iter() {
-        assert!(rt; journal_says(rt.alloc(), manifest, nodes, marks, want)?, "{marks}");
+        assert!(rt;
+            journal_says(rt.alloc(), manifest, nodes, marks, want)?,
+            "{marks}"
+        );
     }
     Ok(())
 }

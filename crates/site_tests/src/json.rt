@@ -49,7 +49,10 @@ const HASHES: [(&str, &str, &str); 7] = [
 fn hashes(rt: HostRuntime) -> Result<(), Fail> {
     for (first, second, want) in HASHES.iter() {
         let alloc = rt.alloc();
-        assert!(rt; is_form(alloc, hash(alloc, first, second)?, want)?, "{want}");
+        assert!(rt;
+            is_form(alloc, hash(alloc, first, second)?, want)?,
+            "{want}"
+        );
     }
     Ok(())
 }

@@ -30,7 +30,10 @@ fn reply_says(
     want: &str,
 ) -> Result<bool, Memory> {
     let request = request(alloc, node)?;
-    says(write_reply(alloc, &PuppetLanguage, index, &request, reply), want)
+    says(
+        write_reply(alloc, &PuppetLanguage, index, &request, reply),
+        want,
+    )
 }
 
 // The reply to a node whose manifest is this one.
@@ -91,7 +94,10 @@ const COMPILED: [(u32, u32, u32, &str, &str, &str); 3] = [
 #[test]
 fn catalogs_and_faults(rt: HostRuntime) -> Result<(), Fail> {
     for (index, entry, k, node, manifest, want) in COMPILED.iter() {
-        assert!(rt; compiled_says(rt.alloc(), *index, *entry, *k, node, manifest, want)?, "{want}");
+        assert!(rt;
+            compiled_says(rt.alloc(), *index, *entry, *k, node, manifest, want)?,
+            "{want}"
+        );
     }
     Ok(())
 }
@@ -127,18 +133,46 @@ fn other_says(
 }
 
 const OTHERS: [(u32, &str, NumberReply, &str); 6] = [
-    (0, "z", NumberReply::Unknown(1), "{\"k\":1,\"reply\":0,\"unknown\":\"z\"}\n"),
-    (1, "a", NumberReply::Ahead(1), "{\"length\":1,\"reply\":1,\"seen\":2}\n"),
-    (4294967295, "a", NumberReply::Full(3), "{\"full\":3,\"reply\":4294967295}\n"),
-    (5, "a", NumberReply::Memory, "{\"memory\":true,\"reply\":5}\n"),
-    (2, "-a", NumberReply::Deactivated(9), "{\"entry\":9,\"reply\":2}\n"),
+    (
+        0,
+        "z",
+        NumberReply::Unknown(1),
+        "{\"k\":1,\"reply\":0,\"unknown\":\"z\"}\n",
+    ),
+    (
+        1,
+        "a",
+        NumberReply::Ahead(1),
+        "{\"length\":1,\"reply\":1,\"seen\":2}\n",
+    ),
+    (
+        4294967295,
+        "a",
+        NumberReply::Full(3),
+        "{\"full\":3,\"reply\":4294967295}\n",
+    ),
+    (
+        5,
+        "a",
+        NumberReply::Memory,
+        "{\"memory\":true,\"reply\":5}\n",
+    ),
+    (
+        2,
+        "-a",
+        NumberReply::Deactivated(9),
+        "{\"entry\":9,\"reply\":2}\n",
+    ),
     (2, "-a", NumberReply::Full(9), "{\"full\":9,\"reply\":2}\n"),
 ];
 
 #[test]
 fn other_replies(rt: HostRuntime) -> Result<(), Fail> {
     for (index, node, reply, want) in OTHERS.iter() {
-        assert!(rt; other_says(rt.alloc(), *index, node, *reply, want)?, "{want}");
+        assert!(rt;
+            other_says(rt.alloc(), *index, node, *reply, want)?,
+            "{want}"
+        );
     }
     Ok(())
 }

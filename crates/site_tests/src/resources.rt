@@ -77,10 +77,22 @@ fn tagged_as(
 }
 
 const TAGS: [(bool, &str, &str, &str, &str); 9] = [
-    (true, "web::vhost", "x", "", " class main vhost web web::vhost x"),
+    (
+        true,
+        "web::vhost",
+        "x",
+        "",
+        " class main vhost web web::vhost x",
+    ),
     (true, "notify", "hi", "", " class hi main notify"),
     (true, "file", "/etc/hosts", "", " class file main"),
-    (true, "file", "A::B", "C main", " a a::b b c class file main"),
+    (
+        true,
+        "file",
+        "A::B",
+        "C main",
+        " a a::b b c class file main",
+    ),
     (true, "file", "a b", "", " class file main"),
     (true, "file", "_x.y-1:", "", " _x.y-1: class file main"),
     (true, "file", "a::", "", " a a:: class file main"),
@@ -91,7 +103,10 @@ const TAGS: [(bool, &str, &str, &str, &str); 9] = [
 #[test]
 fn tags_rise_in_lower_case(rt: HostRuntime) -> Result<(), Fail> {
     for (in_main, name, title, given, want) in TAGS.iter() {
-        assert!(rt; tagged_as(rt.alloc(), *in_main, name, title, given, want)?, "{want}");
+        assert!(rt;
+            tagged_as(rt.alloc(), *in_main, name, title, given, want)?,
+            "{want}"
+        );
     }
     Ok(())
 }

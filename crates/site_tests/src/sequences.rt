@@ -18,12 +18,7 @@ use site_sequence::sequence::answer;
 use std::alloc::Global;
 use std::test::Fail;
 
-fn compile(
-    alloc: Global,
-    node: &str,
-    facts: Option<Value>,
-    seen: u32,
-) -> Result<Request, Memory>
+fn compile(alloc: Global, node: &str, facts: Option<Value>, seen: u32) -> Result<Request, Memory>
     requires { IsTrue (has_facts (option_map view facts)) }
     ensures { IfOk result (λ r. IsTrue (asks_with_facts (asked r))) }
 {

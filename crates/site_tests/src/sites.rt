@@ -42,7 +42,11 @@ fn site_says(alloc: Global, manifest: &str, nodes: &str, want: &str) -> Result<b
 }
 
 const SITES: [(&str, &str, &str); 3] = [
-    ("", "", "{\"files\":{\"manifests/site.pp\":\"\"},\"nodes\":{}}"),
+    (
+        "",
+        "",
+        "{\"files\":{\"manifests/site.pp\":\"\"},\"nodes\":{}}",
+    ),
     (
         "",
         "a a",

@@ -120,8 +120,20 @@ const QUERIES: [(&str, &str, &str, &str, &str); 14] = [
     ("a: host x dns; -b", "host", "", "b", " a0"),
     // A set is replaced.
     ("a: host x dns,host y dns", "host", "", "b", " a0 a1"),
-    ("a: host x dns,host y dns; a: notify z dns", "host", "", "b", ""),
-    ("a: host x dns,host y dns; a: notify z dns", "notify", "", "b", " a0"),
+    (
+        "a: host x dns,host y dns; a: notify z dns",
+        "host",
+        "",
+        "b",
+        "",
+    ),
+    (
+        "a: host x dns,host y dns; a: notify z dns",
+        "notify",
+        "",
+        "b",
+        " a0",
+    ),
     // By kind, tag and node.
     (THREE, "host", "", "c", " B0 a0 b0 b2"),
     (THREE, "host", "DNS", "c", " B0 b0"),
@@ -135,7 +147,10 @@ const QUERIES: [(&str, &str, &str, &str, &str); 14] = [
 #[test]
 fn queries_find_by_kind_tag_and_node(rt: HostRuntime) -> Result<(), Fail> {
     for (steps, name, tag, but_node, want) in QUERIES.iter() {
-        assert!(rt; finds_as(rt.alloc(), steps, name, tag, but_node, want)?, "{steps} {name} {tag} {but_node}");
+        assert!(rt;
+            finds_as(rt.alloc(), steps, name, tag, but_node, want)?,
+            "{steps} {name} {tag} {but_node}"
+        );
     }
     Ok(())
 }

@@ -14,4 +14,4 @@ pub returns-clause-facts : goal.returns-clause-facts
 returns-clause-facts c =
     viewed_facts c.get.result _ c.args.name.now
     (viewed view c.get.result _ c.get.ensures.value ∙ lookup-shown view c.self.inside.by_name.entries c.args.name.now)
-        c.self.invariant.1
+    c.self.invariant.1

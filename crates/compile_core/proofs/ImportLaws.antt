@@ -41,15 +41,16 @@ none-append : (title : List ℕ) (ds : List DeclaredNotify) (d : DeclaredNotify)
     bytes_eq title (title_of d) ≡ false → declared_as title (ds ++ d ∷ []) ≡ None
 none-append title ds d none other =
     find-append (has_title title) ds (d ∷ []) ∙ ap (λ o. option_or o (find (has_title title) (d ∷ []))) none
-        ∙ ap (λ b. cond b (Some d) None) other
+    ∙ ap (λ b. cond b (Some d) None) other
 
 distinct-append : (ds : List DeclaredNotify) (d : DeclaredNotify) → declared_as (title_of d) ds ≡ None →
     AreDistinct ds → AreDistinct (ds ++ d ∷ [])
 distinct-append [] d new h = (refl, tt)
 distinct-append (x ∷ xs) d new h =
-    let parts = not_first (bytes_eq (title_of d) (title_of x)) x (declared_as (title_of d) xs) new in
-    (none-append (title_of x) xs d h.0 (nat_list_eq_equiv.symm (title_of x) (title_of d) ∙ parts.0),
-        distinct-append xs d parts.1 h.1)
+    let parts = not_first (bytes_eq (title_of d) (title_of x)) x (declared_as (title_of d) xs) new in (
+      none-append (title_of x) xs d h.0 (nat_list_eq_equiv.symm (title_of x) (title_of d) ∙ parts.0),
+      distinct-append xs d parts.1 h.1,
+    )
 
 stand_behind : (sets : Sets) (ds : List DeclaredNotify) (d : DeclaredNotify) → AllStand sets ds → Stands sets d →
     AllStand sets (ds ++ d ∷ [])
@@ -58,8 +59,10 @@ stand_behind sets (x ∷ xs) d h k = (h.0, stand_behind sets xs d h.1 k)
 
 kept_more : (sets : Sets) (ds : List DeclaredNotify) (d : DeclaredNotify) → IsKept sets ds → Stands sets d →
     declared_as (title_of d) ds ≡ None → IsKept sets (ds ++ d ∷ [])
-kept_more sets ds d kept stands new = record { distinct = distinct-append ds d new kept.distinct;
-    stand = stand_behind sets ds d kept.stand stands }
+kept_more sets ds d kept stands new = record {
+  distinct = distinct-append ds d new kept.distinct;
+  stand = stand_behind sets ds d kept.stand stands;
+}
 
 both : (a b : Bool) → (a && b) ≡ true → (a ≡ true) × (b ≡ true)
 both true b e = (refl, e)
@@ -92,7 +95,7 @@ other_title sets p (imported q) h k other =
           let same = one_resource sets p q h k e in
           let titles : p.1.item.title ≡ q.1.item.title = ap (λ (x : Placed). x.1.item.title) same in
           let yes : bytes_eq p.1.item.title q.1.item.title ≡ true =
-              (bytes_eq-Decides p.1.item.title q.1.item.title).1 titles in
+          (bytes_eq-Decides p.1.item.title q.1.item.title).1 titles in
           sym (not_both _ yes other)
       | false ↦ λ e. refl
     ] refl
@@ -119,7 +122,7 @@ told sets p (d ∷ ds) h distinct k =
       | true ↦ λ e.
           let title : title_of d ≡ p.1.item.title = sym ((bytes_eq-Decides p.1.item.title (title_of d)).0 e) in
           ap (λ b. is_import_of p.0 d || b) (not_there sets p ds h k.1
-              (subst (λ t. declared_as t ds ≡ None) title distinct.0)) ∙ or_false (is_import_of p.0 d)
+          (subst (λ t. declared_as t ds ≡ None) title distinct.0)) ∙ or_false (is_import_of p.0 d)
       | false ↦ λ e. ap (λ b. b || is_imported p.0 ds) (other_title sets p d h k.0 e) ∙ told sets p ds h distinct.1 k.1
     ] refl
 
@@ -153,7 +156,7 @@ all_same sets [] ds kept stand = refl
 all_same sets (p ∷ ps) ds kept stand =
     ap (λ r. and_then r (λ more. in_turn import_one more ps)) (one_same sets ds p kept stand.0)
     ∙ (elim (import_by_title ds p) as (λ r. import_by_title ds p ≡ r →
-        and_then r (λ more. in_turn import_one more ps) ≡ and_then r (λ more. in_turn import_by_title more ps)) [
+    and_then r (λ more. in_turn import_one more ps) ≡ and_then r (λ more. in_turn import_by_title more ps)) [
       | Ok more ↦ λ e. all_same sets ps more (kept_import sets ds more p (unknown_name p.1.item.attributes)
           (is_own_import p.0 (declared_as p.1.item.title ds)) kept stand.0 e) stand.1
       | Err f ↦ λ e. refl
@@ -169,7 +172,7 @@ kept_steps sets (step.NotBuilt line ∷ fs) before ds kept e = absurd cc
 kept_steps sets (step.Collector c ∷ fs) before ds kept e = kept_steps sets fs before ds kept e
 kept_steps sets (step.Notify n ∷ fs) before ds kept e =
     elim (declare before (local n)) as (λ r. declare before (local n) ≡ r →
-        and_then r (λ more. in_turn evaluate more fs) ≡ Ok ds → IsKept sets ds) [
+    and_then r (λ more. in_turn evaluate more fs) ≡ Ok ds → IsKept sets ds) [
       | Ok more ↦ λ is rest. kept_steps sets fs more ds
           (kept_new sets before more (local n) (declared_as n.title before) kept tt refl is) rest
       | Err f ↦ λ is rest. absurd cc
@@ -183,7 +186,7 @@ kept_locals : (sets : Sets) (fs : List Step) (node : Option ℕ) (ds : List Decl
     IsKept sets ds
 kept_locals sets fs node ds e =
     elim (in_turn evaluate [] fs) as (λ r. in_turn evaluate [] fs ≡ r → and_then r (without_nodes node) ≡ Ok ds →
-        IsKept sets ds) [
+    IsKept sets ds) [
       | Ok more ↦ λ is rest. subst (IsKept sets) (passed node more ds rest)
           (kept_steps sets fs [] more (record { distinct = tt; stand = tt }) is)
       | Err f ↦ λ is rest. absurd cc
@@ -193,7 +196,7 @@ found_stand : (sets : Sets) (node : List ℕ) (cs : List Collector) → StandAt 
 found_stand sets node [] = tt
 found_stand sets node (c ∷ cs) =
     stand-append sets (found_by sets node c) (all_found sets node cs)
-        (stand-filter sets (is_found kind c.tag node) (exports_of sets) (all_stand sets [] (entries sets) refl))
+    (stand-filter sets (is_found kind c.tag node) (exports_of sets) (all_stand sets [] (entries sets) refl))
     (found_stand sets node cs)
 
 -- behind the declarations of a manifest the imports are the same

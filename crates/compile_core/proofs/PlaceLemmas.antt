@@ -58,7 +58,7 @@ set_stands sets node set has front (e ∷ es) i parts at = (
   ap (λ o. option_map (λ x. (record { node = node; place = i }, x))
       (option_and_then (λ (s : ExportSet). slice_get s.items i) o)) has
       ∙ ap (λ o. option_map (λ x. (record { node = node; place = i }, x)) o)
-          (ap (λ xs. slice_get xs i) parts ∙ ap (slice_get (front ++ e ∷ es)) at ∙ behind front e es),
+      (ap (λ xs. slice_get xs i) parts ∙ ap (slice_get (front ++ e ∷ es)) at ∙ behind front e es),
   set_stands sets node set has (front ++ e ∷ []) es (i + 1) (parts ∙ sym (append_assoc front (e ∷ []) es))
       (ap (λ n. n + 1) at ∙ sym (length-append front (e ∷ []))),
 )
@@ -87,7 +87,7 @@ found_entry : (front es : List Entry) (e : Entry) → T (is_sorted text_cmp (fro
 found_entry [] es e h = ap (λ r. cond (is_eq r) (Some e.1) (find text_cmp e.0 es)) (tied_itself nat_list_cmp_total e.0)
 found_entry (f ∷ fs) es e h =
     ap (λ r. cond (is_eq r) (Some f.1) (find text_cmp e.0 (fs ++ e ∷ es)))
-        (nat_list_cmp_total.antisymm e.0 f.0 ∙ ap ordering_reverse (below_middle f.0 fs es e (first _ _ h)))
+    (nat_list_cmp_total.antisymm e.0 f.0 ∙ ap ordering_reverse (below_middle f.0 fs es e (first _ _ h)))
     ∙ found_entry fs es e (second _ _ h)
 
 -- the sets of all nodes, from an entry on
@@ -96,19 +96,19 @@ all_stand sets front [] parts = tt
 all_stand sets front (e ∷ es) parts =
     let has : get sets e.0 ≡ Some e.1 =
     get-entries sets e.0 ∙ ap (find text_cmp e.0) parts
-        ∙ found_entry front es e (subst (λ l. T (is_sorted text_cmp l)) parts (entries_sorted sets)) in
+    ∙ found_entry front es e (subst (λ l. T (is_sorted text_cmp l)) parts (entries_sorted sets)) in
     stand-append sets (placed e.0 0 e.1.items) (all_placed es) (set_stands sets e.0 e.1 has [] e.1.items 0 refl refl)
     (all_stand sets (front ++ e ∷ []) es (parts ∙ sym (append_assoc front (e ∷ []) es)))
 
 pub found_items : (sets : Sets) (node : List ℕ) (c : Collector) (k : List ℕ) (tag : Option (List ℕ))
     (items places : List ExportPlace) →
     items ≡ places → places ≡ found k tag node sets → k ≡ kind → tag ≡ c.tag →
-        all_placed_at sets items ≡ found_by sets node c
+    all_placed_at sets items ≡ found_by sets node c
 found_items sets node c k tag items places same found_there of_kind of_tag =
     ap (all_placed_at sets) (same ∙ found_there ∙ ap (λ x. found x tag node sets) of_kind
-        ∙ ap (λ x. found kind x node sets) of_tag)
+    ∙ ap (λ x. found kind x node sets) of_tag)
     ∙ back sets _ (stand-filter sets (is_found kind c.tag node) (exports_of sets)
-        (all_stand sets [] (entries sets) refl))
+    (all_stand sets [] (entries sets) refl))
 
 append_option : {X : Type 0} (o : Option X) (xs : List X) → cons_option o xs ≡ cons_option o [] ++ xs
 append_option None xs = refl

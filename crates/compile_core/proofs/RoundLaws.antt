@@ -24,7 +24,7 @@ stays_new : (place : ExportPlace) (ds more : List DeclaredNotify) (d : DeclaredN
 stays_new place ds more d None h e =
     let is : (ds ++ d ∷ []) ≡ more = cc in
     subst (λ l. is_imported place l ≡ true) is (list_any-append (is_import_of place) ds (d ∷ [])
-        ∙ ap (λ b. b || is_imported place (d ∷ [])) h)
+    ∙ ap (λ b. b || is_imported place (d ∷ [])) h)
 stays_new place ds more d (Some earlier) h e = absurd cc
 
 stays : (place : ExportPlace) (ds more : List DeclaredNotify) (p : Placed) (name : Option (List ℕ)) (b : Bool) →
@@ -43,7 +43,7 @@ there_new ds more p None e =
     let is : (ds ++ imported p ∷ []) ≡ more = cc in
     subst (λ l. is_imported p.0 l ≡ true) is
     (list_any-append (is_import_of p.0) ds (imported p ∷ []) ∙ ap (λ b. is_imported p.0 ds || (b || false)) (itself p.0)
-        ∙ or_true (is_imported p.0 ds))
+    ∙ or_true (is_imported p.0 ds))
 there_new ds more p (Some earlier) e = absurd cc
 
 there : (ds more : List DeclaredNotify) (p : Placed) (name : Option (List ℕ)) (b : Bool) → is_imported p.0 ds ≡ b →
@@ -62,7 +62,7 @@ lasts place [] ds more h e =
     subst (λ l. is_imported place l ≡ true) is h
 lasts place (p ∷ ps) ds more h e =
     elim (import_one ds p) as (λ r. import_one ds p ≡ r → and_then r (λ now. in_turn import_one now ps) ≡ Ok more →
-        is_imported place more ≡ true) [
+    is_imported place more ≡ true) [
       | Ok now ↦ λ is rest. lasts place ps now more (stays place ds now p (unknown_name p.1.item.attributes)
           (is_imported p.0 ds) h is) rest
       | Err f ↦ λ is rest. absurd cc
@@ -78,9 +78,12 @@ unfolding in_turn
 all_there [] ds more e = tt
 all_there (p ∷ ps) ds more e =
     elim (import_one ds p) as (λ r. import_one ds p ≡ r → and_then r (λ now. in_turn import_one now ps) ≡ Ok more →
-        AllImported more (p ∷ ps)) [
-      | Ok now ↦ λ is rest. (lasts p.0 ps now more (there ds now p (unknown_name p.1.item.attributes)
-          (is_imported p.0 ds) refl is) rest, all_there ps now more rest)
+    AllImported more (p ∷ ps)) [
+      | Ok now ↦ λ is rest. (
+        lasts p.0 ps now more (there ds now p (unknown_name p.1.item.attributes)
+            (is_imported p.0 ds) refl is) rest,
+        all_there ps now more rest,
+      )
       | Err f ↦ λ is rest. absurd cc
     ] refl e
 
@@ -89,13 +92,13 @@ unfolding in_turn
 nothing_new [] ds h = refl
 nothing_new (p ∷ ps) ds h =
     ap (λ b. and_then (if b then Ok ds else import_new (unknown_name p.1.item.attributes) ds p)
-        (λ now. in_turn import_one now ps)) h.0 ∙ nothing_new ps ds h.1
+    (λ now. in_turn import_one now ps)) h.0 ∙ nothing_new ps ds h.1
 
 pub one_round : OneRoundIsEnough
 one_round node fs first sets ds e =
     let found = all_found sets node (collectors fs) in
     elim (locals fs first) as (λ r. and_then r (λ now. in_turn import_one now found) ≡ Ok ds →
-        in_turn import_one ds found ≡ Ok ds) [
+    in_turn import_one ds found ≡ Ok ds) [
       | Ok now ↦ λ is. nothing_new found ds (all_there found now ds is)
       | Err f ↦ λ is. absurd cc
     ] e

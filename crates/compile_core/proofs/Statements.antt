@@ -15,7 +15,7 @@ at_front xs i x low is = rw (add-one, drop-cons xs i x) (ap (λ y. y ∷ drop (s
 pub found_from : (sets : Sets) (node : List ℕ) (cs : List (Bor Collector)) (i : ℕ) (c : Bor Collector) → i < length cs →
     c ≡ get_or cs i c →
     all_found sets node (collectors_at (drop i cs)) ≡ found_by sets node c.now ++
-        all_found sets node (collectors_at (drop (i + 1) cs))
+    all_found sets node (collectors_at (drop (i + 1) cs))
 found_from sets node cs i c low is = ap (λ l. all_found sets node (collectors_at l)) (at_front cs i c low is)
 
 pub found_end : (sets : Sets) (node : List ℕ) (cs : List (Bor Collector)) (i : ℕ) → length cs ≤ i →

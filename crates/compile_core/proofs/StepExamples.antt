@@ -59,10 +59,15 @@ is_tagged : notify_of (of_body marked.Exported (codes "notify") tagged) ≡ Some
 unfolding notify_of given_from
 is_tagged =
     ap (option_and_then (notify_titled true tagged)) (title_says (codes "x"))
-    ∙ ap (λ o. option_map (λ given. record { exported = true; title = codes "x"; message = given.message;
-        tag = given.tag; at = main_place 2 })
+    ∙ ap (λ o. option_map (λ given. record {
+      exported = true;
+      title = codes "x";
+      message = given.message;
+      tag = given.tag;
+      at = main_place 2;
+    })
     (option_and_then (λ now. Some now) (option_and_then (with_text nothing_given (codes "tag")) o)))
-        (says (codes "web"))
+    (says (codes "web"))
 
 -- `@@notify { 'x': tag => 'web' }`, at the line of its title
 exported : step_of (statement.Chain (chain (operand.Resource (of_body marked.Exported (codes "notify") tagged)) []
@@ -71,7 +76,7 @@ unfolding step_of built
 exported =
     ap step_by (statement.outs-Chain (chain (operand.Resource (of_body marked.Exported (codes "notify") tagged)) [] 1))
     ∙ ap (λ o. unwrap_or (built_by o) (step.NotBuilt 1))
-        (operand.outs-Resource (of_body marked.Exported (codes "notify") tagged))
+    (operand.outs-Resource (of_body marked.Exported (codes "notify") tagged))
     ∙ ap (λ o. unwrap_or (option_map step.Notify o) (step.NotBuilt 1)) is_tagged
 
 -- ---- resources
@@ -80,7 +85,7 @@ exported =
 attributes :
     (with_text nothing_given (codes "message") (codes "a") ≡ Some (record { message = Some (codes "a"); tag = None }))
     × (with_text (record { message = None; tag = Some (codes "b") }) (codes "message") [] ≡ Some
-        (record { message = Some []; tag = Some (codes "b") }))
+    (record { message = Some []; tag = Some (codes "b") }))
     × (with_text (record { message = None; tag = Some (codes "b") }) (codes "tag") (codes "b") ≡ None)
     × (with_text nothing_given (codes "withpath") (codes "a") ≡ None)
     × (with_attribute nothing_given (attribute.Set (setting (codes "tag") true (said (codes "a")) 1)) ≡ None)
@@ -100,10 +105,10 @@ other_resources = (refl, refl, refl, refl, refl)
 -- ---- collectors
 
 collectors :
-    (collector_from (codes "Notify") true None [] 3 ≡ Some (record { tag = None; at = main_place 3 }))
-    × (collector_from (codes "Notify") false None [] 3 ≡ None)
-    × (collector_from (codes "File") true None [] 3 ≡ None)
-    × (collector_from (codes "Notify") true None (is (codes "message") (codes "a") ∷ []) 3 ≡ None)
+    (collector_from (codes "Notify") true None [] ≡ Some (record { tag = None }))
+    × (collector_from (codes "Notify") false None [] ≡ None)
+    × (collector_from (codes "File") true None [] ≡ None)
+    × (collector_from (codes "Notify") true None (is (codes "message") (codes "a") ∷ []) ≡ None)
     × (tag_by (Test-F.Compare (comparison (codes "tag") true (said (codes "web")) 3)) ≡ Some (codes "web"))
     × (tag_by (Test-F.Compare (comparison (codes "tag") false (said (codes "web")) 3)) ≡ None)
     × (tag_by (Test-F.Compare (comparison (codes "title") true (said (codes "web")) 3)) ≡ None)
@@ -115,7 +120,7 @@ collectors = (refl, refl, refl, refl, says (codes "web"), refl, refl, λ q. refl
 -- an arrow, a statement function, an operand of another sort
 others :
     (step_by (Statement-F.Chain (chain (operand.Expr (said (codes "a")))
-        (link arrow.InEdge (operand.Expr (said (codes "b"))) ∷ []) 3)) ≡ step.NotBuilt 3)
+    (link arrow.InEdge (operand.Expr (said (codes "b"))) ∷ []) 3)) ≡ step.NotBuilt 3)
     × (step_by (Statement-F.Words (words (codes "include") (said (codes "a") ∷ []) 4)) ≡ step.NotBuilt 4)
     × (built_by (Operand-F.Expr (said (codes "a"))) ≡ None)
 others = (refl, refl, refl)
@@ -123,9 +128,9 @@ others = (refl, refl, refl)
 -- of the definitions only nodes are told, by the line of the first
 nodes :
     (first_node ((name.Code (codes "c"), definition.Class (class_of (name_at (codes "c") 1) [] None [] 1)) ∷
-        (name.Code (codes "d"), definition.Define (define_of (name_at (codes "d") 2) [] [] 2)) ∷ []) ≡ None)
+    (name.Code (codes "d"), definition.Define (define_of (name_at (codes "d") 2) [] [] 2)) ∷ []) ≡ None)
     × (first_node ((name.Code (codes "c"), definition.Class (class_of (name_at (codes "c") 1) [] None [] 1)) ∷
-        (name.Node None, definition.Node (node_of [] [] 3)) ∷ (name.Node (Some []), definition.Node (node_of [] [] 4)) ∷
-        []) ≡ Some 3)
+    (name.Node None, definition.Node (node_of [] [] 3)) ∷ (name.Node (Some []), definition.Node (node_of [] [] 4)) ∷
+    []) ≡ Some 3)
 unfolding first_node
 nodes = (refl, refl)

@@ -29,7 +29,7 @@ found_there : (x : Declaration) (xs : List Declaration) (i : ℕ) (b : Bool) (o 
     (rest : Option DeclaredNotify) →
     ((j : ℕ) → o ≡ Some j → option_map seen (slice_get xs j) ≡ rest) →
     (if b then Some 0 else option_map suc o) ≡ Some i →
-        option_map seen (slice_get (x ∷ xs) i) ≡ cond b (Some (seen x)) rest
+    option_map seen (slice_get (x ∷ xs) i) ≡ cond b (Some (seen x)) rest
 found_there x xs i true o rest later e =
     let first : 0 ≡ i = cc in
     subst (λ j. option_map seen (slice_get (x ∷ xs) j) ≡ Some (seen x)) first refl
@@ -44,7 +44,7 @@ pub found_at : (title : List ℕ) (items : List Declaration) (i : ℕ) → index
 found_at title [] i e = absurd cc
 found_at title (x ∷ xs) i e =
     found_there x xs i (has_title title (seen x)) (index_of title (all_seen xs)) (declared_as title (all_seen xs))
-        (λ j. found_at title xs j) e
+    (λ j. found_at title xs j) e
 
 pub not_first : (b : Bool) (x : DeclaredNotify) (o : Option DeclaredNotify) → cond b (Some x) o ≡ None → (b ≡ false)
     × (o ≡ None)
@@ -64,7 +64,7 @@ index_of-append title [] d new = ap (λ b. cond b (Some 0) None) (nat_list_eq_eq
 index_of-append title (x ∷ xs) d new =
     elim (bytes_eq title (title_of x)) as (λ b. bytes_eq title (title_of x) ≡ b →
     (if b then Some 0 else option_map suc (index_of title (xs ++ d ∷ []))) ≡ cond (bytes_eq (title_of d) title)
-        (Some (suc (length xs))) (if b then Some 0 else option_map suc (index_of title xs))) [
+    (Some (suc (length xs))) (if b then Some 0 else option_map suc (index_of title xs))) [
       | true ↦ λ e. sym (ap (λ b. cond b (Some (suc (length xs))) (Some 0))
           (subst (λ t. bytes_eq (title_of d) t ≡ false) (sym ((bytes_eq-Decides title (title_of x)).0 e))
           (not_first _ _ _ new).0))
@@ -76,11 +76,11 @@ index_of-append title (x ∷ xs) d new =
 pub finds_more : (title : List ℕ) (m n : Titles) (items : List Declaration) (x : Declaration) (i : ℕ) →
     title ≡ title_of (seen x) → declared_as (title_of (seen x)) (all_seen items) ≡ None →
     i ≡ length items → UpdatesBy (λ x y. slice_cmp nat_cmp x.now y.now) (λ k. slice_cmp nat_cmp title k.now) m n
-        (Some i) → FindsTitles m (all_seen items) → FindsTitles n (all_seen (items ++ x ∷ []))
+    (Some i) → FindsTitles m (all_seen items) → FindsTitles n (all_seen (items ++ x ∷ []))
 finds_more title m n items x i named new last set held = λ q.
     btree_map_updates_str title m n _ set q
     ∙ ap (λ t. cond (bytes_eq t q) (Some i) (get_by (λ k. slice_cmp nat_cmp q k.now) m)) named
     ∙ ap (cond (bytes_eq (title_of (seen x)) q) (Some i)) (held q)
     ∙ ap (λ k. cond (bytes_eq (title_of (seen x)) q) (Some k) (index_of q (all_seen items)))
-        (last ∙ sym (length-map items seen))
+    (last ∙ sym (length-map items seen))
     ∙ sym (ap (index_of q) (map-append seen items (x ∷ [])) ∙ index_of-append q (all_seen items) (seen x) new)

@@ -12,7 +12,6 @@ use Rattle.pp_tree.specs.declared.resource.Attribute.{Attribute}
 use Rattle.pp_tree.specs.Layers.{TestLayer}
 use Rattle.compile_core.specs.declared.step.Collector.{Collector}
 use Rattle.compile_core.specs.Parts.{only, written_text}
-use Rattle.compile_core.specs.Places.{main_place}
 
 -- ---- queries
 
@@ -35,26 +34,27 @@ tag_of q = option_and_then tag_of_conjunction (only (out-Query q).conjunctions)
 
 -- ---- collectors
 
-abbrev pub collector_with : ℕ → Option (List ℕ) → Collector
-collector_with line tag = record { tag = tag; at = main_place line }
+abbrev pub collector_with : Option (List ℕ) → Collector
+collector_with tag = record { tag = tag }
 
-abbrev pub asking_for_tag : ℕ → Query → Option Collector
-asking_for_tag line q = option_map (λ tag. collector_with line (Some tag)) (tag_of q)
+abbrev pub asking_for_tag : Query → Option Collector
+asking_for_tag q = option_map (λ tag. collector_with (Some tag)) (tag_of q)
 
 -- without a query it asks for no tag
-abbrev pub asking : ℕ → Option Query → Option Collector
-asking line None = Some (collector_with line None)
-asking line (Some q) = asking_for_tag line q
+abbrev pub asking : Option Query → Option Collector
+asking None = Some (collector_with None)
+asking (Some q) = asking_for_tag q
 
 abbrev pub without_settings : List (Attribute Expr) → Option Collector → Option Collector
 without_settings [] found = found
 without_settings (a ∷ more) found = None
 
 -- the type is written in exactly this way
-abbrev pub collector_from : List ℕ → Bool → Option Query → List (Attribute Expr) → ℕ → Option Collector
-collector_from kind exported q attributes line =
-    if bytes_eq kind (codes "Notify") && exported then without_settings attributes (asking line q) else None
+abbrev pub collector_from : List ℕ → Bool → Option Query → List (Attribute Expr) → Option Collector
+collector_from kind exported q attributes =
+    if bytes_eq kind (codes "Notify") && exported then without_settings attributes (asking q) else None
 
 unfoldable pub collector_of : tree.Collector → Option Collector
-collector_of c = let written = tree.out-Collector c in
-    collector_from written.kind written.exported written.query written.attributes written.at
+collector_of c =
+    let written = tree.out-Collector c in
+    collector_from written.kind written.exported written.query written.attributes

@@ -50,8 +50,13 @@ given_from given (a ∷ more) = option_and_then (λ now. given_from now more) (w
 -- ---- resources
 
 abbrev pub notify_with : Bool → ℕ → List ℕ → Given → Notify
-notify_with exported line title given = record { exported = exported; title = title; message = given.message;
-    tag = given.tag; at = main_place line }
+notify_with exported line title given = record {
+  exported = exported;
+  title = title;
+  message = given.message;
+  tag = given.tag;
+  at = main_place line;
+}
 
 -- its line is that of its title
 abbrev pub notify_titled : Bool → Body Expr → List ℕ → Option Notify

@@ -15,14 +15,14 @@ coded_texts = coded× (coded_option coded_text) (coded_option coded_text)
 abbrev pub coded_notify : Coded Notify
 coded_notify =
     code_by ((Bool × List ℕ) × ((Option (List ℕ) × Option (List ℕ)) × Place))
-        (coded× (coded× coded_bool coded_text) (coded× coded_texts coded_place))
+    (coded× (coded× coded_bool coded_text) (coded× coded_texts coded_place))
     (λ n. ((n.exported, n.title), ((n.message, n.tag), n.at)))
     (λ p. record { exported = p.0.0; title = p.0.1; message = p.1.0.0; tag = p.1.0.1; at = p.1.1 }) (λ _. refl)
 
 abbrev pub coded_placed : Coded Placed
 coded_placed =
     coded× (code_by (List ℕ × ℕ) (coded× coded_text coded_ℕ) (λ p. (p.node, p.place))
-        (λ p. record { node = p.0; place = p.1 }) (λ _. refl)) coded_exported
+    (λ p. record { node = p.0; place = p.1 }) (λ _. refl)) coded_exported
 
 abbrev cases : DeclaredNotify → Notify ⊎ Placed
 cases (local n) = inl n

@@ -2,9 +2,8 @@
 ghost use Rattle.std.specs.Prelude.{◌≡◌, IfOk, option_copied};
 ghost use Rattle.compile_core.specs.Collectors as collector;
 
-use crate::step::Collector;
 use crate::parts::{only, written_text};
-use crate::places::main_place;
+use crate::step::Collector;
 use pp_tree::collector::{Collector as Written, Comparison, Conjunction, Query, Test};
 use pp_values::memory::Memory;
 use pp_values::text::Text;
@@ -19,30 +18,26 @@ pub fn collector_of(alloc: Global, written: &Written) -> Result<Option<Collector
         return Ok(None);
     }
     match written.attributes.as_slice() {
-        [] => asking(alloc, written.at, &written.query),
+        [] => asking(alloc, &written.query),
         [_, ..] => Ok(None),
     }
 }
 
-fn asking(alloc: Global, line: u32, query: &Option<Query>) -> Result<Option<Collector>, Memory>
-    ensures { IfOk result (λ c. c ≡ collector.asking line query.now) }
+fn asking(alloc: Global, query: &Option<Query>) -> Result<Option<Collector>, Memory>
+    ensures { IfOk result (λ c. c ≡ collector.asking query.now) }
 {
     match query {
-        None => Ok(Some(Collector {
-            tag: None,
-            at: main_place(alloc, line)?,
-        })),
-        Some(query) => asking_for_tag(alloc, line, query),
+        None => Ok(Some(Collector { tag: None })),
+        Some(query) => asking_for_tag(alloc, query),
     }
 }
 
-fn asking_for_tag(alloc: Global, line: u32, query: &Query) -> Result<Option<Collector>, Memory>
-    ensures { IfOk result (λ c. c ≡ collector.asking_for_tag line query.now) }
+fn asking_for_tag(alloc: Global, query: &Query) -> Result<Option<Collector>, Memory>
+    ensures { IfOk result (λ c. c ≡ collector.asking_for_tag query.now) }
 {
     match tag_of(query) {
         Some(tag) => Ok(Some(Collector {
             tag: Some(tag.copy(alloc)?),
-            at: main_place(alloc, line)?,
         })),
         None => Ok(None),
     }

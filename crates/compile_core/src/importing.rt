@@ -1,7 +1,6 @@
 //! What the collectors import.
 ghost use Rattle.std.specs.Prelude.{◌≡◌, IfOk, option_copied, option_map, ◌∷◌, []};
 ghost use Rattle.res_core.specs.AttributeViews.{settings};
-
 ghost use Rattle.compile_core.specs.DeclarationViews.{seen, collectors_at};
 ghost use Rattle.compile_core.specs.Imports.{all_found, found_by, unknown_name as name_unknown, unknown_parameter as parameter_unknown};
 ghost use Rattle.compile_core.specs.ImportPlaces.{exported_at as at_place, all_placed_at, is_own_import as own_import, import_by_title};

@@ -2,9 +2,9 @@
 ghost use Rattle.std.specs.Prelude.{◌≡◌, IfOk};
 ghost use Rattle.compile_core.specs.Notifies as notify;
 
-use crate::step::Notify;
 use crate::parts::{only, written_text, written_title};
 use crate::places::main_place;
+use crate::step::Notify;
 use pp_tree::resource::{Attribute, Body, Resource, ResourceForm, Setting};
 use pp_values::memory::Memory;
 use pp_values::text::Text;

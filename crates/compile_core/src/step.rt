@@ -29,10 +29,9 @@ pub struct Notify {
     pub at: Place,
 }
 
-/// `Notify <<| |>>`, or `Notify <<| tag == 'word' |>>`. Its place is that of `Notify`.
+/// `Notify <<| |>>`, or `Notify <<| tag == 'word' |>>`.
 #[derive(Drop)]
 pub struct Collector {
     /// The tag that it asks for, where it asks for one.
     pub tag: Option<Text>,
-    pub at: Place,
 }

@@ -1,4 +1,4 @@
-//! The tests of what the crates of the language offer to callers: values and data types, tokens, and manifests with their trees.
+//! The tests of what the crates of the language offer to callers: values and data types, operators, tokens, and manifests with their trees.
 #![tactic(auto)]
 
 #[cfg(test)]
@@ -16,9 +16,13 @@ mod levels;
 #[cfg(test)]
 mod manifests;
 #[cfg(test)]
+mod operators;
+#[cfg(test)]
 mod reading;
 #[cfg(test)]
 mod samples;
+#[cfg(test)]
+mod scopes;
 #[cfg(test)]
 mod tokens;
 #[cfg(test)]

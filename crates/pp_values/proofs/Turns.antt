@@ -59,7 +59,7 @@ pub stops : {A T E F : Type 0} (told : E → Option F) (step : A → T → Resul
 stops told step a xs ys all meant e parts went held =
     answers_again told e (in_turn step a xs) meant went
     (λ f is. sym held ∙ ap (in_turn step a) parts ∙ in_turn-append step a xs ys
-        ∙ ap (λ r. and_then r (λ now. in_turn step now ys)) is)
+    ∙ ap (λ r. and_then r (λ now. in_turn step now ys)) is)
 
 -- what a call of one step answered
 pub once : {A T E F : Type 0} (told : E → Option F) (step : A → T → Result A F) (a : A) (x : T) (r : Result A E) →

@@ -6,15 +6,20 @@ use Rattle.res_core.specs.Asked.{compile, deactivate}
 use Rattle.site_bundle.specs.NodeNames.{is_node_name}
 use Rattle.site_bundle.specs.SiteView.{SiteView, facts_for, main_text, text_at, put_in, site_of}
 use Rattle.site_bundle.specs.Given.{are_distinct, has_main, is_manifest_path}
-use Rattle.site_bundle.specs.declared.limits.TheConstants.{MOST_BUNDLE_BYTES, MOST_FILE_BYTES, MOST_REQUESTS}
+use Rattle.site_bundle.specs.declared.limits.TheConstants.{MOST_BUNDLE_BYTES, MOST_FILE_BYTES, MOST_NAME_CHARACTERS, MOST_REQUESTS}
 use Rattle.site_bundle.specs.Refusals.{not_json, bad_shape}
 use Rattle.site_bundle.specs.Bundles.{bundle_of}
 use Rattle.site_bundle.proofs.OnLiterals.{bundle_on_literals}
 
 -- nodes by name, requests in their order
 whole : bundle_of (codes "{\"bundle\": 1, \"files\": {\"manifests/site.pp\": \"\"}, \"nodes\": {\"b\": {}, \"a\": {}}, \"requests\": [{\"node\": \"a\", \"seen\": 2}, {\"node\": \"b\", \"facts\": {}}, {\"deactivate\": \"z\"}]}") ≡ Ok (record {
-  site = record { files = (MAIN_MANIFEST.now, []) ∷ []; nodes = (codes "a", hash no_entries) ∷ (codes "b", hash no_entries) ∷ [] };
-  requests = compile (record { node = codes "a"; facts = None; seen = 2 }) ∷ compile (record { node = codes "b"; facts = Some (hash no_entries); seen = 0 }) ∷ deactivate (codes "z") ∷ [];
+  site = record {
+    files = (MAIN_MANIFEST.now, []) ∷ [];
+    nodes = (codes "a", hash no_entries) ∷
+        (codes "b", hash no_entries) ∷ [];
+  };
+  requests = compile (record { node = codes "a"; facts = None; seen = 2 }) ∷
+      compile (record { node = codes "b"; facts = Some (hash no_entries); seen = 0 }) ∷ deactivate (codes "z") ∷ [];
 })
 unfolding bundle_on_literals
 whole = refl
@@ -129,7 +134,11 @@ capital_letter : is_node_name (codes "Web") ≡ false
 capital_letter = refl
 
 site : SiteView
-site = record { files = (MAIN_MANIFEST.now, []) ∷ []; nodes = (codes "a", hash no_entries) ∷ (codes "c", hash no_entries) ∷ [] }
+site = record {
+  files = (MAIN_MANIFEST.now, []) ∷ [];
+  nodes = (codes "a", hash no_entries) ∷
+      (codes "c", hash no_entries) ∷ [];
+}
 
 not_listed : facts_for site (codes "b") ≡ None
 unfolding site
@@ -148,7 +157,8 @@ unfolding site
 no_file = refl
 
 -- files and nodes stand by path and name in byte order
-in_order : site_of ((MAIN_MANIFEST.now, codes "x") ∷ (codes "a.pp", codes "y") ∷ []) ((codes "c", hash no_entries) ∷ (codes "a", hash no_entries) ∷ [])
+in_order : site_of ((MAIN_MANIFEST.now, codes "x") ∷ (codes "a.pp", codes "y") ∷ [])
+    ((codes "c", hash no_entries) ∷ (codes "a", hash no_entries) ∷ [])
     ≡ record {
       files = (codes "a.pp", codes "y") ∷ (MAIN_MANIFEST.now, codes "x") ∷ [];
       nodes = (codes "a", hash no_entries) ∷ (codes "c", hash no_entries) ∷ [];
@@ -166,6 +176,7 @@ given : (are_distinct {X = ℕ} ((codes "a", 0) ∷ (codes "b", 0) ∷ []) ≡ t
     × (is_manifest_path (codes "data/common.json") ≡ false)
 given = (refl, refl, refl, refl, refl, refl, refl, refl)
 
--- how much a bundle may be: 64 MiB, 4 MiB a file, 1,048,576 requests
-limits : (MOST_BUNDLE_BYTES ≡ 64 * 1024 * 1024) × (MOST_FILE_BYTES ≡ 4 * 1024 * 1024) × (MOST_REQUESTS ≡ 1048576)
-limits = (refl, refl, refl)
+-- how much a bundle may be: 64 MiB, 4 MiB a file, 1,048,576 requests; and the name of a node: 255 characters
+limits : (MOST_BUNDLE_BYTES ≡ 64 * 1024 * 1024) × (MOST_FILE_BYTES ≡ 4 * 1024 * 1024)
+    × (MOST_REQUESTS ≡ 1024 * 1024) × (MOST_NAME_CHARACTERS ≡ 255)
+limits = (refl, refl, refl, refl)

@@ -24,11 +24,14 @@ abbrev pub with_nothing_behind : Members → List ℕ → Result (List ℕ) Refu
 with_nothing_behind no_members manifest = Ok manifest
 with_nothing_behind (member path d ms) manifest = bad_file path
 
--- the files by path in byte order: the main manifest alone. Where the main manifest is missing, its place in this order is bad
+-- the files by path in byte order: the main manifest alone. Where the main manifest is missing, its place in this order
+-- is bad
 abbrev pub manifest_among : Members → Result (List ℕ) Refusal
 manifest_among no_members = bad_file MAIN_MANIFEST.now
 manifest_among (member path d ms) =
-    match_ordering (text_cmp path MAIN_MANIFEST.now) (bad_file path) (result_and_then (with_nothing_behind ms) (content_of d)) (bad_file MAIN_MANIFEST.now)
+    match_ordering (text_cmp path MAIN_MANIFEST.now) (bad_file path)
+    (result_and_then (with_nothing_behind ms) (content_of d)) (bad_file MAIN_MANIFEST.now)
 
 abbrev pub manifest_of : Data → Result (List ℕ) Refusal
-manifest_of bundle = result_and_then manifest_among (ok_or (option_and_then as_object (get (codes "files") bundle)) (bad_shape (codes "files")))
+manifest_of bundle = result_and_then manifest_among
+    (ok_or (option_and_then as_object (get (codes "files") bundle)) (bad_shape (codes "files")))

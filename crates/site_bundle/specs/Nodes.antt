@@ -18,7 +18,8 @@ listed_facts key d = if is_node_name key then given_facts d else None
 -- the nodes with the one that stands under a key
 abbrev pub with_node : List Listed → List ℕ → Data → Result (List Listed) Refusal
 with_node nodes key d =
-    result_and_then (λ facts. Ok (put text_cmp key facts nodes)) (ok_or (listed_facts key d) (bad_shape (under (codes "nodes") key)))
+    result_and_then (λ facts. Ok (put text_cmp key facts nodes))
+    (ok_or (listed_facts key d) (bad_shape (under (codes "nodes") key)))
 
 -- the nodes with these, one after another
 unfoldable pub with_nodes : Members → List Listed → Result (List Listed) Refusal

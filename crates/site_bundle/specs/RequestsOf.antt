@@ -31,7 +31,8 @@ count_in d = option_and_then if_fits (option_and_then as_u64 (as_number d))
 -- facts that are not given are none, and none seen are 0
 abbrev pub facts_asked : ℕ → Option Data → Result (Option Datum) Refusal
 facts_asked index None = Ok None
-facts_asked index (Some d) = result_and_then (λ facts. Ok (Some facts)) (ok_or (given_facts d) (bad_member index (codes "facts")))
+facts_asked index (Some d) = result_and_then (λ facts. Ok (Some facts))
+    (ok_or (given_facts d) (bad_member index (codes "facts")))
 
 abbrev pub seen_asked : ℕ → Option Data → Result ℕ Refusal
 seen_asked index None = Ok 0
@@ -43,13 +44,16 @@ name_asked index key d = ok_or (name_in d) (bad_member index key)
 -- a request for a catalog: its members by name in byte order
 abbrev pub wanted_in : ℕ → Data → Data → Result Wanted Refusal
 wanted_in index request node =
-    result_and_then (λ facts. result_and_then (λ name. result_and_then (λ seen. Ok (record { node = name; facts = facts; seen = seen }))
-    (seen_asked index (get (codes "seen") request))) (name_asked index (codes "node") node)) (facts_asked index (get (codes "facts") request))
+    result_and_then (λ facts. result_and_then (λ name. result_and_then
+    (λ seen. Ok (record { node = name; facts = facts; seen = seen }))
+    (seen_asked index (get (codes "seen") request))) (name_asked index (codes "node") node))
+    (facts_asked index (get (codes "facts") request))
 
 -- a request has exactly one of `node` and `deactivate`; beside `deactivate` nothing else counts
 abbrev pub asked_by : ℕ → Data → Option Data → Option Data → Result Asked Refusal
 asked_by index request (Some node) None = result_and_then (λ w. Ok (compile w)) (wanted_in index request node)
-asked_by index request None (Some name) = result_and_then (λ node. Ok (deactivate node)) (name_asked index (codes "deactivate") name)
+asked_by index request None (Some name) = result_and_then (λ node. Ok (deactivate node))
+    (name_asked index (codes "deactivate") name)
 asked_by index request both neither = Err (bad_shape (request_path index))
 
 abbrev pub asked_in : ℕ → Data → Result Asked Refusal

@@ -31,7 +31,8 @@ impl Model for ListedNodes {
 
     ghost view = { λ n. listed n.by_name.entries };
 
-    ghost invariant = { λ n. IsTrue (are_rising (listed n.by_name.entries)) × IsTrue (have_facts (listed n.by_name.entries)) };
+    ghost invariant = { λ n. IsTrue (are_rising (listed n.by_name.entries))
+        × IsTrue (have_facts (listed n.by_name.entries)) };
 }
 
 impl ListedNodes {
@@ -43,7 +44,8 @@ impl ListedNodes {
         }
     }
 
-    /// Lists these facts for the node, in place of those that it had. Where there is no memory, the nodes stay as they were.
+    /// Lists these facts for the node, in place of those that it had. Where there is no memory, the nodes stay as they
+    /// were.
     pub fn list(&mut self, name: Text, facts: Value) -> Result<(), Memory>
         requires { IsTrue (are_facts (view facts)) }
         ensures { self.new ≡ (if is_ok result then put text_cmp name (view facts) self.old else self.old) }

@@ -2,6 +2,8 @@ ghost use Rattle.std.specs.Prelude.{◌≡◌, ◌&&◌, nat_le};
 ghost use Rattle.std.specs.List.{list_all};
 ghost use Rattle.site_bundle.specs.NodeNames.{is_node_name, is_node_name_byte};
 
+use crate::limits::MOST_NAME_CHARACTERS;
+
 /// Whether this may be the name of a node: 1 to 255 characters out of `a` to `z`, digits, `.`, `_` and `-`.
 pub fn is_node_name(word: &str) -> bool
     ensures { result ≡ is_node_name word.now }
@@ -16,9 +18,9 @@ fn has_node_name_bytes(bytes: &[u8]) -> bool
 }
 
 fn has_node_name_length(length: usize) -> bool
-    ensures { result ≡ (nat_le 1 length && nat_le length 255) }
+    ensures { result ≡ (nat_le 1 length && nat_le length MOST_NAME_CHARACTERS) }
 {
-    1 <= length && length <= 255
+    1 <= length && length <= MOST_NAME_CHARACTERS
 }
 
 fn is_node_name_byte(byte: u8) -> bool

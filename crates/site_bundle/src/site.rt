@@ -40,7 +40,8 @@ impl Model for Site {
 
     ghost view = { λ s. record { files = s.files; nodes = s.nodes } };
 
-    ghost invariant = { λ s. (s.main ≡ MAIN_MANIFEST.now) × IsSome (text_at (record { files = s.files; nodes = s.nodes }) MAIN_MANIFEST.now) };
+    ghost invariant = { λ s. (s.main ≡ MAIN_MANIFEST.now)
+        × IsSome (text_at (record { files = s.files; nodes = s.nodes }) MAIN_MANIFEST.now) };
 }
 
 impl Site {

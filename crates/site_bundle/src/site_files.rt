@@ -49,7 +49,8 @@ impl SiteFiles {
         }
     }
 
-    /// Reads a manifest, and puts it in place of what stood at its path. Where there is no memory, the files stay as they were.
+    /// Reads a manifest, and puts it in place of what stood at its path. Where there is no memory, the files stay as
+    /// they were.
     pub fn read(&mut self, alloc: Global, path: Text, text: Text) -> Result<(), Memory>
         // Places count lines in 32 bits.
         requires { length text + 1 < 2 ^ 32 }

@@ -6,7 +6,8 @@ use pp_values::memory::Memory;
 use pp_values::text::Text;
 use std::alloc::Global;
 
-/// The line that tells why no bundle was read, without a line feed: `B1`, `B2 PATH` or `B3 PATH`. Want of memory is `memory`.
+/// The line that tells why no bundle was read, without a line feed: `B1`, `B2 PATH` or `B3 PATH`. Want of memory is
+/// `memory`.
 pub fn stop_text(alloc: Global, stop: &BundleStop) -> Result<Text, Memory>
     ensures { IfOk result (λ t. t ≡ stop_line stop.now) }
 {

@@ -40,7 +40,7 @@ status_for-long : (asked : CommandLine) (input : List ℕ) → IsCommand asked �
 unfolding bundle_of
 status_for-long (manifest node) input asked long =
     ap (λ b. if b then output_status (manifest_output node input) else 11)
-        (leb-false (length input) MOST_FILE_BYTES long)
+    (leb-false (length input) MOST_FILE_BYTES long)
 status_for-long sequence input asked long =
     ap (λ b. bundle_status (result_and_then bundle_in (if b then json_of input else Err (too_large (codes "bundle")))))
     (leb-false (length input) MOST_BUNDLE_BYTES long)
@@ -55,11 +55,11 @@ status_of-run output bundle run =
     (output_status output ≡ bundle_status (Ok bundle)) ⊎ (output_status output ≡ 16)) [
       | true ↦ λ is. inr (ap output_status run.is
           ∙ ap (λ b. output_status (if b then a.Short (sequence_text bundle.requests run.replies run.history) else
-              if list_any is_refusal run.replies then a.Refused (sequence_text bundle.requests run.replies run.history)
-              else a.Done (sequence_text bundle.requests run.replies run.history))) is)
+          if list_any is_refusal run.replies then a.Refused (sequence_text bundle.requests run.replies run.history)
+          else a.Done (sequence_text bundle.requests run.replies run.history))) is)
       | false ↦ λ is. inl (ap output_status run.is
           ∙ sym (ap (outcome_status bundle.requests) (meant puppet listed MOST_ENTRIES (opens bundle.site ∷ [])
-              run.history bundle.requests run.replies run.in_turn is)))
+          run.history bundle.requests run.replies run.in_turn is)))
     ] refl
 
 status_of-bundle : (output : Output) (read : Result Bundle Refusal) → IsBundleOutput output read →
@@ -73,7 +73,7 @@ status_of-output : (asked : CommandLine) (output : Output) (input : List ℕ) �
 status_of-output (manifest node) output input is fits =
     inl (ap output_status is
     ∙ sym (ap (λ b. if b then output_status (manifest_output node input) else 11)
-        (le-leb (length input) MOST_FILE_BYTES fits)))
+    (le-leb (length input) MOST_FILE_BYTES fits)))
 status_of-output sequence output input is fits = status_of-bundle output (bundle_of input) is
 status_of-output usage output input is fits = absurd is
 status_of-output (bad_word word) output input is fits = absurd is
@@ -122,29 +122,29 @@ settled_serves : (ending : Ending) (asked : CommandLine) (input bytes : List ℕ
 settled_serves ending asked input bytes out out' err err' serves fits same =
     subst (IsSettled (status_of ending) asked) same
     (settled_by (status_of ending) serves.output asked bytes
-        (status_of-delivered ending serves.output out out' err err' serves.written)
+    (status_of-delivered ending serves.output out out' err err' serves.written)
     (status_of-output asked serves.output bytes serves.is fits))
 
 pub ends_settled : (ending : Ending) (words : List (List ℕ)) (before after : World) (input : List ℕ)
     → Ends ending words before after → before.source.left ≡ Some input →
-        IsSettled (status_of ending) (asked_of words) input
+    IsSettled (status_of ending) (asked_of words) input
 ends_settled e.Done words before after input run told =
     settled_serves e.Done (asked_of words) input run.input before.out after.out before.err after.err run.work
-        run.source.fits
+    run.source.fits
     (read_is_left _ _ input run.input told run.source.ended run.source.read.left)
 ends_settled e.Refused words before after input run told =
     settled_serves e.Refused (asked_of words) input run.input before.out after.out before.err after.err run.work
-        run.source.fits
+    run.source.fits
     (read_is_left _ _ input run.input told run.source.ended run.source.read.left)
 ends_settled e.BadWords words before after input run told =
     inl (sym (status_for-complaint (asked_of words) input run.unasked))
 ends_settled e.BadInput words before after input (inl run) told =
     settled_serves e.BadInput (asked_of words) input run.input before.out after.out before.err after.err run.work
-        run.source.fits
+    run.source.fits
     (read_is_left _ _ input run.input told run.source.ended run.source.read.left)
 ends_settled e.BadInput words before after input (inr run) told =
     let longer : length run.source.bytes ≤ length input =
-        left_is_longer _ _ input run.source.bytes told run.source.read.left in
+    left_is_longer _ _ input run.source.bytes told run.source.read.left in
     let long : limit_of (asked_of words) < length input = omega (arith, longer, run.source.long) in
     inl (sym (status_for-long (asked_of words) input run.asked long))
 ends_settled e.ReadFault words before after input run told = inr (inl refl)

@@ -15,18 +15,18 @@ use Rattle.site_commands.proofs.Told.{is_utf8-no_text}
 -- an output to a text is one to bytes that are this text
 pub IfOk-text : (r : Result Output Memory) (node text input : List ℕ) → text ≡ input → IsUtf8 text →
     IfOk r (λ output. output ≡ output_meant (manifest_meaning node text)) →
-        IfOk r (λ output. output ≡ manifest_output node input)
+    IfOk r (λ output. output ≡ manifest_output node input)
 IfOk-text (Ok output) node text input same utf8 is =
     subst (λ bytes. output ≡ manifest_output node bytes) same
     (is ∙ sym (ap (λ b. if b then output_meant (manifest_meaning node text) else a.BadInput
-        (refusal_line (bad_shape MAIN_MANIFEST.now))) (is_utf8-from_IsUtf8 text utf8)))
+    (refusal_line (bad_shape MAIN_MANIFEST.now))) (is_utf8-from_IsUtf8 text utf8)))
 IfOk-text (Err memory) node text input same utf8 is = is
 
 pub IfOk-no_text : (r : Result Output Memory) (node input : List ℕ) → (IsUtf8 input → ⊥) →
     IfOk r (λ output. output ≡ a.BadInput (refusal_line (bad_shape MAIN_MANIFEST.now))) →
-        IfOk r (λ output. output ≡ manifest_output node input)
+    IfOk r (λ output. output ≡ manifest_output node input)
 IfOk-no_text (Ok output) node input no_text is =
     is ∙ sym (ap (λ b. if b then output_meant (manifest_meaning node input) else a.BadInput
-        (refusal_line (bad_shape MAIN_MANIFEST.now)))
+    (refusal_line (bad_shape MAIN_MANIFEST.now)))
     (is_utf8-no_text input no_text))
 IfOk-no_text (Err memory) node input no_text is = is

@@ -35,7 +35,7 @@ unasked (a.BadInput text) out out' err err' did = cc did.0
 -- an output to the input that was delivered is the work on it
 pub worked : (ending : Ending) (output : Output) (asked : CommandLine) (input : List ℕ) (out out' err err' : Stream)
     → IsOutput asked output input → Delivers ending output out out' err err' →
-        Works ending asked input out out' err err'
+    Works ending asked input out out' err err'
 worked e.Done output asked input out out' err err' is did = record { output = output; is = is; written = did }
 worked e.Refused output asked input out out' err err' is did = record { output = output; is = is; written = did }
 worked e.BadInput output asked input out out' err err' is did = record { output = output; is = is; written = did }
@@ -50,7 +50,7 @@ is_command c.Sequence = tt
 
 ends_read : (ending : Ending) (words : List (List ℕ)) (input : List ℕ) (s s' out out' err err' : Stream)
     → IsCommand (asked_of words) → HasReadAll input (limit_of (asked_of words)) s s' →
-        Works ending (asked_of words) input out out' err err'
+    Works ending (asked_of words) input out out' err err'
     → Ends ending words (world s out err) (world s' out' err')
 ends_read e.Done words input s s' out out' err err' asked read work =
     record { asked = asked; input = input; source = read; work = work }
@@ -73,28 +73,28 @@ pub ends_worked : (ending : Ending) (words : List (List ℕ)) (command : Command
 ends_worked ending words command input limit s s' out out' err err' is limit_is read work =
     ends_read ending words input s s' out out' err err' (subst IsCommand (sym is) (is_command command))
     (subst (λ asked. HasReadAll input (limit_of asked) s s') (sym is)
-        (subst (λ n. HasReadAll input n s s') limit_is read))
+    (subst (λ n. HasReadAll input n s s') limit_is read))
     (subst (λ asked. Works ending asked input out out' err err') (sym is) work)
 
 ends_unread : (stop : ReadStop) (ending : Ending) (words : List (List ℕ)) (s s' out err err' : Stream)
     → IsCommand (asked_of words) → StopsBy stop (limit_of (asked_of words)) s s' →
-        GivesUp (asked_of words) stop ending err err'
+    GivesUp (asked_of words) stop ending err err'
     → Ends ending words (world s out err) (world s' out err')
 ends_unread r.Fault ending words s s' out err err' asked read did =
     subst (λ x. Ends x words (world s out err) (world s' out err')) (sym did.0)
-        (record { asked = asked; source = read; said = (did.1, refl) })
+    (record { asked = asked; source = read; said = (did.1, refl) })
 ends_unread r.TooLong ending words s s' out err err' asked read did =
     subst (λ x. Ends x words (world s out err) (world s' out err')) (sym did.0)
-        (inr (record { asked = asked; source = read; said = (did.1, refl) }))
+    (inr (record { asked = asked; source = read; said = (did.1, refl) }))
 ends_unread r.Memory ending words s s' out err err' asked read did =
     subst (λ x. Ends x words (world s out err) (world s' out err')) (sym did.0)
-        (inr (record { asked = asked; source = read; said = (did.1, refl) }))
+    (inr (record { asked = asked; source = read; said = (did.1, refl) }))
 
 -- where it was not read, the stop says so
 pub ends_stopped : (stop : ReadStop) (ending : Ending) (words : List (List ℕ)) (command : Command) (limit : ℕ)
     (s s' out err err' : Stream)
     → asked_of words ≡ asked_by command → limit ≡ limit_of (asked_by command) → StopsBy stop limit s s' →
-        GivesUp (asked_by command) stop ending err err'
+    GivesUp (asked_by command) stop ending err err'
     → Ends ending words (world s out err) (world s' out err')
 ends_stopped stop ending words command limit s s' out err err' is limit_is read did =
     ends_unread stop ending words s s' out err err' (subst IsCommand (sym is) (is_command command))

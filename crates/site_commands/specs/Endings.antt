@@ -78,7 +78,7 @@ Ends e.ReadFault words before after = HasStopped (codes "read fault") (HasFailed
     before after
 Ends e.Memory words before after =
     HasWorked e.Memory words before after ⊎ HasStopped (codes "memory") (HasReadSome (limit_of (asked_of words))) words
-        before after
+    before after
 
 -- the status of a run that writes this output
 abbrev pub output_status : Output → ℕ

@@ -42,7 +42,7 @@ output_meant (Err fault) = a.Fault (line (fault_text fault))
 abbrev pub manifest_output : List ℕ → List ℕ → Output
 manifest_output node input =
     if is_utf8 input then output_meant (manifest_meaning node input) else a.BadInput
-        (refusal_line (bad_shape MAIN_MANIFEST.now))
+    (refusal_line (bad_shape MAIN_MANIFEST.now))
 
 -- `sequence`: whether a reply tells that what was asked for can't be had
 abbrev pub is_refusal : {C F : Type 0} → ReplyOf C F → Bool

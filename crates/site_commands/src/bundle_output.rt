@@ -9,10 +9,8 @@ ghost use Rattle.site_commands.specs.Outputs.{HasRun, IsBundleOutput, is_refusal
 ghost use Rattle.site_sequence.specs.SequenceLaws.{is_memory};
 ghost use Rattle.site_commands.specs.Stops.{TellsStop};
 
-use crate::output::Output;
 use crate::lines::line;
-use site_sequence::replies::Replies;
-use site_sequence::sequence::{SequenceResult, run_sequence};
+use crate::output::Output;
 use compile_core::language::PuppetLanguage;
 use pp_values::memory::Memory;
 use pp_values::text::Text;
@@ -26,6 +24,8 @@ use site_core::language::Language;
 use site_core::reply::{Reply, ReplyOf};
 use site_docs::journals::write_journal;
 use site_docs::replies::write_reply;
+use site_sequence::replies::Replies;
+use site_sequence::sequence::{SequenceResult, run_sequence};
 use std::alloc::Global;
 
 /// The output to a bundle of these bytes.

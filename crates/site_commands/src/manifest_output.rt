@@ -9,8 +9,8 @@ ghost use Rattle.site_bundle.specs.declared.limits.TheConstants.{MOST_FILE_BYTES
 ghost use Rattle.compile_core.specs.Puppet.{manifest_meaning};
 ghost use Rattle.site_commands.specs.World.{line};
 
-use crate::output::Output;
 use crate::lines::line;
+use crate::output::Output;
 use compile_core::language::PuppetLanguage;
 use export_store::version::Version;
 use pp_values::fact_pairs::FactPairs;

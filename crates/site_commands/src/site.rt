@@ -9,10 +9,10 @@ ghost use Rattle.site_commands.specs.Limits.{limit_of};
 ghost use Rattle.site_commands.specs.Program.{HasEnded};
 ghost use Rattle.site_commands.specs.Endings.{Ends, IsComplaint, IsSettled};
 
-use crate::output::Output;
 use crate::bundle_output::bundle_output;
 use crate::ending::Ending;
 use crate::manifest_output::manifest_output;
+use crate::output::Output;
 use crate::say::{say, say_word};
 use crate::words::{Command, Complaint, read_words};
 use pp_values::memory::Memory;

@@ -22,17 +22,16 @@ impl<T> Promise<T> for AnyResult {
 /// Does the job on a thread whose stack is large enough for all limits at once, or here where no thread can be made.
 ///
 /// Nothing but the job makes a `T`, so what comes is what the job gave.
-pub fn on_large_stack<
-    R: Threads,
-    F: FnOnce() -> T + Send + 'static,
-    T: Send + Drop + 'static,
->(
+pub fn on_large_stack<R: Threads, F: FnOnce() -> T + Send + 'static, T: Send + Drop + 'static>(
     rt: &R,
     job: F,
 ) -> T
     requires { F.pre job }
 {
-    match Builder::new().stack_size(STACK).spawn_with(rt, AnyResult, job) {
+    match Builder::new()
+        .stack_size(STACK)
+        .spawn_with(rt, AnyResult, job)
+    {
         Ok(thread) => thread.join(rt),
         Err(refused) => (refused.value)(),
     }

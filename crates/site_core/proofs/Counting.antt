@@ -31,8 +31,8 @@ module _ {S : Type 0} where
   pub counts_raised : (old new : BTreeMap ℕ ℕ) (author : ℕ) (h : List (Event S)) (e : Event S) →
       IsTrue (is_by author e) → AreCountsOf old h →
       ((other : ℕ) → count_in new other ≡ cond (author == other) (count_in old other + 1) (count_in old other)) →
-          AreCountsOf new (h ++ e ∷ [])
+      AreCountsOf new (h ++ e ∷ [])
   counts_raised old new author h e by counted raised other =
       raised other ∙ ap (λ n. cond (author == other) (n + 1) n) (counted other)
       ∙ ap (λ b. cond b (calls_of other h + 1) (calls_of other h)) (sym (is_by_other author other e by))
-          ∙ sym (calls_of-push other h e)
+      ∙ sym (calls_of-push other h e)

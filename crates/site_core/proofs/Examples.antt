@@ -60,8 +60,14 @@ abbrev none : Datum
 none = hash no_entries
 
 abbrev published : ℕ → ℕ → ℕ → List ℕ → Event ℕ
-published author call k node = publishes (record { author = author; call = call; node = node; facts = none; k = k;
-    set = one })
+published author call k node = publishes (record {
+  author = author;
+  call = call;
+  node = node;
+  facts = none;
+  k = k;
+  set = one;
+})
 
 abbrev removed : ℕ → ℕ → List ℕ → Event ℕ
 removed author call node = deactivates (record { author = author; call = call; node = node })
@@ -141,8 +147,12 @@ empty_beside_a_right_catalog legal = let wrong : 1 ≡ 0 = ap (λ (s : ExportSet
 
 published_and_removed :
     after_steps toy 3 (opened_state 5) (snap ∷ done 0 0 (codes "a") none ∷ deactivate 0 (codes "a") ∷ [])
-    ≡ Some (record { history = short; version = fin.remove (fin.insert fin.empty (codes "a") one) (codes "a"); site = 5;
-        flights = [] })
+    ≡ Some (record {
+      history = short;
+      version = fin.remove (fin.insert fin.empty (codes "a") one) (codes "a");
+      site = 5;
+      flights = [];
+    })
 published_and_removed = refl
 
 -- the compile that ends last publishes last, though it began first
@@ -158,8 +168,12 @@ two_in_flight = refl
 
 begins_with_all_entries :
     after_steps toy 9 (opened_state 5) (deactivate 0 (codes "a") ∷ snap ∷ [])
-    ≡ Some (record { history = opens 5 ∷ removed 0 0 (codes "a") ∷ []; version = fin.remove fin.empty (codes "a");
-        site = 5; flights = 2 ∷ [] })
+    ≡ Some (record {
+      history = opens 5 ∷ removed 0 0 (codes "a") ∷ [];
+      version = fin.remove fin.empty (codes "a");
+      site = 5;
+      flights = 2 ∷ [];
+    })
 begins_with_all_entries = refl
 
 no_room : after_steps toy 2 (opened_state 5) (snap ∷ snap ∷ done 0 0 (codes "a") none ∷ done 0 0 (codes "a") none ∷

@@ -24,7 +24,7 @@ module _ {S C F : Type 0} (meaning : Meaning S C F) where
   pub kept_push : (core : Core S) (version next : Sets) (site : S) (e : Event S) → IsKept meaning core version site →
       MayFollow meaning core.history e →
       is_opening e ≡ false → length core.history < core.limit →
-          next ≡ sets_after (sets_at core.history (length core.history)) e →
+      next ≡ sets_after (sets_at core.history (length core.history)) e →
       IsKept meaning (with_event core e) next site
   kept_push core version next site e kept follows later room next_is =
       record {
@@ -40,7 +40,7 @@ module _ {S C F : Type 0} (meaning : Meaning S C F) where
       next ≡ sets_after (sets_at seen.history (length seen.history)) e → IsKept meaning (with_event inside e) next site
   kept_append inside seen same version next site e kept =
       let P : Core S → Type 0 = λ core. MayFollow meaning core.history e → is_opening e ≡ false →
-          length core.history < core.limit →
+      length core.history < core.limit →
       next ≡ sets_after (sets_at core.history (length core.history)) e →
-          IsKept meaning (with_event inside e) next site in
+      IsKept meaning (with_event inside e) next site in
       subst P same (kept_push inside version next site e kept)

@@ -14,9 +14,11 @@ module _ {S C F : Type 0} (meaning : Meaning S C F) where
   EachFollows-push : (h es : List (Event S)) (e : Event S) → EachFollows meaning h es → MayFollow meaning (h ++ es) e →
       EachFollows meaning h (es ++ e ∷ [])
   EachFollows-push h [] e all last = (subst (λ x. MayFollow meaning x e) (append-nil h) last, tt)
-  EachFollows-push h (x ∷ es) e all last =
-      (all.0, EachFollows-push (h ++ x ∷ []) es e all.1
-          (subst (λ y. MayFollow meaning y e) (sym (append_assoc h (x ∷ []) es)) last))
+  EachFollows-push h (x ∷ es) e all last = (
+    all.0,
+    EachFollows-push (h ++ x ∷ []) es e all.1
+        (subst (λ y. MayFollow meaning y e) (sym (append_assoc h (x ∷ []) es)) last),
+  )
 
   pub Legal-push : (h : List (Event S)) (e : Event S) → Legal meaning h → MayFollow meaning h e →
       Legal meaning (h ++ e ∷ [])

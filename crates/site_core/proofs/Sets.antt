@@ -72,10 +72,10 @@ module _ {S : Type 0} where
   get-sets_after sets (opens site) node = refl
   get-sets_after sets (publishes p) node =
       fin.get-insert nat_list_cmp_total sets p.node p.set node
-          ∙ ap (λ b. cond b (Some p.set) (fin.get sets node)) (sym (texts_ties node p.node))
+      ∙ ap (λ b. cond b (Some p.set) (fin.get sets node)) (sym (texts_ties node p.node))
   get-sets_after sets (deactivates d) node =
       fin.get-remove nat_list_cmp_total sets d.node node
-          ∙ ap (λ b. cond b None (fin.get sets node)) (sym (texts_ties node d.node))
+      ∙ ap (λ b. cond b None (fin.get sets node)) (sym (texts_ties node d.node))
 
   get-sets_from : (sets : Sets) (es : List (Event S)) (node : List ℕ) →
       fin.get (sets_from sets es) node ≡ latest_or node (reverse es) (fin.get sets node)
@@ -84,9 +84,9 @@ module _ {S : Type 0} where
   get-sets_from sets (e ∷ es) node =
       get-sets_from (sets_after sets e) es node ∙ ap (latest_or node (reverse es)) (get-sets_after sets e node)
       ∙ sym (latest_or-append node (reverse es) (e ∷ []) (fin.get sets node))
-          ∙ ap (λ fs. latest_or node fs (fin.get sets node)) (sym (reverse-append (e ∷ []) es))
+      ∙ ap (λ fs. latest_or node fs (fin.get sets node)) (sym (reverse-append (e ∷ []) es))
 
   pub latest_sets : SetsAreTheLatest S
   latest_sets h k node =
       get-sets_from fin.empty (take k h) node ∙ ap (latest_or node (reverse (take k h))) (fin.get-empty text_cmp node)
-          ∙ latest_or-none node (reverse (take k h))
+      ∙ latest_or-none node (reverse (take k h))

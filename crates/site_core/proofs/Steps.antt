@@ -54,7 +54,7 @@ longer h e flights all = All-weaker (Within (length h)) (Within (length (h ++ e 
 without : (n : ℕ) (flights : List ℕ) (flight : ℕ) → All (Within n) flights → All (Within n) (remove flights flight)
 without n flights flight all =
     All-append (Within n) (take flight flights) (drop (suc flight) flights) (All-take (Within n) flight flights all)
-        (All-drop (Within n) (suc flight) flights all)
+    (All-drop (Within n) (suc flight) flights all)
 
 module _ {S C F : Type 0} (meaning : Meaning S C F) (limit : ℕ) where
   entry_sound : (s : State S) (e : Event S) → IsSoundState meaning limit s → MayFollow meaning s.history e →
@@ -70,8 +70,10 @@ module _ {S C F : Type 0} (meaning : Meaning S C F) (limit : ℕ) where
 
   without_sound : (s : State S) (flight : ℕ) → IsSoundState meaning limit s →
       IsSoundState meaning limit (without_flight s flight)
-  without_sound s flight sound = record { kept = sound.kept;
-      flights = without (length s.history) s.flights flight sound.flights }
+  without_sound s flight sound = record {
+    kept = sound.kept;
+    flights = without (length s.history) s.flights flight sound.flights;
+  }
 
   legal_length : (core : Core S) → IsSound meaning core → 1 ≤ length core.history
   legal_length core sound = elim core.history as (λ h. Legal meaning h → 1 ≤ length h)
@@ -88,18 +90,18 @@ module _ {S C F : Type 0} (meaning : Meaning S C F) (limit : ℕ) where
   done_sound : (s t : State S) (flight author : ℕ) (node : List ℕ) (facts : Datum) (k : ℕ) →
       IsSoundState meaning limit s → length s.history < limit →
       slice_get s.flights flight ≡ Some k → after_done meaning limit s flight author node facts k ≡ Some t →
-          IsSoundState meaning limit t
+      IsSoundState meaning limit t
   done_sound s t flight author node facts k sound room at is =
       let found = map_some _ (option_and_then made_set (meaning_at meaning s.history k node facts)) t is in
       let within : Within (length s.history) k =
       subst (Within (length s.history)) (get_or_from_slice_get s.flights flight k 0 at)
       (All-get_or (Within (length s.history)) s.flights flight 0 (slice_get_within s.flights flight k at)
-          sound.flights) in
+      sound.flights) in
       subst (IsSoundState meaning limit) found.2
       (without_sound (with_entry s (publication s.history author node facts k found.0)) flight
       (entry_sound s (publication s.history author node facts k found.0) sound
       (record { numbered = refl; some = within.0; earlier = within.1; exported = exports_are_at _ found.0 found.1 })
-          refl room))
+      refl room))
 
   step_sound : (s t : State S) (step : Step) → IsSoundState meaning limit s → after_step meaning limit s step ≡ Some t →
       IsSoundState meaning limit t
@@ -108,7 +110,7 @@ module _ {S C F : Type 0} (meaning : Meaning S C F) (limit : ℕ) where
   step_sound s t (done flight author node facts) sound is =
       let room = when_some (nat_lt (length s.history) limit) _ t is in
       let call = and_then_some (after_done meaning limit s flight author node facts) (slice_get s.flights flight) t
-          room.1 in
+      room.1 in
       done_sound s t flight author node facts call.0 sound (ltb-true (length s.history) limit room.0) call.1 call.2
   step_sound s t (drop_call flight) sound is =
       let there = when_some (nat_lt flight (length s.flights)) (Some (without_flight s flight)) t is in
@@ -116,10 +118,10 @@ module _ {S C F : Type 0} (meaning : Meaning S C F) (limit : ℕ) where
       subst (IsSoundState meaning limit) e (without_sound s flight sound)
   step_sound s t (deactivate author node) sound is =
       let room = when_some (nat_lt (length s.history) limit) (Some (with_entry s (deactivation s.history author node)))
-          t is in
+      t is in
       let e : with_entry s (deactivation s.history author node) ≡ t = cc in
       subst (IsSoundState meaning limit) e (entry_sound s (deactivation s.history author node) sound refl refl
-          (ltb-true (length s.history) limit room.0))
+      (ltb-true (length s.history) limit room.0))
 
   steps_sound : (steps : List Step) (s t : State S) → IsSoundState meaning limit s →
       after_steps meaning limit s steps ≡ Some t → IsSoundState meaning limit t
@@ -131,8 +133,11 @@ module _ {S C F : Type 0} (meaning : Meaning S C F) (limit : ℕ) where
   opened_sound : (site : S) → 1 ≤ limit → limit ≤ MOST_ENTRIES → IsSoundState meaning limit (opened_state site)
   opened_sound site some most =
       record {
-        kept = record { sound = record { legal = tt; within = some; bounded = most }; version_is = refl;
-            site_is = refl };
+        kept = record {
+          sound = record { legal = tt; within = some; bounded = most };
+          version_is = refl;
+          site_is = refl;
+        };
         flights = All-nil (Within 1);
       }
 

@@ -16,7 +16,7 @@ pub record Core (S : Type 0) : Type 0 where
 abbrev pub coded_core : {S : Type 0} → Coded S → Coded (Core S)
 coded_core {S} site =
     code_by (List (Event S) × ℕ) (coded× (coded_events site) coded_ℕ) (λ c. (c.history, c.limit))
-        (λ p. record { history = p.0; limit = p.1 }) (λ _. refl)
+    (λ p. record { history = p.0; limit = p.1 }) (λ _. refl)
 
 -- just opened
 abbrev pub opened : {S : Type 0} → S → ℕ → Core S

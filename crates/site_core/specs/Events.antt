@@ -71,7 +71,7 @@ coded_publication =
     (coded× (coded× coded_ℕ coded_ℕ) (coded× (coded× coded_text coded_datum) (coded× coded_ℕ coded_export_set)))
     (λ p. ((p.author, p.call), ((p.node, p.facts), (p.k, p.set))))
     (λ q. record { author = q.0.0; call = q.0.1; node = q.1.0.0; facts = q.1.0.1; k = q.1.1.0; set = q.1.1.1 })
-        (λ _. refl)
+    (λ _. refl)
 
 abbrev pub coded_deactivation : Coded Deactivation
 coded_deactivation =

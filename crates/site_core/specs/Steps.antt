@@ -61,7 +61,7 @@ module _ {S C F : Type 0} (meaning : Meaning S C F) (limit : ℕ) where
   after_step s snap = Some (with_flight s)
   after_step s (done flight author node facts) =
       if nat_lt (length s.history) limit then option_and_then (after_done s flight author node facts)
-          (slice_get s.flights flight) else None
+      (slice_get s.flights flight) else None
   after_step s (drop_call flight) = if nat_lt flight (length s.flights) then Some (without_flight s flight) else None
   after_step s (deactivate author node) = if nat_lt (length s.history) limit then Some
       (with_entry s (deactivation s.history author node)) else None

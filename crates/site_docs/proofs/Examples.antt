@@ -31,7 +31,7 @@ fault what = record { at = record { file = codes "m.pp"; line = 7 }; what = what
 names : map (λ name. name.now) FAULT_NAMES ≡
     codes "Syntax" ∷ codes "UnknownVariable" ∷ codes "Reassigned" ∷ codes "UnknownClass" ∷ codes "UnknownType" ∷
     codes "UnknownFunction" ∷ codes "WrongArguments" ∷ codes "TypeMismatch" ∷ codes "MissingParameter" ∷
-        codes "UnknownParameter" ∷
+    codes "UnknownParameter" ∷
     codes "BadOperand" ∷ codes "NumberRange" ∷ codes "ZeroDivisor" ∷ codes "Duplicate" ∷ codes "AlreadySet" ∷
     codes "NoOverrideTarget" ∷ codes "NoRelationTarget" ∷ codes "Cycle" ∷ codes "NoNode" ∷ codes "LookupMissing" ∷
     codes "LookupLoop" ∷ codes "MergeMismatch" ∷ codes "BadData" ∷ codes "BadInterpolation" ∷ codes "Failed" ∷
@@ -44,45 +44,73 @@ lines : (fault_text (fault Syntax) ≡ codes "F1 m.pp:7 Syntax")
     × (fault_text (fault (Failed [])) ≡ codes "F25 m.pp:7 Failed")
     × (fault_text (fault (Failed (97 ∷ 10 ∷ 98 ∷ []))) ≡ codes "F25 m.pp:7 Failed a b")
     × (fault_text (fault (AlreadySet (subject.Kind (codes "web::vhost")) (codes "ip"))) ≡ codes
-        "F15 m.pp:7 AlreadySet Web::Vhost ip")
+    "F15 m.pp:7 AlreadySet Web::Vhost ip")
     × (fault_text (fault (Cycle (record { kind = codes "notify"; title = codes "f" } ∷
-        record { kind = codes "file"; title = codes "/a" } ∷ []))) ≡ codes
-        "F18 m.pp:7 Cycle Notify[f] -> File[/a] -> Notify[f]")
+    record { kind = codes "file"; title = codes "/a" } ∷ []))) ≡ codes
+    "F18 m.pp:7 Cycle Notify[f] -> File[/a] -> Notify[f]")
     × (fault_text (fault (Duplicate (record { kind = codes "notify"; title = codes "a" })
-        (record { file = codes "n.pp"; line = 10 }))) ≡ codes "F14 m.pp:7 Duplicate Notify[a] n.pp:10")
+    (record { file = codes "n.pp"; line = 10 }))) ≡ codes "F14 m.pp:7 Duplicate Notify[a] n.pp:10")
 unfolding fault_text plain_line digits
 lines = (refl, refl, refl, refl, refl, refl)
 
 abbrev main_class : Held
-main_class = record { item = record { kind = codes "class"; title = codes "main"; attributes = [];
-    tags = codes "class" ∷ codes "main" ∷ [] }; inside = [] }
+main_class = record {
+  item = record {
+    kind = codes "class";
+    title = codes "main";
+    attributes = [];
+    tags = codes "class" ∷ codes "main" ∷ [];
+  };
+  inside = [];
+}
 
 abbrev notify : List Setting → Held
-notify attributes = record { item = record { kind = codes "notify"; title = codes "hi"; attributes = attributes;
-    tags = codes "hi" ∷ codes "notify" ∷ [] }; inside = 0 ∷ [] }
+notify attributes = record {
+  item = record {
+    kind = codes "notify";
+    title = codes "hi";
+    attributes = attributes;
+    tags = codes "hi" ∷ codes "notify" ∷ [];
+  };
+  inside = 0 ∷ [];
+}
 
 -- a catalog with nothing but its first resource, and one with an attribute and an edge; log lines are no part of the
 -- text
-catalogs : (catalog_text (record { node = codes "a"; resources = main_class ∷ []; edges = [];
-    log = record { level = codes "notice"; text = codes "x" } ∷ [] })
+catalogs : (catalog_text (record {
+  node = codes "a";
+  resources = main_class ∷ [];
+  edges = [];
+  log = record { level = codes "notice"; text = codes "x" } ∷ [];
+})
     ≡ codes "{\"catalog\":1,\"edges\":[],\"node\":\"a\",\"resources\":[{\"attrs\":{},\"in\":[],\"tags\":[\"class\",\"main\"],\"title\":\"main\",\"type\":\"Class\"}]}")
-    × (catalog_text (record { node = codes "a"; resources = notify ((codes "message", d.text (codes "hello")) ∷ []) ∷
-        []; edges = record { from = 1; to = 0; signal = true } ∷ []; log = [] })
+    × (catalog_text (record {
+      node = codes "a";
+      resources = notify ((codes "message", d.text (codes "hello")) ∷ []) ∷
+          [];
+      edges = record { from = 1; to = 0; signal = true } ∷ [];
+      log = [];
+    })
     ≡ codes "{\"catalog\":1,\"edges\":[[1,0,true]],\"node\":\"a\",\"resources\":[{\"attrs\":{\"message\":\"hello\"},\"in\":[0],\"tags\":[\"hi\",\"notify\"],\"title\":\"hi\",\"type\":\"Notify\"}]}")
 unfolding held_object held_data edge_data catalog_object catalog_data digits serde_json_on_literals
 catalogs = (refl, refl)
 
 abbrev listing : List ℕ → List (List ℕ) → SiteView
 listing manifest [] = record { files = (MAIN_MANIFEST.now, manifest) ∷ []; nodes = [] }
-listing manifest (n ∷ ns) = record { files = (MAIN_MANIFEST.now, manifest) ∷ []; nodes = (n, d.hash d.no_entries) ∷
-    (listing manifest ns).nodes }
+listing manifest (n ∷ ns) = record {
+  files = (MAIN_MANIFEST.now, manifest) ∷ [];
+  nodes = (n, d.hash d.no_entries) ∷
+      (listing manifest ns).nodes;
+}
 
 -- sites with no node, and with two of which one has a fact
 sites : (site_text (listing [] []) ≡ codes "{\"files\":{\"manifests/site.pp\":\"\"},\"nodes\":{}}")
     × (site_text (record {
       files = (MAIN_MANIFEST.now, codes "x") ∷ (codes "modules/a/init.pp", codes "y") ∷ [];
-      nodes = (codes "a", d.hash d.no_entries) ∷ (codes "b.c",
-          d.hash (d.entry (d.text (codes "os")) (d.flag true) d.no_entries)) ∷ [];
+      nodes = (codes "a", d.hash d.no_entries) ∷ (
+        codes "b.c",
+        d.hash (d.entry (d.text (codes "os")) (d.flag true) d.no_entries),
+      ) ∷ [];
     })
     ≡ codes "{\"files\":{\"manifests/site.pp\":\"x\",\"modules/a/init.pp\":\"y\"},\"nodes\":{\"a\":{},\"b.c\":{\"os\":true}}}")
 unfolding site_object site_data digits serde_json_on_literals
@@ -90,14 +118,25 @@ sites = (refl, refl)
 
 -- entry `call` of author 0, who published this set for node `a`
 abbrev published : ℕ → ℕ → List Exported → Event SiteView
-published call k set = publishes (record { author = 0; call = call; node = codes "a"; facts = d.hash d.no_entries;
-    k = k; set = record { items = set } })
+published call k set = publishes (record {
+  author = 0;
+  call = call;
+  node = codes "a";
+  facts = d.hash d.no_entries;
+  k = k;
+  set = record { items = set };
+})
 
 abbrev me : Exported
 me = record {
   node_place = record { file = codes "manifests/site.pp"; line = 1 };
-  item = record { kind = codes "notify"; title = codes "me"; attributes = []; tags = codes "class" ∷ codes "main" ∷
-      codes "me" ∷ codes "notify" ∷ [] };
+  item = record {
+    kind = codes "notify";
+    title = codes "me";
+    attributes = [];
+    tags = codes "class" ∷ codes "main" ∷
+        codes "me" ∷ codes "notify" ∷ [];
+  };
 }
 
 -- an empty manifest, compiled once

@@ -22,7 +22,7 @@ unfolding held_data held_object
 held_no_float h =
     either _ _ (settings_no_float h.item.attributes)
     (either _ _ (all_no_float index_data (λ i. refl) h.inside)
-        (either _ _ (all_no_float string (λ t. refl) h.item.tags) refl))
+    (either _ _ (all_no_float string (λ t. refl) h.item.tags) refl))
 
 edge_no_float : (e : Edge) → has_float (edge_data e) ≡ false
 unfolding edge_data
@@ -48,7 +48,7 @@ opening_no_float n s = either _ _ (site_no_float s) refl
 
 publication_no_float : (author call entry k : ℕ) (facts : Datum) (node : List ℕ) (set : List Exported) →
     has_float (publication_object author call entry (form facts) k node
-        (array (items_of (map export_data set)))) ≡ false
+    (array (items_of (map export_data set)))) ≡ false
 unfolding publication_object
 publication_no_float author call entry k facts node set =
     either _ _ (form_no_float facts) (either _ _ (all_no_float export_data export_no_float set) refl)

@@ -24,5 +24,5 @@ in_line_more old one two rest piece after whole first second parts held =
     ∙ append_assoc (old ++ piece) (32 ∷ []) (map in_line after)
     ∙ append_assoc old piece (32 ∷ map in_line after)
     ∙ ap (λ x. old ++ x) (sym (ap (map in_line) parts.0 ∙ map-append in_line piece (10 ∷ after)
-        ∙ ap (λ x. x ++ (32 ∷ map in_line after)) (in_line_whole piece parts.1)))
+    ∙ ap (λ x. x ++ (32 ∷ map in_line after)) (in_line_whole piece parts.1)))
     ∙ held

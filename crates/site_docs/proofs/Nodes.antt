@@ -31,12 +31,12 @@ pub files_members : (ms : Members) (made files : List Filed) → ms ≡ put_all 
     is_sorted text_cmp files ≡ true → ms ≡ setting_members (file_settings files)
 files_members ms made files put same sorted =
     put ∙ ap (λ fs. put_all (file_settings fs) no_members) same
-        ∙ put_all-settings (file_settings files) (rises-files files sorted)
+    ∙ put_all-settings (file_settings files) (rises-files files sorted)
 
 pub site_of_parts : (j files nodes : Data) (fs ns : Members) (s : SiteView) → j ≡ site_object files nodes →
     files ≡ object fs → fs ≡ setting_members (file_settings s.files) → nodes ≡ object ns →
-        ns ≡ setting_members s.nodes → j ≡ site_data s
+    ns ≡ setting_members s.nodes → j ≡ site_data s
 unfolding site_data
 site_of_parts j files nodes fs ns s made has filed lists named =
     made ∙ ap (λ f. site_object f nodes) (has ∙ ap object filed)
-        ∙ ap (site_object (object (setting_members (file_settings s.files)))) (lists ∙ ap object named)
+    ∙ ap (site_object (object (setting_members (file_settings s.files)))) (lists ∙ ap object named)

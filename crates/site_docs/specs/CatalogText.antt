@@ -25,7 +25,7 @@ held_object attributes inside tags title kind =
 unfoldable pub held_data : Held → Data
 held_data h =
     held_object (object (setting_members h.item.attributes)) (array (items_of (map index_data h.inside)))
-        (array (items_of (map string h.item.tags)))
+    (array (items_of (map string h.item.tags)))
     h.item.title (kind_text h.item.kind)
 
 unfoldable pub edge_data : Edge → Data

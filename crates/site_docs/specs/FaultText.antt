@@ -113,7 +113,7 @@ in_line b = if b == 10 then 32 else b
 unfoldable pub plain_line : Fault → List ℕ
 plain_line f =
     codes "F" ++ (decimal (fault_number f.what) ++ (codes " " ++
-        (place_text f.at ++ (codes " " ++ (fault_name f.what ++ spaced (details f.what))))))
+    (place_text f.at ++ (codes " " ++ (fault_name f.what ++ spaced (details f.what))))))
 
 -- the line that tells the fault, without a line feed at its end
 unfoldable pub fault_text : Fault → List ℕ

@@ -26,7 +26,7 @@ export_object at attributes tags title kind =
 unfoldable pub export_data : Exported → Data
 export_data e =
     export_object (place_text e.node_place) (object (setting_members e.item.attributes))
-        (array (items_of (map string e.item.tags)))
+    (array (items_of (map string e.item.tags)))
     e.item.title (kind_text e.item.kind)
 
 -- an entry that opens a site; 1 is the version of this form

@@ -25,7 +25,7 @@ served_text reply entry k catalog =
 unfoldable pub refused_object : (reply k : ℕ) → List ℕ → Data
 refused_object reply k fault =
     object (member (codes "fault") (string fault) (member (codes "k") (index_data k)
-        (member (codes "reply") (index_data reply) no_members)))
+    (member (codes "reply") (index_data reply) no_members)))
 
 unfoldable pub full_object : (reply length : ℕ) → Data
 full_object reply length = object (member (codes "full") (index_data length)
@@ -34,12 +34,12 @@ full_object reply length = object (member (codes "full") (index_data length)
 unfoldable pub ahead_object : (reply length seen : ℕ) → Data
 ahead_object reply length seen =
     object (member (codes "length") (index_data length)
-        (member (codes "reply") (index_data reply) (member (codes "seen") (index_data seen) no_members)))
+    (member (codes "reply") (index_data reply) (member (codes "seen") (index_data seen) no_members)))
 
 unfoldable pub unknown_object : (reply k : ℕ) → List ℕ → Data
 unknown_object reply k node =
     object (member (codes "k") (index_data k) (member (codes "reply") (index_data reply)
-        (member (codes "unknown") (string node) no_members)))
+    (member (codes "unknown") (string node) no_members)))
 
 unfoldable pub deactivated_object : (reply entry : ℕ) → Data
 deactivated_object reply entry = object (member (codes "entry") (index_data entry)

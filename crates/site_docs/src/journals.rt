@@ -134,7 +134,7 @@ fn publication_object(
 ) -> Result<Json, AllocError>
     ensures { IfOk result (λ j. json_view j
         ≡ object_of_publication numbers.author numbers.call numbers.entry (json_view facts) k node.now
-            (json_view set)) }
+        (json_view set)) }
 {
     json!(in alloc; {
         "author": numbers.author,

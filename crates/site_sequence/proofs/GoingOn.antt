@@ -27,7 +27,7 @@ module _ {S C F : Type 0} (meaning : Meaning S C F) (listed : S → List ℕ →
   pub has_run_all : (start : List (Event S)) (all : List Asked) (replies : List (ReplyOf C F))
       (h after : List (Event S)) (left : List Request) →
       length left < 1 → GoesOn start all replies h (all_asked left) → after ≡ h →
-          AnsweredInTurn meaning listed limit start all replies after
+      AnsweredInTurn meaning listed limit start all replies after
   has_run_all start all replies h after [] none on is =
       subst (AnsweredInTurn meaning listed limit start all replies) (sym is) (has_run start all replies h on)
   has_run_all start all replies h after (request ∷ left) none on is = absurd (omega arith)

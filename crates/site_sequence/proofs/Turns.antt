@@ -43,21 +43,23 @@ module _ {S C F : Type 0} where
   adds : (h : List (Event S)) (reply : ReplyOf C F) (e : Event S) → is_memory reply ≡ false →
       named_entry reply ≡ Some (length h) →
       IsTrue (is_made_from (length h) e) → Comes h (turn reply (h ++ e ∷ []))
-  adds h reply e told named in_turn = record { told = told;
-      kind = inr (record { entry = e; more = refl; named = named; in_turn = in_turn }) }
+  adds h reply e told named in_turn = record {
+    told = told;
+    kind = inr (record { entry = e; more = refl; named = named; in_turn = in_turn });
+  }
 
   comes_meant : (limit : ℕ) (h : List (Event S)) (node : List ℕ) (facts : Datum) (meant : Result (C × ExportSet) F) →
       Comes h (turn_meant limit h node facts meant)
   comes_meant limit h node facts (Err fault) = stays h (a.Refused (length h) fault) refl refl
   comes_meant limit h node facts (Ok made) =
       comes_if h (nat_lt (length h) limit) _ _ (adds h (a.Served (length h) (length h) made.0) _ refl refl
-          (eq-eqb (length h) (length h) refl))
+      (eq-eqb (length h) (length h) refl))
       (stays h (a.HistoryFull (length h)) refl refl)
 
   comes_removed : (limit : ℕ) (h : List (Event S)) (node : List ℕ) → Comes h (turn_removed {C = C} {F = F} limit h node)
   comes_removed limit h node =
       comes_if h (nat_lt (length h) limit) _ _ (adds h (a.Deactivated (length h)) _ refl refl refl)
-          (stays h (a.HistoryFull (length h)) refl refl)
+      (stays h (a.HistoryFull (length h)) refl refl)
 
 module _ {S C F : Type 0} (meaning : Meaning S C F) (listed : S → List ℕ → Option Datum) (limit : ℕ) where
   comes_known : (h : List (Event S)) (site : S) (node : List ℕ) (facts : Option Datum) →
@@ -80,9 +82,9 @@ module _ {S C F : Type 0} (meaning : Meaning S C F) (listed : S → List ℕ →
       Comes h t
   comes h (compile w) t is =
       comes_unless h (nat_lt (length h) w.seen) (turn (a.SeenAhead (length h)) h) _ t
-          (stays h (a.SeenAhead (length h)) refl refl)
+      (stays h (a.SeenAhead (length h)) refl refl)
       (comes_at h (λ site. turn_known meaning listed limit h site w.node (facts_or w.facts (listed site w.node)))
-          (site_at h (length h)) t
+      (site_at h (length h)) t
       (λ site. comes_known h site w.node (facts_or w.facts (listed site w.node)))) is
   comes h (deactivate node) t is = let e : turn_removed limit h node ≡ t = cc in
       subst (Comes h) e (comes_removed limit h node)
@@ -100,14 +102,17 @@ module _ {S C F : Type 0} (meaning : Meaning S C F) (listed : S → List ℕ →
   count_on h next after reply xs (inl silent) up =
       rw silent.unnamed (subst (λ es. CountUp (length es) (length after) xs) silent.same up)
   count_on h next after reply xs (inr added) up =
-      rw added.named (refl, subst (λ n. CountUp n (length after) xs)
-          (ap length added.more ∙ length-append h (added.entry ∷ [])) up)
+      rw added.named (
+        refl,
+        subst (λ n. CountUp n (length after) xs)
+            (ap length added.more ∙ length-append h (added.entry ∷ [])) up,
+      )
 
   pub names : RepliesNameEntries meaning listed limit
   names h after [] [] run = ap length (sym run)
   names h after (asked ∷ requests) (reply ∷ replies) run =
       count_on h run.0 after reply (filter_map named_entry replies) (kind_of h run.0 asked reply run.1)
-          (names run.0 after requests replies run.2)
+      (names run.0 after requests replies run.2)
   names h after [] (reply ∷ replies) run = absurd run
   names h after (asked ∷ requests) [] run = absurd run
 
@@ -118,7 +123,7 @@ module _ {S C F : Type 0} (meaning : Meaning S C F) (listed : S → List ℕ →
       (subst (λ m. IsTrue (is_made_from m e)) (omega arith) last) refl
   in_turn-push n (x ∷ h) e all last =
       and_from (is_made_from n x) (are_made_in_turn (n + 1) (h ++ e ∷ []))
-          (and_parts (is_made_from n x) (are_made_in_turn (n + 1) h) all).0
+      (and_parts (is_made_from n x) (are_made_in_turn (n + 1) h) all).0
       (in_turn-push (n + 1) h e (and_parts (is_made_from n x) (are_made_in_turn (n + 1) h) all).1
       (subst (λ m. IsTrue (is_made_from m e)) (omega arith) last))
 
@@ -161,22 +166,24 @@ module _ {S C F : Type 0} (meaning : Meaning S C F) (listed : S → List ℕ →
   run_later : (h : List (Event S)) (asked : Asked) (requests : List Asked) (t : Turn S C F)
       (later : Option (Outcome S C F)) (o : Outcome S C F) →
       turn_for meaning listed limit h asked ≡ Some t →
-          ((u : Outcome S C F) → later ≡ Some u → Meant t.history requests u) →
+      ((u : Outcome S C F) → later ≡ Some u → Meant t.history requests u) →
       option_map (with_turn t) later ≡ Some o → Meant h (asked ∷ requests) o
   unfolding Meant
   run_later h asked requests t None o is rest all = cc
   run_later h asked requests t (Some u) o is rest all =
       let e : with_turn t u ≡ o = cc in
-      subst (Meant h (asked ∷ requests)) e
-      ((t.history, inl is, (rest u refl).0), ap (λ b. b || list_any is_memory u.replies) (comes h asked t is).told
-          ∙ (rest u refl).1)
+      subst (Meant h (asked ∷ requests)) e (
+        (t.history, inl is, (rest u refl).0),
+        ap (λ b. b || list_any is_memory u.replies) (comes h asked t is).told
+            ∙ (rest u refl).1,
+      )
 
   run_from : (h : List (Event S)) (asked : Asked) (requests : List Asked) (t : Option (Turn S C F))
       (o : Outcome S C F) →
       turn_for meaning listed limit h asked ≡ t → ((next : List (Event S)) (u : Outcome S C F) →
-          outcome_of meaning listed limit next requests ≡ Some u → Meant next requests u) →
+      outcome_of meaning listed limit next requests ≡ Some u → Meant next requests u) →
       option_and_then (λ t. option_map (with_turn t) (outcome_of meaning listed limit t.history requests)) t ≡ Some o →
-          Meant h (asked ∷ requests) o
+      Meant h (asked ∷ requests) o
   run_from h asked requests None o is rest all = cc
   run_from h asked requests (Some t) o is rest all =
       run_later h asked requests t (outcome_of meaning listed limit t.history requests) o is (rest t.history) all

@@ -83,4 +83,4 @@ module _ {S C F : Type 0} (meaning : Meaning S C F) (listed : S → List ℕ →
   outcome_of h [] = Some (record { replies = []; history = h })
   outcome_of h (asked ∷ requests) =
       option_and_then (λ t. option_map (with_turn t) (outcome_of t.history requests))
-          (turn_for meaning listed limit h asked)
+      (turn_for meaning listed limit h asked)

@@ -157,7 +157,7 @@ fn serve_known<L: Language>(
     requires all { snapshot.k ≡ length core.old.history }
     ensures { Gives core.old
         (Some (turn_known L.meaning L.listed core.old.limit core.old.history (arc_value snapshot.site) node
-            (option_map view facts)))
+        (option_map view facts)))
         result core.new }
 {
     match facts {

@@ -17,5 +17,5 @@ returns c =
     ap (λ r. and_then r (λ ds. in_turn import_one ds (all_found sets node (collectors fs)))) c.in_ok-locals.ensures
     ∙ ap (λ l. in_turn import_one c.in_ok-locals.locals (all_found sets node l)) (sym c.requires)
     ∙ by_title sets node fs (first_node c.args.definitions.now) (collectors_at c.args.collectors.now)
-        c.in_ok-locals.locals c.in_ok-locals.ensures))
+    c.in_ok-locals.locals c.in_ok-locals.ensures))
     c.import_all.ensures

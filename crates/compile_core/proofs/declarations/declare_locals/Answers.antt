@@ -14,14 +14,14 @@ returns-in_err-declarations c =
     (stops fault_told evaluate c.loop-step.declarations (c.step-item.result ∷ []) _ _ _ c.in_err-declarations.field-0.0
     (at_front c.args.steps.now c.loop-step.step-index c.step-item.result c.loop-step-test.true c.step-item.is)
     (once fault_told evaluate c.loop-step.declarations c.step-item.result (Err c.in_err-declarations.field-0.0)
-        c.in_err-declarations.ensures) c.loop-step.invariant)
+    c.in_err-declarations.ensures) c.loop-step.invariant)
 
 pub loop-step-preserved : goal.loop-step-preserved
 loop-step-preserved c =
     goes_on evaluate c.loop-step.declarations c.in_ok-declarations.declarations (c.step-item.result ∷ []) _ _ _
     (at_front c.args.steps.now c.loop-step.step-index c.step-item.result c.loop-step-test.true c.step-item.is)
     (in_turn-once evaluate c.loop-step.declarations c.step-item.result ∙ c.in_ok-declarations.ensures)
-        c.loop-step.invariant
+    c.loop-step.invariant
 
 pub returns : goal.returns
 returns c =

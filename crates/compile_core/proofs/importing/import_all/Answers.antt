@@ -12,20 +12,20 @@ returns-in_err-declarations c =
     rw (p.1, p.2)
     (stops fault_told import_by_title c.loop-collector.declarations _ _ _ _ c.in_err-declarations.field-0.0
     (found_from c.args.sets.now c.args.node.now c.args.collectors.now c.loop-collector.collector-index
-        c.collector-item.result c.loop-collector-test.true c.collector-item.is) c.in_err-declarations.ensures
-        c.loop-collector.invariant)
+    c.collector-item.result c.loop-collector-test.true c.collector-item.is) c.in_err-declarations.ensures
+    c.loop-collector.invariant)
 
 pub loop-collector-preserved : goal.loop-collector-preserved
 loop-collector-preserved c =
     goes_on import_by_title c.loop-collector.declarations c.in_ok-declarations.declarations _ _ _ _
     (found_from c.args.sets.now c.args.node.now c.args.collectors.now c.loop-collector.collector-index
-        c.collector-item.result c.loop-collector-test.true c.collector-item.is) c.in_ok-declarations.ensures
-        c.loop-collector.invariant
+    c.collector-item.result c.loop-collector-test.true c.collector-item.is) c.in_ok-declarations.ensures
+    c.loop-collector.invariant
 
 pub returns : goal.returns
 returns c =
     sym c.loop-collector.invariant
     ∙ ap (in_turn import_by_title c.loop-collector.declarations)
-        (found_end c.args.sets.now c.args.node.now c.args.collectors.now c.loop-collector.collector-index
-        c.loop-collector-test.false)
+    (found_end c.args.sets.now c.args.node.now c.args.collectors.now c.loop-collector.collector-index
+    c.loop-collector-test.false)
     ∙ in_turn-none import_by_title c.loop-collector.declarations

@@ -9,5 +9,5 @@ use Rattle.compile_core.proofs.importing.import_all.Given as goal
 abbrev pub invariant-loop-collector : goal.invariant-loop-collector
 invariant-loop-collector l =
     in_turn import_by_title l.declarations (all_found l.sets l.node
-        (collectors_at (drop l.collector-index l.collectors)))
+    (collectors_at (drop l.collector-index l.collectors)))
     ≡ in_turn import_by_title l.fn.declarations (all_found l.sets l.node (collectors_at l.collectors))

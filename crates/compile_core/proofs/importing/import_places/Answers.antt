@@ -13,19 +13,19 @@ returns-in_err-declarations c =
     rw (p.1, p.2)
     (stops fault_told import_by_title c.loop-place.declarations _ _ _ _ c.in_err-declarations.field-0.0
     (places_from c.args.sets.now c.args.places.now c.loop-place.place-index c.place-item.result c.loop-place-test.true
-        c.place-item.is)
+    c.place-item.is)
     c.in_err-declarations.ensures c.loop-place.invariant)
 
 pub loop-place-preserved : goal.loop-place-preserved
 loop-place-preserved c =
     goes_on import_by_title c.loop-place.declarations c.in_ok-declarations.declarations _ _ _ _
     (places_from c.args.sets.now c.args.places.now c.loop-place.place-index c.place-item.result c.loop-place-test.true
-        c.place-item.is)
+    c.place-item.is)
     c.in_ok-declarations.ensures c.loop-place.invariant
 
 pub returns : goal.returns
 returns c =
     sym c.loop-place.invariant
     ∙ ap (λ l. in_turn import_by_title c.loop-place.declarations (all_placed_at c.args.sets.now l))
-        (drop_of_length-le c.args.places.now c.loop-place-test.false)
+    (drop_of_length-le c.args.places.now c.loop-place-test.false)
     ∙ in_turn-none import_by_title c.loop-place.declarations

@@ -5,7 +5,8 @@ use Rattle.site_bundle.proofs.nodes.nodes_among.Goals as goal
 
 pub loop-key-preserved : goal.loop-key-preserved
 loop-key-preserved c =
-    node_listed _ _ _ _ _ _ _ c.in-Some.ensures.steps c.as_str.ensures.value c.in_ok-with_node.ensures ∙ c.loop-key.invariant
+    node_listed _ _ _ _ _ _ _ c.in-Some.ensures.steps c.as_str.ensures.value c.in_ok-with_node.ensures
+    ∙ c.loop-key.invariant
 
 pub returns-in_err-with_node : goal.returns-in_err-with_node
 returns-in_err-with_node c =

@@ -6,9 +6,11 @@ use Rattle.site_bundle.proofs.site.read_files.Goals as goal
 
 pub loop-path-preserved : goal.loop-path-preserved
 loop-path-preserved c = (
-  put_step c.loop-path.read c.read.new.self c.loop-path.left c.pop.new.self c.args.files (c.in-Some.path, c.in-Some.text) c.in-Some.ensures
+  put_step c.loop-path.read c.read.new.self c.loop-path.left c.pop.new.self c.args.files
+      (c.in-Some.path, c.in-Some.text) c.in-Some.ensures
       c.in_ok-read.ensures c.loop-path.invariant.0,
-  each_before (λ (f : Filed). nat_lt (length f.1 + 1) (2 ^ 32)) c.pop.new.self c.loop-path.left (c.in-Some.path, c.in-Some.text) c.in-Some.ensures
+  each_before (λ (f : Filed). nat_lt (length f.1 + 1) (2 ^ 32)) c.pop.new.self c.loop-path.left
+      (c.in-Some.path, c.in-Some.text) c.in-Some.ensures
       c.loop-path.invariant.1,
 )
 

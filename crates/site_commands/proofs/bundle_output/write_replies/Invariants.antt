@@ -8,7 +8,7 @@ use Rattle.site_commands.proofs.bundle_output.write_replies.Given as goal
 abbrev pub invariant-loop-asked : goal.invariant-loop-asked
 invariant-loop-asked l =
     (string_bytes l.out ++ reply_lines l.number (all_asked l.asked) l.left ≡ string_bytes l.fn.out ++
-        reply_lines 0 (all_asked l.requests) l.replies)
+    reply_lines 0 (all_asked l.requests) l.replies)
     × (l.number + length l.asked ≤ MOST_REQUESTS)
 
 abbrev pub decreases-loop-asked : goal.decreases-loop-asked

@@ -13,5 +13,5 @@ pub returns : goal.returns
 returns c =
     let no_text : IsUtf8 c.args.input → ⊥ =
     λ utf8. let wrong : false ≡ true = c.in-Err.ensures.succeeds (subst IsUtf8 (sym c.into_vec.ensures) utf8) in
-        cc wrong in
+    cc wrong in
     IfOk-no_text _ c.args.node.now c.args.input no_text c.no_text.ensures

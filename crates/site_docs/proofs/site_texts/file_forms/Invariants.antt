@@ -9,4 +9,4 @@ use Rattle.site_docs.proofs.site_texts.file_forms.Given as goal
 abbrev pub invariant-loop-path : goal.invariant-loop-path
 invariant-loop-path l =
     put_all (file_settings (filed l.path-iterator)) (members_view l.members.entries) ≡ put_all
-        (file_settings (filed l.files.entries)) no_members
+    (file_settings (filed l.files.entries)) no_members

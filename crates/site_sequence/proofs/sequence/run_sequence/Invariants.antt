@@ -11,7 +11,7 @@ use Rattle.site_sequence.proofs.sequence.run_sequence.Given as goal
 abbrev pub invariant-loop-left : goal.invariant-loop-left
 invariant-loop-left g l =
     GoesOn g.L.Language.meaning g.L.Language.listed MOST_ENTRIES (opens l.fn.site ∷ []) l.fn.requests l.replies
-        l.core.history (all_asked l.left)
+    l.core.history (all_asked l.left)
     × ((l.core.limit ≡ MOST_ENTRIES) × IsTrue (give_facts (all_asked l.left)))
 
 abbrev pub decreases-loop-left : goal.decreases-loop-left

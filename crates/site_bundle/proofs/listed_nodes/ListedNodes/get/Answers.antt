@@ -13,4 +13,5 @@ returns-clause-listed c =
 pub returns-clause-facts : goal.returns-clause-facts
 returns-clause-facts c =
     viewed_facts c.get.result _ c.args.name.now
-    (viewed view c.get.result _ c.get.ensures.value ∙ lookup-shown view c.self.inside.by_name.entries c.args.name.now) c.self.invariant.1
+    (viewed view c.get.result _ c.get.ensures.value ∙ lookup-shown view c.self.inside.by_name.entries c.args.name.now)
+    c.self.invariant.1

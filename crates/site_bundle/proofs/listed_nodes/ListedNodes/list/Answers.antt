@@ -12,8 +12,10 @@ pub invariant_of-self-2 : goal.invariant_of-self-2
 invariant_of-self-2 c =
     let es = c.self.inside.by_name.entries in
     let is = ap listed c.in_ok-insert.ensures.entries ∙ shown-insert view es c.args.name c.args.facts in (
-      subst (λ l. IsTrue (are_rising l)) (sym is) (rising-put c.args.name (view c.args.facts) (listed es) c.self.invariant.0),
-      subst (λ l. IsTrue (have_facts l)) (sym is) (have_facts-put c.args.name (view c.args.facts) (listed es) c.requires c.self.invariant.1),
+      subst (λ l. IsTrue (are_rising l)) (sym is) (rising-put c.args.name (view c.args.facts) (listed es)
+          c.self.invariant.0),
+      subst (λ l. IsTrue (have_facts l)) (sym is) (have_facts-put c.args.name (view c.args.facts) (listed es) c.requires
+          c.self.invariant.1),
     )
 
 pub returns : goal.returns

@@ -14,7 +14,8 @@ invariant_of-self-2 c =
     let file : SiteFile = record { text = c.args.text; read = c.in_ok-read.read } in
     let is = ap filed c.in_ok-insert.ensures.entries ∙ shown-insert text_of es c.args.path file in (
       subst (λ l. IsTrue (are_rising l)) (sym is) (rising-put c.args.path c.args.text (filed es) c.self.invariant.0),
-      subst AreRead (sym c.in_ok-insert.ensures.entries) (are_read-insert es c.args.path file c.in_ok-read.ensures c.self.invariant.1),
+      subst AreRead (sym c.in_ok-insert.ensures.entries)
+          (are_read-insert es c.args.path file c.in_ok-read.ensures c.self.invariant.1),
     )
 
 pub returns : goal.returns

@@ -1,0 +1,5 @@
+mod Examples
+pub mod Merges
+pub mod Parts
+pub mod Ranges
+pub mod SameLists

@@ -1,0 +1,10 @@
+pub mod Said
+pub mod Refusals
+pub mod Symbols
+pub mod Same
+pub mod Numbers
+pub mod Lists
+pub mod Hashes
+pub mod Members
+pub mod Accesses
+pub mod Operators

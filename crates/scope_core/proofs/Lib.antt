@@ -1,0 +1,4 @@
+mod Turns
+mod Keys
+mod Sets
+mod Examples

@@ -1,0 +1,25 @@
+-- A scope that is put back where it stood.
+use Rattle.std.proofs.Common.{◌≡◌, ℕ, zero, suc, List, [], ◌∷◌, Bool, true, false}
+use Rattle.std.proofs.Common.{Option, None, Some, refl, ap, sym, if◌then◌else◌}
+use Rattle.std.specs.Prelude.{slice_get, slice_set}
+use Rattle.pp_values.specs.Datum.{Datum}
+use Rattle.scope_core.specs.Names.{Name, with_value}
+use Rattle.scope_core.specs.Scopes.{Scope, set_in}
+
+held : Scope → Option Scope → Scope
+held other None = other
+held other (Some s) = s
+
+set_back : (scopes : List Scope) (n : ℕ) (s : Scope) → slice_get scopes n ≡ Some s → slice_set scopes n s ≡ scopes
+unfolding held
+set_back [] n s there = refl
+set_back (x ∷ xs) zero s there = ap (λ y. y ∷ xs) (sym (ap (held x) there))
+set_back (x ∷ xs) (suc n) s there = ap (λ ys. x ∷ ys) (set_back xs n s there)
+
+-- what setting a name in one of them made of all
+pub set_or_back : (scopes : List Scope) (n : ℕ) (s new : Scope) (went : Bool) (x : Name) (d : Datum)
+    → slice_get scopes n ≡ Some s
+    → new ≡ (if went then record s { names = with_value x d s.names } else s)
+    → slice_set scopes n new ≡ (if went then set_in n x d (slice_get scopes n) scopes else scopes)
+set_or_back scopes n s new true x d there is = rw (there, is) refl
+set_or_back scopes n s new false x d there is = rw is (set_back scopes n s there)

@@ -1,0 +1,4 @@
+pub mod Keyed
+pub mod Names
+pub mod Outcomes
+pub mod Scopes

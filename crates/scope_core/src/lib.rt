@@ -1,0 +1,16 @@
+//! The scopes of one compile: which names have values where, and which scope is read after which.
+#![tactic(auto)]
+
+mod binding;
+mod cutting;
+mod faults;
+mod named;
+mod owner;
+mod scope;
+pub mod scope_id;
+pub mod scope_kind;
+pub mod scopes;
+
+pub use scope_id::ScopeId;
+pub use scope_kind::ScopeKind;
+pub use scopes::Scopes;

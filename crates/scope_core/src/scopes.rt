@@ -1,0 +1,281 @@
+ghost use Rattle.std.specs.Prelude.{◌≡◌, length, map, option_map, is_ok, if◌then◌else◌, slice_get, IfOk, OnOk};
+ghost use Rattle.std.specs.Char.{to_ascii_lowercase};
+ghost use Rattle.pp_values.specs.Views.{view};
+ghost use Rattle.scope_core.specs.Names.{value_of_class};
+ghost use Rattle.scope_core.specs.Outcomes.{Changes, Reads};
+ghost use Rattle.scope_core.specs.Scopes as spec;
+
+use crate::binding::Binding;
+use crate::cutting::{cut, has_capital, without_front_colons};
+use crate::faults::{reassigned, unknown};
+use crate::named::Named;
+use crate::owner::Owner;
+use crate::scope::Scope;
+use crate::scope_id::ScopeId;
+use crate::scope_kind::ScopeKind;
+use pp_values::{Memory, Place, Stop, Text, Value};
+use std::alloc::Global;
+use std::marker::Model;
+
+/// All scopes of one compile.
+///
+/// A scope is named by the number that it was entered with, as long as it was not left.
+#[derive(Drop)]
+pub struct Scopes {
+    scopes: Vec<Scope>,
+    node: u32,
+    classes: Named<u32>,
+}
+
+impl Model for Scopes {
+    ghost use Rattle.scope_core.specs.Scopes.{Scopes as Seen, coded_scopes};
+
+    ghost Value = { Seen };
+
+    ghost coded = { coded_scopes };
+
+    ghost view = { λ s. record { scopes = s.scopes.items; node = s.node; classes = s.classes } };
+}
+
+impl Scopes {
+    /// The empty top scope alone.
+    pub fn new(alloc: Global) -> Result<Scopes, Memory>
+        ensures { IfOk result (λ s. s ≡ spec.top_alone) }
+    {
+        let mut scopes = Vec::new(alloc);
+        scopes.push(Scope::new(alloc, Owner::Top, 0))?;
+        Ok(Scopes {
+            scopes,
+            node: 0,
+            classes: Named::new(alloc),
+        })
+    }
+
+    /// A new scope without names. `parent` is the scope that a lambda's call is within, and for a class with a parent
+    /// class that class's scope; for others it does not count.
+    pub fn enter(
+        &mut self,
+        alloc: Global,
+        kind: ScopeKind,
+        parent: ScopeId,
+    ) -> Result<ScopeId, Memory>
+        ensures number { IfOk result (λ id. id.number ≡ length self.old.scopes) }
+        ensures scopes { OnOk result (self.new ≡ spec.entered kind parent.number self.old) }
+    {
+        let Ok(number) = u32::try_from(self.scopes.len()) else {
+            return Err(Memory);
+        };
+        match kind {
+            ScopeKind::Node => {
+                self.add(alloc, Owner::Node, parent)?;
+                self.node = number;
+            }
+            ScopeKind::Class(name) => {
+                self.classes.set(lowered(name), number)?;
+                self.add(alloc, Owner::Class, parent)?;
+            }
+            ScopeKind::Instance => self.add(alloc, Owner::Instance, parent)?,
+            ScopeKind::Lambda => self.add(alloc, Owner::Lambda, parent)?,
+        }
+        Ok(ScopeId { number })
+    }
+
+    fn add(&mut self, alloc: Global, owner: Owner, parent: ScopeId) -> Result<(), Memory>
+        ensures { OnOk result (self.new ≡ spec.added owner parent.number self.old) }
+    {
+        self.scopes.push(Scope::new(alloc, owner, parent.number))?;
+        Ok(())
+    }
+
+    /// Ends the scope of a lambda's call. Other scopes stay for the compile.
+    pub fn leave(&mut self, scope: ScopeId)
+        ensures { self.new ≡ spec.left scope.number self.old }
+    {
+        end_scope(&mut self.scopes, scope.number as usize);
+    }
+
+    /// Sets a name in one scope. A name may be set once there; `facts` and `trusted` nowhere once top scope has them.
+    pub fn assign(
+        &mut self,
+        alloc: Global,
+        scope: ScopeId,
+        name: &Text,
+        value: Value,
+        at: &Place,
+    ) -> Result<(), Stop>
+        ensures { Changes (spec.assign scope.number name.now (view value) at.now self.old) self.old result self.new }
+    {
+        self.assign_binding(alloc, scope, name, Binding::new(value), at)
+    }
+
+    #[tactic(auto, unfolding(crate::specs::Scopes::assign))]
+    fn assign_binding(
+        &mut self,
+        alloc: Global,
+        scope: ScopeId,
+        name: &Text,
+        value: Binding,
+        at: &Place,
+    ) -> Result<(), Stop>
+        ensures { Changes (spec.assign scope.number name.now value at.now self.old) self.old result self.new }
+    {
+        if self.is_set(scope.number, name) {
+            return Err(Stop::from(reassigned(alloc, name, at)?));
+        }
+        let name = name.copy(alloc)?;
+        set_name(&mut self.scopes, scope.number as usize, name, value)?;
+        Ok(())
+    }
+
+    /// The value of a name as it is written after `$`: `x`, `::x` or `c::x`.
+    #[tactic(auto, unfolding(crate::specs::Scopes::read))]
+    pub fn read(
+        &self,
+        alloc: Global,
+        scope: ScopeId,
+        name: &Text,
+        at: &Place,
+    ) -> Result<&Value, Stop>
+        ensures { Reads (spec.read scope.number name.now at.now self.now) result }
+    {
+        match self.found(scope.number, name.as_str().as_bytes()) {
+            Some(value) => Ok(value),
+            None => Err(Stop::from(unknown(alloc, name, at)?)),
+        }
+    }
+
+    #[tactic(auto, unfolding(crate::specs::Scopes::found))]
+    fn found(&self, number: u32, name: &[u8]) -> Option<&Value>
+        ensures { option_map (λ v. view v.now) result ≡ spec.found number name.now self.now }
+    {
+        match cut(name) {
+            Some((before, name)) => self.seen(self.start(before), name),
+            None => self.seen(Some(number), name),
+        }
+    }
+
+    /// Where a name is looked for that has this before its last `::`.
+    fn start(&self, before: &[u8]) -> Option<u32>
+        ensures { result ≡ spec.start before.now self.now }
+    {
+        if before.is_empty() {
+            return Some(0);
+        }
+        self.class_scope(before)
+    }
+
+    fn class_scope(&self, name: &[u8]) -> Option<u32>
+        ensures { result ≡ value_of_class name.now self.now.classes }
+    {
+        let class = without_front_colons(name);
+        if has_capital(name) {
+            return self.classes.get_folded(class).copied();
+        }
+        self.classes.get(class).copied()
+    }
+
+    /// The value of a name in this scope, or in those that are read after it.
+    #[tactic(auto, using(crate::proofs::Turns::seen_some, crate::proofs::Turns::seen_none, crate::proofs::Turns::seen_end))]
+    fn seen(&self, start: Option<u32>, name: &[u8]) -> Option<&Value>
+        ensures { option_map (λ v. view v.now) result ≡ spec.seen start name.now self.now }
+    {
+        let mut at = start;
+        for _turn in 0..self.scopes.len() {
+            let Some(number) = at else {
+                return None;
+            };
+            let found = self.own(number, name);
+            if found.is_some() {
+                return found;
+            }
+            at = self.next(number);
+        }
+        None
+    }
+
+    /// The value of a name in this one scope.
+    fn own(&self, number: u32, name: &[u8]) -> Option<&Value>
+        ensures { option_map (λ v. view v.now) result ≡ spec.own number name.now self.now }
+    {
+        match self.scopes.get(number as usize) {
+            Some(scope) => scope.value_of(name),
+            None => None,
+        }
+    }
+
+    /// The scope that is read after this one.
+    fn next(&self, number: u32) -> Option<u32>
+        ensures { result ≡ spec.next number self.now }
+    {
+        match self.scopes.get(number as usize) {
+            Some(scope) => self.after(scope.owner(), scope.parent()),
+            None => None,
+        }
+    }
+
+    fn after(&self, owner: Owner, parent: u32) -> Option<u32>
+        ensures { result ≡ spec.after owner parent self.now }
+    {
+        match owner {
+            Owner::Top => None,
+            Owner::Node => Some(0),
+            Owner::Class => {
+                if self.is_of_class(parent) {
+                    Some(parent)
+                } else {
+                    Some(self.node)
+                }
+            }
+            Owner::Instance => Some(self.node),
+            Owner::Lambda => Some(parent),
+            Owner::Ended => None,
+        }
+    }
+
+    fn is_of_class(&self, number: u32) -> bool
+        ensures { result ≡ spec.is_of_class (slice_get self.now.scopes number) }
+    {
+        match self.scopes.get(number as usize) {
+            Some(scope) => matches!(scope.owner(), Owner::Class),
+            None => false,
+        }
+    }
+
+    /// Whether a name may not be set.
+    fn is_set(&self, number: u32, name: &Text) -> bool
+        ensures { result ≡ spec.is_set number name.now self.now }
+    {
+        let bytes = name.as_str().as_bytes();
+        self.own(number, bytes).is_some()
+            || (name.is("facts") || name.is("trusted")) && self.own(0, bytes).is_some()
+    }
+}
+
+/// A class's name, in lower case.
+fn lowered(name: Text) -> Text
+    ensures { result ≡ map to_ascii_lowercase name }
+{
+    let mut name = name.into_string();
+    name.make_ascii_lowercase();
+    Text::new(name)
+}
+
+fn end_scope(scopes: &mut Vec<Scope>, place: usize)
+    ensures { scopes.new.items ≡ spec.scopes_after place (slice_get scopes.old.items place) scopes.old.items }
+{
+    if let Some(scope) = scopes.get_mut(place) {
+        scope.end();
+    }
+}
+
+fn set_name(scopes: &mut Vec<Scope>, place: usize, name: Text, value: Binding) -> Result<(), Memory>
+    ensures { scopes.new.items
+        ≡ (if is_ok result
+        then spec.set_in place name value (slice_get scopes.old.items place) scopes.old.items
+        else scopes.old.items) }
+{
+    match scopes.get_mut(place) {
+        Some(scope) => scope.set(name, value),
+        None => Ok(()),
+    }
+}

@@ -1,0 +1,3 @@
+mod Tables
+mod References
+pub mod Rows

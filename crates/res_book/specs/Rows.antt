@@ -71,7 +71,7 @@ number_of q (r ∷ rs) = if is_named q r then Some 0 else option_map suc (number
 
 -- Each declaration is the one that its reference finds, so no two have the same.
 pub record AreApart (rows : List Row) : Type 0 where
-  pub found : (n : ℕ) (r : Row) → slice_get rows n ≡ Some r → number_of (reference_of r.item) rows ≡ Some n
+  pub found : (n : ℕ) (d : Declared) → item_at rows n ≡ Some d → number_of (reference_of d) rows ≡ Some n
 
 -- ---- declaring
 

@@ -6,3 +6,5 @@ pub mod ExportSetCodes
 pub mod Asked
 pub mod AskedFacts
 pub mod RequestViews
+pub mod NativeTypes
+pub mod NativeRows

@@ -8,3 +8,5 @@ pub mod AskedFacts
 pub mod RequestViews
 pub mod NativeTypes
 pub mod NativeRows
+pub mod Metaparameters
+pub mod AttributeChecks

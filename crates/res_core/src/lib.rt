@@ -2,6 +2,7 @@
 #![tactic(auto)]
 
 pub mod attribute;
+pub mod attribute_checks;
 pub mod attributes;
 pub mod bodies;
 pub mod body;
@@ -21,6 +22,7 @@ pub mod line;
 pub mod lines;
 pub mod log_line;
 pub mod log_lines;
+pub mod metaparameters;
 pub mod native_table;
 pub mod native_type;
 pub mod natives;
@@ -33,6 +35,7 @@ pub mod tagging;
 pub mod tags;
 
 pub use attribute::Attribute;
+pub use attribute_checks::{check_attribute, check_known, takes};
 pub use attributes::Attributes;
 pub use bodies::Bodies;
 pub use body::Body;
@@ -52,6 +55,7 @@ pub use line::Line;
 pub use lines::Lines;
 pub use log_line::LogLine;
 pub use log_lines::LogLines;
+pub use metaparameters::{is_metaparameter, is_relation};
 pub use native_type::NativeType;
 pub use natives::{attributes_of, namevar, native, property};
 pub use operand::Operand;

@@ -6,3 +6,7 @@ pub mod ExportSetCodes
 pub mod Asked
 pub mod AskedFacts
 pub mod RequestViews
+pub mod Criteria
+pub mod CriteriaCodes
+pub mod QueryViews
+pub mod QueryFalls

@@ -10,3 +10,7 @@ pub mod NativeTypes
 pub mod NativeRows
 pub mod Metaparameters
 pub mod AttributeChecks
+pub mod Criteria
+pub mod CriteriaCodes
+pub mod QueryViews
+pub mod QueryFalls

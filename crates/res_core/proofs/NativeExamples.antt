@@ -7,7 +7,7 @@ use Rattle.pp_values.specs.declared.place.Place.{Place}
 use Rattle.pp_values.specs.declared.reference.Reference.{Reference}
 use Rattle.res_core.specs.declared.native_type.NativeType.TheVariants as native
 use Rattle.res_core.specs.NativeTypes.{Row, row, all_natives, native_of, property_of, attributes_of}
-use Rattle.res_core.specs.Metaparameters.{relation_names, metaparameters, is_relation, is_metaparameter}
+use Rattle.res_core.specs.Metaparameters.{relation_names, metaparameters, is_relation_name, is_metaparameter}
 use Rattle.res_core.specs.AttributeChecks.{known_checked, native_checked, attribute_checked}
 
 -- what stands between blanks
@@ -103,8 +103,8 @@ all_of_notify = refl
 the_metaparameters : metaparameters ≡ words (codes "before require notify subscribe tag noop loglevel")
 the_metaparameters = refl
 
-the_relations : map is_relation (words (codes "before require notify subscribe tag noop loglevel")) ≡ true ∷ true ∷ true ∷ true ∷ false ∷ false ∷ false ∷ []
-unfolding is_relation
+the_relations : map is_relation_name (words (codes "before require notify subscribe tag noop loglevel")) ≡ true ∷ true ∷ true ∷ true ∷ false ∷ false ∷ false ∷ []
+unfolding is_relation_name
 the_relations = refl
 
 no_metaparameters : map is_metaparameter (words (codes "Before ::require alias audit schedule stage name ensure tags")) ≡ false ∷ false ∷ false ∷ false ∷ false ∷ false ∷ false ∷ false ∷ false ∷ []

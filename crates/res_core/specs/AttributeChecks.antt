@@ -1,4 +1,4 @@
--- Which attributes a resource takes, and the faults where it doesn't take one.
+-- Which attributes a resource takes, and the faults where it does not take one.
 use Rattle.std.specs.Prelude.{ℕ, ⊤, Bool, ◌||◌, if◌then◌else◌, List, Option, None, Some, Result, Ok, Err}
 use Rattle.pp_values.specs.Rising.{has_text}
 use Rattle.pp_values.specs.Faults.{fault}
@@ -10,14 +10,14 @@ use Rattle.res_core.specs.declared.native_type.NativeType.{NativeType}
 use Rattle.res_core.specs.NativeTypes.{native_of, attributes_of}
 use Rattle.res_core.specs.Metaparameters.{is_metaparameter}
 
--- a resource whose kind has these attributes of its own takes one of that name
-abbrev pub takes : List (List ℕ) → List ℕ → Bool
-takes known name = has_text known name || is_metaparameter name
+-- an attribute of that name is known where the kind has these of its own
+abbrev pub is_known : List (List ℕ) → List ℕ → Bool
+is_known known name = has_text known name || is_metaparameter name
 
 -- F10 where it doesn't
 unfoldable pub known_checked : Reference → List (List ℕ) → List ℕ → Place → Result ⊤ Fault
 known_checked r known name at =
-    if takes known name then Ok tt else Err (fault at (what.UnknownParameter r name))
+    if is_known known name then Ok tt else Err (fault at (what.UnknownParameter r name))
 
 -- F5 where the kind is no native one, and then F10
 unfoldable pub native_checked : Reference → Option NativeType → List ℕ → Place → Result ⊤ Fault

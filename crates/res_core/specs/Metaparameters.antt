@@ -9,8 +9,8 @@ relation_names = codes "before" ∷ codes "require" ∷ codes "notify" ∷ codes
 abbrev pub metaparameters : List (List ℕ)
 metaparameters = relation_names ++ codes "tag" ∷ codes "noop" ∷ codes "loglevel" ∷ []
 
-unfoldable pub is_relation : List ℕ → Bool
-is_relation name = has_text relation_names name
+unfoldable pub is_relation_name : List ℕ → Bool
+is_relation_name name = has_text relation_names name
 
 unfoldable pub is_metaparameter : List ℕ → Bool
 is_metaparameter name = has_text metaparameters name

@@ -3,7 +3,7 @@ ghost use Rattle.std.specs.Prelude.{◌≡◌, IfOk};
 ghost use Rattle.pp_values.specs.Answers.{Answers};
 ghost use Rattle.pp_values.specs.Faults.{fault};
 ghost use Rattle.pp_values.specs.Rising.{has_text};
-ghost use Rattle.res_core.specs.AttributeChecks.{attribute_checked, native_checked, known_checked, takes};
+ghost use Rattle.res_core.specs.AttributeChecks.{attribute_checked, native_checked, known_checked, is_known};
 ghost use Rattle.res_core.specs.NativeTypes.{attributes_of};
 
 use crate::metaparameters::{is_among, is_metaparameter};
@@ -14,12 +14,7 @@ use std::alloc::Global;
 
 /// F5 where the kind is not native, and else F10 where the kind takes no attribute of this name.
 #[tactic(auto, unfolding(crate::specs::AttributeChecks::attribute_checked))]
-pub fn check_attribute(
-    alloc: Global,
-    what: &Reference,
-    name: &Text,
-    at: &Place,
-) -> Result<(), Stop>
+pub fn check_attribute(alloc: Global, what: &Reference, name: &Text, at: &Place) -> Result<(), Stop>
     ensures { Answers result (attribute_checked what.now name.now at.now) }
 {
     check_native(alloc, what, native(what.kind.as_text()), name, at)
@@ -37,7 +32,7 @@ fn check_native(
 {
     match native {
         None => Err(Stop::Fault(unknown_type(alloc, what, at)?)),
-        Some(native) if takes_attribute(native, name) => Ok(()),
+        Some(native) if is_native_attribute(native, name) => Ok(()),
         Some(_) => Err(Stop::Fault(unknown_parameter(alloc, what, name, at)?)),
     }
 }
@@ -53,7 +48,7 @@ pub fn check_known(
 ) -> Result<(), Stop>
     ensures { Answers result (known_checked what.now known.now name.now at.now) }
 {
-    if takes(known, name) {
+    if is_known(known, name) {
         Ok(())
     } else {
         Err(Stop::Fault(unknown_parameter(alloc, what, name, at)?))
@@ -61,8 +56,8 @@ pub fn check_known(
 }
 
 /// Whether a resource whose kind has these attributes of its own takes one of this name.
-pub fn takes(known: &Texts, name: &Text) -> bool
-    ensures { result ≡ takes known.now name.now }
+pub fn is_known(known: &Texts, name: &Text) -> bool
+    ensures { result ≡ is_known known.now name.now }
 {
     is_listed(known.as_slice(), name) || is_metaparameter(name)
 }
@@ -74,8 +69,8 @@ fn is_listed(texts: &[Text], name: &Text) -> bool
 }
 
 #[tactic(auto, unfolding(crate::specs::NativeTypes::attributes_of))]
-fn takes_attribute(native: NativeType, name: &Text) -> bool
-    ensures { result ≡ takes (attributes_of native) name.now }
+fn is_native_attribute(native: NativeType, name: &Text) -> bool
+    ensures { result ≡ is_known (attributes_of native) name.now }
 {
     let row = native.row();
     is_among(name, row.properties) || is_among(name, row.others) || is_metaparameter(name)

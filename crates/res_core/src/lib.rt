@@ -1,6 +1,7 @@
 //! Resources, their tags and the catalogs that hold them.
 #![tactic(auto)]
 
+pub mod action;
 pub mod attribute;
 pub mod attribute_checks;
 pub mod attributes;
@@ -35,8 +36,9 @@ pub mod resource;
 pub mod tagging;
 pub mod tags;
 
+pub use action::Action;
 pub use attribute::Attribute;
-pub use attribute_checks::{check_attribute, check_known, takes};
+pub use attribute_checks::{check_attribute, check_known, is_known};
 pub use attributes::Attributes;
 pub use bodies::Bodies;
 pub use body::Body;
@@ -56,9 +58,9 @@ pub use line::Line;
 pub use lines::Lines;
 pub use log_line::LogLine;
 pub use log_lines::LogLines;
-pub use metaparameters::{is_metaparameter, is_relation};
+pub use metaparameters::{is_metaparameter, is_relation_name};
 pub use native_type::NativeType;
-pub use natives::{attributes_of, namevar, native, property};
+pub use natives::{known_attributes, namevar, native, property};
 pub use operand::Operand;
 pub use operands::Operands;
 pub use query::{Queries, Query, QueryBox};

@@ -1,12 +1,18 @@
 //! The attributes that any resource takes.
 ghost use Rattle.std.specs.Prelude.{◌≡◌, map};
 ghost use Rattle.pp_values.specs.Rising.{has_text};
-ghost use Rattle.res_core.specs.Metaparameters.{is_relation, is_metaparameter};
+ghost use Rattle.res_core.specs.Metaparameters.{is_relation_name, is_metaparameter};
 
 use pp_values::Text;
 
 const METAPARAMETERS: [&str; 7] = [
-    "before", "require", "notify", "subscribe", "tag", "noop", "loglevel",
+    "before",
+    "require",
+    "notify",
+    "subscribe",
+    "tag",
+    "noop",
+    "loglevel",
 ];
 
 const RELATIONS: [&str; 4] = ["before", "require", "notify", "subscribe"];
@@ -20,9 +26,9 @@ pub fn is_metaparameter(name: &Text) -> bool
 }
 
 /// Whether the metaparameter relates the resource to those that its value names.
-#[tactic(auto, unfolding(crate::specs::Metaparameters::is_relation))]
-pub fn is_relation(name: &Text) -> bool
-    ensures { result ≡ is_relation name.now }
+#[tactic(auto, unfolding(crate::specs::Metaparameters::is_relation_name))]
+pub fn is_relation_name(name: &Text) -> bool
+    ensures { result ≡ is_relation_name name.now }
 {
     is_among(name, &RELATIONS)
 }

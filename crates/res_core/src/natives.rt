@@ -35,7 +35,7 @@ pub fn namevar(kind: NativeType) -> &'static str
 
 /// All attributes of the type but the metaparameters: the properties in order, then the others.
 #[tactic(auto, unfolding(crate::specs::NativeTypes::attributes_of))]
-pub fn attributes_of(alloc: Global, kind: NativeType) -> Result<Texts, Memory>
+pub fn known_attributes(alloc: Global, kind: NativeType) -> Result<Texts, Memory>
     ensures { IfOk result (λ names. names ≡ attributes_of kind) }
 {
     let row = kind.row();

@@ -1,3 +1,4 @@
+mod Pending
 mod Tables
 mod References
 pub mod Rows

@@ -168,7 +168,12 @@ pending-bound (suc n) settings (r ∷ rs) = pending-bound n settings rs
 
 pub grows-not : (rows : List Row) → Grows rows rows
 grows-not rows = record {
-  longer = omega arith; item = λ n d e. e; mode = λ n m e. e; number = λ q n e. e; live = λ n e. e; bound = λ n e. e;
+  longer = omega arith;
+  item = λ n d e. e;
+  mode = λ n m e. e;
+  number = λ q n e. e;
+  live = λ n e. e;
+  bound = λ n e. e;
 }
 
 pub grows-on : {a b c : List Row} → Grows a b → Grows b c → Grows a c

@@ -13,14 +13,14 @@ pub kept-append : (kinds new : Kinds) (rows : List Row) (r : Row) → declared_a
     Adds r.item.item.kind r.item.item.title (length rows) kinds new → IsKept kinds rows → IsKept new (rows ++ r ∷ [])
 kept-append kinds new rows r undeclared room contained adds kept =
     let fresh = numberless (reference_of r.item) rows undeclared in record {
-  finds = λ q.
-      adds q.kind q.title
-      ∙ ap (cond (same_reference (reference_of r.item) q) (Some (length rows))) (kept.finds q)
-      ∙ sym (number_of-append q rows r fresh);
-  apart = apart-append rows r fresh kept.apart;
-  contained = contained-append rows r contained kept.contained;
-  few = let l = length-append rows (r ∷ []) in omega arith;
-}
+      finds = λ q.
+          adds q.kind q.title
+          ∙ ap (cond (same_reference (reference_of r.item) q) (Some (length rows))) (kept.finds q)
+          ∙ sym (number_of-append q rows r fresh);
+      apart = apart-append rows r fresh kept.apart;
+      contained = contained-append rows r contained kept.contained;
+      few = let l = length-append rows (r ∷ []) in omega arith;
+    }
 
 pub kept-change : (change : Row → Row) → KeepsItem change → KeepsLife change → (kinds : Kinds) (n : ℕ)
     (rows : List Row) → IsKept kinds rows → IsKept kinds (with_change change n rows)

@@ -50,7 +50,7 @@ contained-append rows r new old = record {
         | inl was ↦ old.before n c d was in_c
         | inr last ↦
             let live : IsTrue (is_live_at rows c) =
-                within r.item.container c rows (ap (λ x. x.container) last.1 ∙ in_c) new in
+            within r.item.container c rows (ap (λ x. x.container) last.1 ∙ in_c) new in
             let less = live_below rows c live in
             let is = last.0 in
             omega arith

@@ -110,17 +110,19 @@ old_stays q p rows n l false e new old = old
 
 pub apart-append : (rows : List Row) (r : Row) → number_of (reference_of r.item) rows ≡ None → AreApart rows →
     AreApart (rows ++ r ∷ [])
-apart-append rows r new apart = record { found = λ n d at.
-    number_of-append (reference_of d) rows r new
-    ∙ (elim (item_at-append rows r n d at) [
-      | inl old ↦ old_stays (reference_of r.item) (reference_of d) rows n (length rows)
-          (same_reference (reference_of r.item) (reference_of d)) refl new (apart.found n d old)
-      | inr last ↦
-          ap (λ x. cond (same_reference (reference_of r.item) (reference_of x)) (Some (length rows))
-          (number_of (reference_of x) rows)) (sym last.1)
-          ∙ ap (λ b. cond b (Some (length rows)) (number_of (reference_of r.item) rows)) (itself (reference_of r.item))
-          ∙ ap (λ m. Some m) (sym last.0)
-    ]) }
+apart-append rows r new apart = record {
+  found = λ n d at.
+      number_of-append (reference_of d) rows r new
+      ∙ (elim (item_at-append rows r n d at) [
+        | inl old ↦ old_stays (reference_of r.item) (reference_of d) rows n (length rows)
+            (same_reference (reference_of r.item) (reference_of d)) refl new (apart.found n d old)
+        | inr last ↦
+            ap (λ x. cond (same_reference (reference_of r.item) (reference_of x)) (Some (length rows))
+            (number_of (reference_of x) rows)) (sym last.1)
+            ∙ ap (λ b. cond b (Some (length rows)) (number_of (reference_of r.item) rows)) (itself (reference_of r.item))
+            ∙ ap (λ m. Some m) (sym last.0)
+      ]);
+}
 
 -- ---- a declaration that changes, and stays the same resource
 
@@ -159,6 +161,8 @@ length-change change (suc n) (r ∷ rs) = ap suc (length-change change n rs)
 
 pub apart-change : (change : Row → Row) → KeepsItem change → (n : ℕ) (rows : List Row) → AreApart rows →
     AreApart (with_change change n rows)
-apart-change change keeps n rows apart = record { found = λ m d at.
-    number_of-change change keeps (reference_of d) n rows
-    ∙ apart.found m d (sym (item_at-change change keeps m n rows) ∙ at) }
+apart-change change keeps n rows apart = record {
+  found = λ m d at.
+      number_of-change change keeps (reference_of d) n rows
+      ∙ apart.found m d (sym (item_at-change change keeps m n rows) ∙ at);
+}

@@ -99,8 +99,7 @@ impl Book {
     pub fn find(&self, reference: &Reference) -> Option<u32>
         ensures { result ≡ number_of reference.now self.now }
     {
-        self.numbers
-            .get(reference.kind.as_text(), &reference.title)
+        self.numbers.get(reference.kind.as_text(), &reference.title)
     }
 
     /// Declares a resource. The answer is its number.

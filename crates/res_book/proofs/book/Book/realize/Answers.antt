@@ -13,9 +13,9 @@ invariant_of-self c =
     let items = c.self.inside.rows.items in
     let row = c.index_mut-row.result.now in
     let below : c.args.number < length items =
-        subst (λ rows. c.args.number < length rows) (sym c.self.view_is) c.requires in
+    subst (λ rows. c.args.number < length rows) (sym c.self.view_is) c.requires in
     let at : slice_get items c.args.number ≡ Some row =
-        slice_get_read items _ c.args.number row refl below c.index_mut-row.ensures.value in
+    slice_get_read items _ c.args.number row refl below c.index_mut-row.ensures.value in
     subst (IsKept c.self.inside.numbers.by_kind) (sym (set_changed marked items c.args.number row at))
     (kept-change marked (λ r. refl) marked_live c.self.inside.numbers.by_kind c.args.number items c.self.invariant)
 
@@ -24,7 +24,7 @@ returns-clause-rows c =
     let items = c.self.inside.rows.items in
     let row = c.index_mut-row.result.now in
     let below : c.args.number < length items =
-        subst (λ rows. c.args.number < length rows) (sym c.self.view_is) c.requires in
+    subst (λ rows. c.args.number < length rows) (sym c.self.view_is) c.requires in
     let at : slice_get items c.args.number ≡ Some row =
-        slice_get_read items _ c.args.number row refl below c.index_mut-row.ensures.value in
+    slice_get_read items _ c.args.number row refl below c.index_mut-row.ensures.value in
     set_changed marked items c.args.number row at ∙ ap (with_mark c.args.number) c.self.view_is

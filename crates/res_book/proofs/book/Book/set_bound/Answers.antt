@@ -12,9 +12,9 @@ invariant_of-self c =
     let items = c.self.inside.rows.items in
     let row = c.index_mut-row.result.now in
     let below : c.args.number < length items =
-        subst (λ rows. c.args.number < length rows) (sym c.self.view_is) c.requires in
+    subst (λ rows. c.args.number < length rows) (sym c.self.view_is) c.requires in
     let at : slice_get items c.args.number ≡ Some row =
-        slice_get_read items _ c.args.number row refl below c.index_mut-row.ensures.value in
+    slice_get_read items _ c.args.number row refl below c.index_mut-row.ensures.value in
     subst (IsKept c.self.inside.numbers.by_kind)
     (sym (set_changed (bound_to c.args.bound) items c.args.number row at))
     (kept-change (bound_to c.args.bound) (λ r. refl) (λ r e. e) c.self.inside.numbers.by_kind c.args.number items
@@ -25,8 +25,8 @@ returns c =
     let items = c.self.inside.rows.items in
     let row = c.index_mut-row.result.now in
     let below : c.args.number < length items =
-        subst (λ rows. c.args.number < length rows) (sym c.self.view_is) c.requires in
+    subst (λ rows. c.args.number < length rows) (sym c.self.view_is) c.requires in
     let at : slice_get items c.args.number ≡ Some row =
-        slice_get_read items _ c.args.number row refl below c.index_mut-row.ensures.value in
+    slice_get_read items _ c.args.number row refl below c.index_mut-row.ensures.value in
     set_changed (bound_to c.args.bound) items c.args.number row at
     ∙ ap (with_bound c.args.number c.args.bound) c.self.view_is

@@ -1,8 +1,8 @@
 -- What holds of a book holds after each change.
-use Rattle.std.proofs.Common.{◌≡◌, ℕ, ◌<◌, ◌≤◌, cond, IsTrue, List, [], ◌∷◌, ◌++◌, length, None, Some, refl, sym, ap, ◌∙◌, arith, length-append}
+use Rattle.std.proofs.Common.{◌≡◌, ℕ, ◌<◌, cond, IsTrue, List, [], ◌∷◌, ◌++◌, length, None, Some, sym, ap, ◌∙◌, arith, length-append}
 use Rattle.pp_values.specs.References.{same_reference}
 use Rattle.res_book.specs.Kept.{IsKept}
-use Rattle.res_book.specs.Numbers.{Kinds, Adds, Keeps}
+use Rattle.res_book.specs.Numbers.{Kinds, Adds}
 use Rattle.res_book.specs.Rows.{reference_of, declared_as, is_contained, limit, with_change}
 use Rattle.res_book.specs.declared.row.Row.{Row}
 use Rattle.res_book.proofs.Live.{KeepsLife, contained-append, contained-change}

@@ -1,8 +1,7 @@
 -- What is live stays live, and so do containers.
 use Rattle.std.proofs.Common.{◌≡◌, ℕ, zero, suc, ◌<◌, Bool, true, false, not, ◌||◌, IsTrue, List, [], ◌∷◌, ◌++◌, length}
-use Rattle.std.proofs.Common.{Option, None, Some, inl, inr, refl, sym, ap, subst, ◌∙◌, arith}
-use Rattle.res_core.specs.declared.declared.Declared.{Declared}
-use Rattle.res_book.specs.Rows.{is_virtual, is_live, is_live_at, item_at, is_contained, AreContained, with_change, marked}
+use Rattle.std.proofs.Common.{Option, Some, inl, inr, refl, sym, ap, subst, ◌∙◌, arith}
+use Rattle.res_book.specs.Rows.{is_virtual, is_live, is_live_at, is_contained, AreContained, with_change, marked}
 use Rattle.res_book.specs.declared.row.Row.{Row}
 use Rattle.res_book.proofs.Rows.{KeepsItem, item_at-append, item_at-change}
 

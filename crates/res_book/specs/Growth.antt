@@ -1,7 +1,6 @@
 -- How a book grows: nothing in it is replaced.
 use Rattle.std.specs.Prelude.{◌≡◌, ℕ, ◌≤◌, List, length, Some, IsTrue, IsSome}
 use Rattle.pp_values.specs.declared.reference.Reference.{Reference}
-use Rattle.pp_values.specs.Settings.{Setting}
 use Rattle.res_core.specs.declared.declared.Declared.{Declared}
 use Rattle.res_book.specs.declared.mode.Mode.{Mode}
 use Rattle.res_book.specs.declared.row.Row.{Row}

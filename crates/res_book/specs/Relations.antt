@@ -1,5 +1,5 @@
 -- What declarations have to do with each other: relation lines, pairs of `contain`, collectors.
-use Rattle.std.specs.Prelude.{ℕ, ◌<◌, ◌^◌, List, [], ◌∷◌, ◌++◌, length, refl}
+use Rattle.std.specs.Prelude.{◌<◌, ◌^◌, List, [], ◌∷◌, ◌++◌, length, refl}
 use Rattle.std.specs.Coded.{Coded, code_by, coded×, coded_list}
 use Rattle.res_book.specs.contracts.collector.Collector as collector
 use Rattle.res_book.specs.contracts.containment.Containment as containment

@@ -1,13 +1,13 @@
 -- The table of the native types, whole, and what is answered from it.
-use Rattle.std.proofs.Common.{◌≡◌, ℕ, ◌==◌, true, false, if◌then◌else◌, Option, None, Some, Ok, Err, List, [], ◌∷◌, map, refl, codes}
-use Rattle.std.specs.List.{onto_first, list_all}
+use Rattle.std.proofs.Common.{◌≡◌, ℕ, ◌==◌, true, false, if◌then◌else◌, None, Some, Ok, Err, List, [], ◌∷◌, map, refl, codes}
+use Rattle.std.specs.List.{onto_first}
 use Rattle.pp_values.specs.Faults.{fault}
 use Rattle.pp_values.specs.declared.fault.What.TheVariants as what
 use Rattle.pp_values.specs.declared.place.Place.{Place}
 use Rattle.pp_values.specs.declared.reference.Reference.{Reference}
 use Rattle.res_core.specs.declared.native_type.NativeType.TheVariants as native
 use Rattle.res_core.specs.NativeTypes.{Row, row, all_natives, native_of, property_of, attributes_of}
-use Rattle.res_core.specs.Metaparameters.{relation_names, metaparameters, is_relation_name, is_metaparameter}
+use Rattle.res_core.specs.Metaparameters.{metaparameters, is_relation_name, is_metaparameter}
 use Rattle.res_core.specs.AttributeChecks.{known_checked, native_checked, attribute_checked}
 
 -- what stands between blanks

@@ -1,13 +1,15 @@
 -- The table of the native types, whole, and what is answered from it.
-use Rattle.std.proofs.Common.{◌≡◌, ℕ, ◌==◌, true, false, if◌then◌else◌, Option, None, Some, Ok, Err, List, [], ◌∷◌, map, refl, codes}
-use Rattle.std.specs.List.{onto_first, list_all}
+use Rattle.std.specs.Prelude.{⊤}
+use Rattle.std.proofs.Common.{◌≡◌, ℕ, ◌==◌, true, false, if◌then◌else◌, None, Some, Result, Ok, Err, List, [], ◌∷◌, map, refl, codes}
+use Rattle.std.specs.List.{onto_first}
 use Rattle.pp_values.specs.Faults.{fault}
+use Rattle.pp_values.specs.declared.fault.Fault.{Fault}
 use Rattle.pp_values.specs.declared.fault.What.TheVariants as what
 use Rattle.pp_values.specs.declared.place.Place.{Place}
 use Rattle.pp_values.specs.declared.reference.Reference.{Reference}
 use Rattle.res_core.specs.declared.native_type.NativeType.TheVariants as native
 use Rattle.res_core.specs.NativeTypes.{Row, row, all_natives, native_of, property_of, attributes_of}
-use Rattle.res_core.specs.Metaparameters.{relation_names, metaparameters, is_relation_name, is_metaparameter}
+use Rattle.res_core.specs.Metaparameters.{metaparameters, is_relation_name, is_metaparameter}
 use Rattle.res_core.specs.AttributeChecks.{known_checked, native_checked, attribute_checked}
 
 -- what stands between blanks
@@ -16,17 +18,23 @@ words [] = [] ∷ []
 words (b ∷ bs) = if b == 32 then [] ∷ words bs else onto_first b (words bs)
 
 abbrev line : List ℕ → List ℕ → List (List ℕ) → List ℕ → Row
-line kind namevar properties others = record { kind = kind; namevar = namevar; properties = properties; others = words others }
+line kind namevar properties others =
+    record { kind = kind; namevar = namevar; properties = properties; others = words others }
 
 table : map row all_natives ≡
-    line (codes "file") (codes "path") (words (codes "ensure content target owner group mode")) (codes "path source recurse purge force backup replace")
+    line (codes "file") (codes "path") (words (codes "ensure content target owner group mode"))
+    (codes "path source recurse purge force backup replace")
     ∷ line (codes "package") (codes "name") (words (codes "ensure")) (codes "name provider source install_options")
-    ∷ line (codes "service") (codes "name") (words (codes "ensure enable")) (codes "name provider hasstatus hasrestart restart")
-    ∷ line (codes "user") (codes "name") (words (codes "ensure uid gid home shell comment groups")) (codes "name managehome system")
+    ∷ line (codes "service") (codes "name") (words (codes "ensure enable"))
+    (codes "name provider hasstatus hasrestart restart")
+    ∷ line (codes "user") (codes "name") (words (codes "ensure uid gid home shell comment groups"))
+    (codes "name managehome system")
     ∷ line (codes "group") (codes "name") (words (codes "ensure gid")) (codes "name system")
     ∷ line (codes "host") (codes "name") (words (codes "ensure ip host_aliases comment target")) (codes "name")
-    ∷ line (codes "cron") (codes "name") (words (codes "ensure command user hour minute month monthday weekday")) (codes "name")
-    ∷ line (codes "exec") (codes "command") [] (codes "command path cwd user environment refreshonly creates returns timeout")
+    ∷ line (codes "cron") (codes "name") (words (codes "ensure command user hour minute month monthday weekday"))
+    (codes "name")
+    ∷ line (codes "exec") (codes "command") []
+    (codes "command path cwd user environment refreshonly creates returns timeout")
     ∷ line (codes "notify") (codes "name") [] (codes "name message")
     ∷ []
 table = refl
@@ -34,7 +42,8 @@ table = refl
 -- ---- which kinds are native
 
 natives : map native_of (words (codes "file package service user group host cron exec notify"))
-    ≡ Some native.File ∷ Some native.Package ∷ Some native.Service ∷ Some native.User ∷ Some native.Group ∷ Some native.Host ∷ Some native.Cron ∷ Some native.Exec ∷ Some native.Notify ∷ []
+    ≡ Some native.File ∷ Some native.Package ∷ Some native.Service ∷ Some native.User ∷ Some native.Group
+    ∷ Some native.Host ∷ Some native.Cron ∷ Some native.Exec ∷ Some native.Notify ∷ []
 unfolding native_of
 natives = refl
 
@@ -51,7 +60,8 @@ no_kind = refl
 -- ---- properties by their places
 
 of_file : map (property_of native.File) (0 ∷ 1 ∷ 2 ∷ 3 ∷ 4 ∷ 5 ∷ 6 ∷ 7 ∷ [])
-    ≡ Some (codes "ensure") ∷ Some (codes "content") ∷ Some (codes "target") ∷ Some (codes "owner") ∷ Some (codes "group") ∷ Some (codes "mode") ∷ None ∷ None ∷ []
+    ≡ Some (codes "ensure") ∷ Some (codes "content") ∷ Some (codes "target") ∷ Some (codes "owner")
+    ∷ Some (codes "group") ∷ Some (codes "mode") ∷ None ∷ None ∷ []
 unfolding property_of
 of_file = refl
 
@@ -103,11 +113,13 @@ all_of_notify = refl
 the_metaparameters : metaparameters ≡ words (codes "before require notify subscribe tag noop loglevel")
 the_metaparameters = refl
 
-the_relations : map is_relation_name (words (codes "before require notify subscribe tag noop loglevel")) ≡ true ∷ true ∷ true ∷ true ∷ false ∷ false ∷ false ∷ []
+the_relations : map is_relation_name (words (codes "before require notify subscribe tag noop loglevel"))
+    ≡ true ∷ true ∷ true ∷ true ∷ false ∷ false ∷ false ∷ []
 unfolding is_relation_name
 the_relations = refl
 
-no_metaparameters : map is_metaparameter (words (codes "Before ::require alias audit schedule stage name ensure tags")) ≡ false ∷ false ∷ false ∷ false ∷ false ∷ false ∷ false ∷ false ∷ false ∷ []
+no_metaparameters : map is_metaparameter (words (codes "Before ::require alias audit schedule stage name ensure tags"))
+    ≡ false ∷ false ∷ false ∷ false ∷ false ∷ false ∷ false ∷ false ∷ false ∷ []
 unfolding is_metaparameter
 no_metaparameters = refl
 
@@ -119,17 +131,23 @@ here = record { file = codes "manifests/site.pp"; line = 7 }
 abbrev named : List ℕ → List ℕ → Reference
 named kind title = record { kind = kind; title = title }
 
+abbrev vhost : Reference
+vhost = named (codes "web::vhost") (codes "x")
+
+abbrev checked : Reference → List ℕ → Result ⊤ Fault
+checked r name = attribute_checked r name here
+
 abbrev x : Reference
 x = named (codes "file") (codes "/x")
 
 -- a property, another attribute, the name attribute, each metaparameter
-taken : map (λ name. attribute_checked x name here) (words (codes "mode source path before require notify subscribe tag noop loglevel"))
+taken : map (checked x) (words (codes "mode source path before require notify subscribe tag noop loglevel"))
     ≡ Ok tt ∷ Ok tt ∷ Ok tt ∷ Ok tt ∷ Ok tt ∷ Ok tt ∷ Ok tt ∷ Ok tt ∷ Ok tt ∷ Ok tt ∷ []
 unfolding attribute_checked native_checked known_checked native_of attributes_of is_metaparameter
 taken = refl
 
 -- letter by letter; what only another kind has
-not_taken : map (λ name. attribute_checked x name here) (words (codes "Mode ::mode message name"))
+not_taken : map (checked x) (words (codes "Mode ::mode message name"))
     ≡ Err (fault here (what.UnknownParameter x (codes "Mode")))
     ∷ Err (fault here (what.UnknownParameter x (codes "::mode")))
     ∷ Err (fault here (what.UnknownParameter x (codes "message")))
@@ -139,13 +157,15 @@ unfolding attribute_checked native_checked known_checked native_of attributes_of
 not_taken = refl
 
 -- An unknown kind is told before an unknown attribute, and before a metaparameter is taken.
-unknown_kind : map (λ name. attribute_checked (named (codes "web::vhost") (codes "x")) name here) (words (codes "nothing tag"))
-    ≡ Err (fault here (what.UnknownType (codes "web::vhost"))) ∷ Err (fault here (what.UnknownType (codes "web::vhost"))) ∷ []
+unknown_kind : map (checked vhost) (words (codes "nothing tag"))
+    ≡ Err (fault here (what.UnknownType (codes "web::vhost")))
+    ∷ Err (fault here (what.UnknownType (codes "web::vhost"))) ∷ []
 unfolding attribute_checked native_checked native_of
 unknown_kind = refl
 
 -- a kind whose attributes are known otherwise, such as a defined type's parameters
-by_parameters : map (λ name. known_checked (named (codes "web::vhost") (codes "x")) (words (codes "port root")) name here) (words (codes "root tag mode"))
-    ≡ Ok tt ∷ Ok tt ∷ Err (fault here (what.UnknownParameter (named (codes "web::vhost") (codes "x")) (codes "mode"))) ∷ []
+by_parameters : map (λ name. known_checked vhost (words (codes "port root")) name here) (words (codes "root tag mode"))
+    ≡ Ok tt ∷ Ok tt
+    ∷ Err (fault here (what.UnknownParameter vhost (codes "mode"))) ∷ []
 unfolding known_checked is_metaparameter
 by_parameters = refl

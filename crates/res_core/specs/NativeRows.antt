@@ -1,5 +1,5 @@
 -- What a row of the program's table says.
-use Rattle.std.specs.Prelude.{List, ℕ, map}
+use Rattle.std.specs.Prelude.{map}
 use Rattle.res_core.specs.declared.native_table.NativeRow.{NativeRow}
 use Rattle.res_core.specs.NativeTypes.{Row}
 

@@ -1,5 +1,5 @@
 -- The native types: kinds of resource that are built in.
-use Rattle.std.specs.Prelude.{ℕ, List, [], ◌∷◌, ◌++◌, map, Option, find, codes}
+use Rattle.std.specs.Prelude.{ℕ, List, [], ◌∷◌, ◌++◌, Option, find, codes}
 use Rattle.std.specs.List.{slice_get}
 use Rattle.std.specs.Str.{bytes_eq}
 use Rattle.res_core.specs.declared.native_type.NativeType.{NativeType}
@@ -19,7 +19,9 @@ row native.File = record {
   kind = codes "file";
   namevar = codes "path";
   properties = codes "ensure" ∷ codes "content" ∷ codes "target" ∷ codes "owner" ∷ codes "group" ∷ codes "mode" ∷ [];
-  others = codes "path" ∷ codes "source" ∷ codes "recurse" ∷ codes "purge" ∷ codes "force" ∷ codes "backup" ∷ codes "replace" ∷ [];
+  others =
+      codes "path" ∷ codes "source" ∷ codes "recurse" ∷ codes "purge" ∷ codes "force" ∷ codes "backup"
+      ∷ codes "replace" ∷ [];
 }
 row native.Package = record {
   kind = codes "package";
@@ -36,7 +38,9 @@ row native.Service = record {
 row native.User = record {
   kind = codes "user";
   namevar = codes "name";
-  properties = codes "ensure" ∷ codes "uid" ∷ codes "gid" ∷ codes "home" ∷ codes "shell" ∷ codes "comment" ∷ codes "groups" ∷ [];
+  properties =
+      codes "ensure" ∷ codes "uid" ∷ codes "gid" ∷ codes "home" ∷ codes "shell" ∷ codes "comment"
+      ∷ codes "groups" ∷ [];
   others = codes "name" ∷ codes "managehome" ∷ codes "system" ∷ [];
 }
 row native.Group = record {
@@ -54,14 +58,18 @@ row native.Host = record {
 row native.Cron = record {
   kind = codes "cron";
   namevar = codes "name";
-  properties = codes "ensure" ∷ codes "command" ∷ codes "user" ∷ codes "hour" ∷ codes "minute" ∷ codes "month" ∷ codes "monthday" ∷ codes "weekday" ∷ [];
+  properties =
+      codes "ensure" ∷ codes "command" ∷ codes "user" ∷ codes "hour" ∷ codes "minute" ∷ codes "month"
+      ∷ codes "monthday" ∷ codes "weekday" ∷ [];
   others = codes "name" ∷ [];
 }
 row native.Exec = record {
   kind = codes "exec";
   namevar = codes "command";
   properties = [];
-  others = codes "command" ∷ codes "path" ∷ codes "cwd" ∷ codes "user" ∷ codes "environment" ∷ codes "refreshonly" ∷ codes "creates" ∷ codes "returns" ∷ codes "timeout" ∷ [];
+  others =
+      codes "command" ∷ codes "path" ∷ codes "cwd" ∷ codes "user" ∷ codes "environment" ∷ codes "refreshonly"
+      ∷ codes "creates" ∷ codes "returns" ∷ codes "timeout" ∷ [];
 }
 row native.Notify = record {
   kind = codes "notify";
@@ -73,7 +81,8 @@ row native.Notify = record {
 -- the native types, in the order of the table
 abbrev pub all_natives : List NativeType
 all_natives =
-    native.File ∷ native.Package ∷ native.Service ∷ native.User ∷ native.Group ∷ native.Host ∷ native.Cron ∷ native.Exec ∷ native.Notify ∷ []
+    native.File ∷ native.Package ∷ native.Service ∷ native.User ∷ native.Group
+    ∷ native.Host ∷ native.Cron ∷ native.Exec ∷ native.Notify ∷ []
 
 -- the native type whose kind this is; no other kind is native
 unfoldable pub native_of : List ℕ → Option NativeType

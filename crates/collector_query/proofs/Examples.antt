@@ -2,7 +2,6 @@
 use Rattle.std.proofs.Common.{◌≡◌, ℕ, Bool, true, false, List, [], ◌∷◌, refl, codes, pos}
 use Rattle.pp_values.specs.Datum as d
 use Rattle.pp_values.specs.Datum.{Datum, data_of}
-use Rattle.pp_values.specs.Settings.{Setting}
 use Rattle.res_core.specs.Criteria.{Criterion, all, by_title, by_tag, by_attribute, negation, conjunction, disjunction, criteria_of}
 use Rattle.collector_query.specs.Matches.{matches}
 

@@ -1,7 +1,9 @@
 -- What the definitions give on worked examples.
-use Rattle.std.proofs.Common.{◌≡◌, false, [], ◌∷◌, refl, codes}
+use Rattle.std.proofs.Common.{◌≡◌, true, false, Some, None, [], ◌∷◌, refl, codes}
 use Rattle.pp_values.specs.Rising.{sorted, is_rising}
-use Rattle.res_core.specs.TagNames.{segments, is_word_byte, is_tag_byte, is_taggable, tags}
+use Rattle.pp_values.specs.Datum.{flag, undef}
+use Rattle.res_core.specs.AttributeViews.{set_in}
+use Rattle.res_core.specs.TagNames.{segments, is_word_byte, is_tag_byte, is_taggable, tags, is_tagged}
 
 each_once : sorted (codes "b" ∷ codes "a" ∷ codes "b" ∷ []) ≡ codes "a" ∷ codes "b" ∷ []
 each_once = refl
@@ -45,3 +47,15 @@ lowered_title = refl
 title_with_space : tags (codes "file") (codes "a b") [] [] ≡ codes "file" ∷ []
 unfolding segments is_word_byte is_tag_byte
 title_with_space = refl
+
+letters_are_folded : is_tagged (codes "dns" ∷ codes "host" ∷ []) (codes "Host") ≡ true
+letters_are_folded = refl
+
+part_of_a_tag : is_tagged (codes "dns" ∷ codes "host" ∷ []) (codes "hos") ≡ false
+part_of_a_tag = refl
+
+set : set_in ((codes "ensure", flag true) ∷ (codes "mode", undef) ∷ []) (codes "mode") ≡ Some undef
+set = refl
+
+not_set : set_in ((codes "ensure", flag true) ∷ []) (codes "Ensure") ≡ None
+not_set = refl

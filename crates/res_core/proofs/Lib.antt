@@ -2,3 +2,4 @@ pub mod SegmentLemmas
 pub mod NameLemmas
 mod Examples
 mod NativeExamples
+pub mod SettingLemmas

@@ -1,9 +1,12 @@
-ghost use Rattle.std.specs.Prelude.{◌≡◌, [], ◌↔◌, length, IsTrue};
+ghost use Rattle.std.specs.Prelude.{◌≡◌, [], ◌↔◌, length, IsTrue, find, option_map, option_copied};
+ghost use Rattle.std.specs.Str.{bytes_eq};
 ghost use Rattle.pp_values.specs.Rising.{is_rising};
 ghost use Rattle.pp_values.specs.Settings.{setting_names};
-ghost use Rattle.res_core.specs.AttributeViews.{settings};
+ghost use Rattle.pp_values.specs.Views.{view};
+ghost use Rattle.res_core.specs.AttributeViews.{settings, set_in};
 
 use crate::attribute::Attribute;
+use pp_values::{Text, Value};
 use std::alloc::Global;
 use std::marker::Model;
 
@@ -81,4 +84,21 @@ impl Attributes {
     {
         self.items.as_slice()
     }
+
+    /// What the attribute of this name is set to.
+    #[tactic(auto, using(crate::proofs::SettingLemmas::found_setting))]
+    pub fn get(&self, name: &Text) -> Option<&Value>
+        ensures { option_map (λ v. view v.now) result ≡ set_in self.now name.now }
+    {
+        match named_in(&self.items, name) {
+            Some(attribute) => Some(&attribute.value),
+            None => None,
+        }
+    }
+}
+
+fn named_in<'a>(attributes: &'a [Attribute], name: &Text) -> Option<&'a Attribute>
+    ensures { option_copied result ≡ find (λ a. bytes_eq a.name name.now) attributes.now }
+{
+    attributes.iter().find(|a| a.name == *name)
 }

@@ -30,6 +30,8 @@ mod locks;
 #[cfg(test)]
 mod puppet;
 #[cfg(test)]
+mod queries;
+#[cfg(test)]
 mod replies;
 #[cfg(test)]
 mod resources;

@@ -193,15 +193,23 @@ fn finds(alloc: Global, name: &str, title: &str, number: Option<u32>) -> Result<
     Ok(book.find(&reference) == number)
 }
 
+fn is_live(book: &Book, number: u32) -> bool {
+    number < book.count() && book.live(number)
+}
+
+fn realize(book: &mut Book, number: u32) -> Result<bool, Memory> {
+    if number < book.count() {
+        return book.realize(number);
+    }
+    Ok(false)
+}
+
 fn marks(alloc: Global, number: u32, live: bool, realized: bool) -> Result<bool, Memory> {
     let mut book = book(alloc, 15);
-    if number >= book.count() {
-        return Ok(false);
-    }
-    let was = book.live(number) == live;
-    let first = book.realize(number)? == realized;
-    let second = book.realize(number)?;
-    Ok(was && first && !second && book.live(number))
+    let was = is_live(&book, number) == live;
+    let first = realize(&mut book, number)? == realized;
+    let second = realize(&mut book, number)?;
+    Ok(was && first && !second && is_live(&book, number))
 }
 
 /// The numbers of what is pending, with a blank before each.
@@ -220,12 +228,6 @@ fn pending(alloc: Global, book: &Book) -> Result<String, Memory> {
     Ok(out)
 }
 
-fn realize(book: &mut Book, number: u32) {
-    if number < book.count() {
-        let _marked = book.realize(number);
-    }
-}
-
 fn evaluate(alloc: Global, book: &mut Book, number: u32) {
     if number < book.count() {
         book.set_bound(number, Attributes::new(alloc));
@@ -240,7 +242,7 @@ fn waits(
 ) -> Result<bool, Memory> {
     let mut book = book(alloc, 15);
     if let Some(number) = marked {
-        realize(&mut book, number);
+        let _realized = realize(&mut book, number)?;
     }
     if let Some(number) = evaluated {
         evaluate(alloc, &mut book, number);

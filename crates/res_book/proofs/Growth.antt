@@ -1,18 +1,47 @@
 -- What each change of a book changes, and what it leaves.
 use Rattle.std.proofs.Common.{◌≡◌, ℕ, zero, suc, ◌<◌, Bool, true, false, cond, IsTrue, List, [], ◌∷◌, ◌++◌, length}
-use Rattle.std.proofs.Common.{Option, None, Some, option_map, refl, ap, ◌∙◌, arith, length-append}
-use Rattle.std.specs.Prelude.{slice_get, ◌&&◌, ◌||◌, not, IsSome}
+use Rattle.std.proofs.Common.{Option, None, Some, Result, Ok, Err, option_map, refl, sym, ap, subst, ◌∙◌, arith, length-append}
+use Rattle.std.specs.Prelude.{slice_get, nat_lt, ◌&&◌, ◌||◌, not, IsSome}
 use Rattle.pp_values.specs.Settings.{Setting}
+use Rattle.pp_values.specs.declared.fault.Fault.{Fault}
 use Rattle.pp_values.specs.declared.reference.Reference.{Reference}
 use Rattle.res_core.specs.declared.declared.Declared.{Declared}
 use Rattle.res_book.specs.Growth.{Grows}
 use Rattle.res_book.specs.Rows.{passes, is_virtual, is_live, is_instance, is_pending, is_pending_at, is_live_at, item_at, mode_at, bound_at, number_of, is_named, with_change, with_mark, with_bound, marked, bound_to}
+use Rattle.res_book.specs.Rows.{reference_of, declared, declared_as, declared_once, new_row, limit, is_class_virtual, class_virtual, too_many}
 use Rattle.res_book.specs.declared.mode.Mode.{Mode}
 use Rattle.res_book.specs.declared.row.Row.{Row}
 use Rattle.res_book.proofs.Live.{live-append, live-change, KeepsLife, marked_live}
 use Rattle.res_book.proofs.Rows.{KeepsItem, number_of-change, item_at-change, length-change}
 
 -- ---- one more declaration
+
+-- what comes of a declaration, whatever its last test says
+last_appends : (b : Bool) (d : Declared) (m : Mode) (rows new : List Row) (n : ℕ) →
+    cond {A = Result (ℕ × List Row) Fault} b (Ok (length rows, rows ++ new_row d m ∷ [])) (Err (too_many d))
+    ≡ Ok (n, new) →
+    (n ≡ length rows) × (new ≡ rows ++ new_row d m ∷ [])
+last_appends true d m rows new n e =
+    let both : Prim.Path (ℕ × List Row) (length rows, rows ++ new_row d m ∷ []) (n, new) = cc in
+    (sym (ap (λ q. q.0) both), sym (ap (λ q. q.1) both))
+last_appends false d m rows new n e = absurd cc
+
+once_appends : (o : Option Row) (d : Declared) (m : Mode) (rows new : List Row) (n : ℕ) →
+    declared_once d m o rows ≡ Ok (n, new) → (n ≡ length rows) × (new ≡ rows ++ new_row d m ∷ [])
+once_appends None d m rows new n e = last_appends (nat_lt (length rows) limit) d m rows new n e
+once_appends (Some r) d m rows new n e = absurd cc
+
+any_appends : (b : Bool) (o : Option Row) (d : Declared) (m : Mode) (rows new : List Row) (n : ℕ) →
+    cond b (Err (class_virtual d)) (declared_once d m o rows) ≡ Ok (n, new) →
+    (n ≡ length rows) × (new ≡ rows ++ new_row d m ∷ [])
+any_appends true o d m rows new n e = absurd cc
+any_appends false o d m rows new n e = once_appends o d m rows new n e
+
+-- a declaration that is not refused has the next number, and stands behind the others
+pub declared-appends : (d : Declared) (m : Mode) (rows new : List Row) (n : ℕ) →
+    declared d m rows ≡ Ok (n, new) → (n ≡ length rows) × (new ≡ rows ++ new_row d m ∷ [])
+declared-appends d m rows new n e =
+    any_appends (is_class_virtual d m) (declared_as (reference_of d) rows) d m rows new n e
 
 -- the rows before it stay
 pub row-append : (rows : List Row) (r : Row) (n : ℕ) → n < length rows →
@@ -71,6 +100,11 @@ grows-append rows r = record {
   live = λ n. live-append rows r n;
   bound = λ n. bound_stays rows r n;
 }
+
+pub grows-declared : (d : Declared) (m : Mode) (rows new : List Row) (n : ℕ) → declared d m rows ≡ Ok (n, new) →
+    Grows rows new
+grows-declared d m rows new n e =
+    subst (Grows rows) (sym (declared-appends d m rows new n e).1) (grows-append rows (new_row d m))
 
 -- ---- a change of one row
 

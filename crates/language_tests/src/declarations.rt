@@ -259,9 +259,11 @@ fn fills(alloc: Global) -> Result<bool, Stop> {
     }
     let more = declare(alloc, &mut book, "file", "more", "", 2);
     let again = declare(alloc, &mut book, "file", "65535", "", 3);
-    Ok(is_told(Told::TooMany, &more)
-        && is_told(Told::Duplicate(1), &again)
-        && book.count() == DECLARATION_LIMIT)
+    Ok(
+        is_told(Told::TooMany, &more)
+            && is_told(Told::Duplicate(1), &again)
+            && book.count() == DECLARATION_LIMIT,
+    )
 }
 
 fn collector(alloc: Global, exported: bool) -> Result<Collector, Memory> {

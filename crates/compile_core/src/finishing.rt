@@ -1,7 +1,5 @@
 //! The catalog and the exports of what is declared.
 ghost use Rattle.std.specs.Prelude.{◌≡◌, ◌∷◌, [], ◌++◌, codes, IfOk, OnOk};
-ghost use Rattle.std.specs.List.{list_any};
-ghost use Rattle.std.specs.Str.{str_eq_ignore_ascii_case};
 ghost use Rattle.pp_values.specs.Datum.{text};
 ghost use Rattle.res_core.specs.AttributeViews.{setting};
 ghost use Rattle.export_store.specs.ExportQueries.{has_tag as tag_is_there};
@@ -112,7 +110,7 @@ fn is_collected(collectors: &[&Collector], tags: &Tags) -> bool
 {
     let mut left = collectors;
     while let [collector, after @ ..] = left {
-        if has_tag(tags.as_slice(), &collector.tag) {
+        if has_tag(tags, &collector.tag) {
             return true;
         }
         left = after;
@@ -120,33 +118,13 @@ fn is_collected(collectors: &[&Collector], tags: &Tags) -> bool
     false
 }
 
-fn has_tag(tags: &[Text], tag: &Option<Text>) -> bool
+fn has_tag(tags: &Tags, tag: &Option<Text>) -> bool
     ensures { result ≡ tag_is_there tag.now tags.now }
 {
     match tag {
-        Some(tag) => contains_folded(tags, tag),
+        Some(tag) => tags.has(tag),
         None => true,
     }
-}
-
-fn contains_folded(tags: &[Text], tag: &Text) -> bool
-    ensures { result ≡ list_any (str_eq_ignore_ascii_case tag.now) tags.now }
-{
-    let mut left = tags;
-    while let [other, after @ ..] = left {
-        if is_folded(tag, other) {
-            return true;
-        }
-        left = after;
-    }
-    false
-}
-
-/// Whether the texts are the same, with ASCII letters folded.
-fn is_folded(a: &Text, b: &Text) -> bool
-    ensures { result ≡ str_eq_ignore_ascii_case a.now b.now }
-{
-    a.as_str().eq_ignore_ascii_case(b.as_str())
 }
 
 /// What the node exports: all its exported resources, live or not.

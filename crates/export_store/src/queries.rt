@@ -1,15 +1,13 @@
 //! Which exported resources a query finds.
 ghost use Rattle.std.specs.Prelude.{◌≡◌, ◌++◌, OnOk, IfOk, option_copied};
 ghost use Rattle.std.specs.Arc.{arc_value};
-ghost use Rattle.std.specs.List.{list_any};
-ghost use Rattle.std.specs.Str.{str_eq_ignore_ascii_case};
 ghost use Rattle.export_store.specs.ExportQueries.{has_tag, matches, found_in_set, found_in};
 ghost use Rattle.export_store.specs.Rows.{entries_of};
 
 use crate::export_place::ExportPlace;
 use crate::row::Row;
 use pp_values::{Memory, Text};
-use res_core::Exported;
+use res_core::{Exported, Tags};
 use std::alloc::Global;
 use std::sync::Arc;
 
@@ -66,32 +64,14 @@ fn place_of(alloc: Global, node: &Text, index: usize) -> Result<ExportPlace, Mem
 fn matches(exported: &Exported, kind: &Text, tag: Option<&Text>) -> bool
     ensures { result ≡ matches kind.now (option_copied tag.entry) exported.now }
 {
-    exported.item.kind.as_text() == kind && has_tag(exported.item.tags.as_slice(), tag)
+    exported.item.kind.as_text() == kind && has_tag(&exported.item.tags, tag)
 }
 
-fn has_tag(tags: &[Text], tag: Option<&Text>) -> bool
+fn has_tag(tags: &Tags, tag: Option<&Text>) -> bool
     ensures { result ≡ has_tag (option_copied tag.entry) tags.now }
 {
     match tag {
-        Some(tag) => contains_folded(tags, tag),
+        Some(tag) => tags.has(tag),
         None => true,
     }
-}
-
-fn contains_folded(tags: &[Text], tag: &Text) -> bool
-    ensures { result ≡ list_any (str_eq_ignore_ascii_case tag.now) tags.now }
-{
-    for other in tags {
-        if is_folded(tag, other) {
-            return true;
-        }
-    }
-    false
-}
-
-/// Whether the texts are the same, with ASCII letters folded.
-fn is_folded(a: &Text, b: &Text) -> bool
-    ensures { result ≡ str_eq_ignore_ascii_case a.now b.now }
-{
-    a.as_str().eq_ignore_ascii_case(b.as_str())
 }

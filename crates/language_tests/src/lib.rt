@@ -16,6 +16,8 @@ mod levels;
 #[cfg(test)]
 mod manifests;
 #[cfg(test)]
+mod natives;
+#[cfg(test)]
 mod operators;
 #[cfg(test)]
 mod reading;

@@ -1,0 +1,4 @@
+mod Pending
+mod Tables
+mod References
+pub mod Rows

@@ -2,3 +2,4 @@ pub mod Rows
 pub mod Numbers
 pub mod Outcomes
 pub mod Kept
+pub mod Relations

@@ -12,6 +12,7 @@ use Rattle.pp_values.specs.declared.fault.Subject.TheVariants as subject
 use Rattle.pp_values.specs.declared.fault.What.TheVariants as what
 use Rattle.pp_values.specs.declared.place.Place.{Place}
 use Rattle.pp_values.specs.declared.reference.Reference.{Reference}
+use Rattle.res_core.specs.NativeTypes.{native_of}
 use Rattle.res_core.specs.declared.declared.Declared.{Declared}
 use Rattle.res_book.specs.declared.mode.Mode.{Mode}
 use Rattle.res_book.specs.declared.mode.Mode.TheVariants as mode
@@ -36,6 +37,14 @@ is_virtual (mode.Imported node place) = false
 abbrev pub is_live : Row → Bool
 is_live r = not (is_virtual r.mode) || r.marked
 
+-- what is neither a class nor of a native type is an instance of a definition
+abbrev pub is_instance : Declared → Bool
+is_instance d = not (is_class d) && is_none (native_of d.item.kind)
+
+-- an instance that is live and was not evaluated
+abbrev pub is_pending : Row → Bool
+is_pending r = is_live r && (is_instance r.item && is_none r.bound)
+
 -- ---- by number
 
 abbrev pub item_at : List Row → ℕ → Option Declared
@@ -55,6 +64,21 @@ is_live_at rows n = passes is_live (slice_get rows n)
 abbrev pub bound_at : List Row → ℕ → Option (List Setting)
 bound_at rows n = option_and_then (λ r. r.bound) (slice_get rows n)
 
+abbrev pub is_pending_at : List Row → ℕ → Bool
+is_pending_at rows n = passes is_pending (slice_get rows n)
+
+-- the first pending one from a number on
+abbrev pub pending_from : List Row → ℕ → Option ℕ
+pending_from rows from = find (is_pending_at rows) (range_with_len from (length rows - from))
+
+abbrev pub next_number : Option ℕ → ℕ
+next_number None = 0
+next_number (Some n) = n + 1
+
+-- the first pending one behind a declaration, or of all
+abbrev pub pending_after : List Row → Option ℕ → Option ℕ
+pending_after rows after = pending_from rows (next_number after)
+
 -- ---- by reference
 
 abbrev pub is_named : Reference → Row → Bool
@@ -71,7 +95,7 @@ number_of q (r ∷ rs) = if is_named q r then Some 0 else option_map suc (number
 
 -- Each declaration is the one that its reference finds, so no two have the same.
 pub record AreApart (rows : List Row) : Type 0 where
-  pub found : (n : ℕ) (r : Row) → slice_get rows n ≡ Some r → number_of (reference_of r.item) rows ≡ Some n
+  pub found : (n : ℕ) (d : Declared) → item_at rows n ≡ Some d → number_of (reference_of d) rows ≡ Some n
 
 -- ---- declaring
 

@@ -1,14 +1,14 @@
 ghost use Rattle.std.specs.Prelude.{◌≡◌, ◌<◌, [], ◌∷◌, ◌++◌, length, not, is_ok, if◌then◌else◌, option_copied, slice_get, IfOk, IsTrue};
 ghost use Rattle.res_book.specs.Outcomes.{Changes};
-ghost use Rattle.res_book.specs.Rows.{reference_of, is_class_virtual as class_virtual_meant, is_virtual as virtual_meant, is_live as live_meant};
-ghost use Rattle.res_book.specs.Rows.{item_at, mode_at, is_live_at, bound_at, number_of, declared, declared_last, is_contained, limit, with_mark, with_bound};
+ghost use Rattle.res_book.specs.Rows.{reference_of, is_class_virtual as class_virtual_meant, is_virtual as virtual_meant, is_live as live_meant, is_instance as instance_meant, is_pending as pending_meant};
+ghost use Rattle.res_book.specs.Rows.{item_at, mode_at, is_live_at, is_pending_at, pending_from, pending_after, bound_at, number_of, declared, declared_as, declared_last, is_contained, limit, with_mark, with_bound};
 
 use crate::faults::{class_virtual, duplicate, too_many};
 use crate::mode::Mode;
 use crate::numbers::Numbers;
 use crate::row::Row;
 use pp_values::{Memory, Reference, Stop};
-use res_core::{Attributes, Declared};
+use res_core::{Attributes, Declared, native};
 use std::alloc::Global;
 use std::marker::Model;
 
@@ -71,7 +71,7 @@ impl Book {
         ensures item { item_at self.now number ≡ Some result.now }
         ensures found { number_of (reference_of result.now) self.now ≡ Some number }
     {
-        &self.row(number).item
+        &self.rows[number as usize].item
     }
 
     pub fn mode(&self, number: u32) -> &Mode
@@ -100,15 +100,31 @@ impl Book {
         if is_class_virtual(&item, &mode) {
             return Err(Stop::Fault(class_virtual(alloc, &item)?));
         }
-        match self.numbers.get(item.item.kind.as_text(), &item.item.title) {
-            Some(earlier) => Err(Stop::Fault(duplicate(alloc, &item, &self.row(earlier).item.at)?)),
+        match self.earlier(&item) {
+            Some(row) => Err(Stop::Fault(duplicate(alloc, &item, &row.item.at)?)),
             None => self.declare_new(alloc, item, mode),
         }
     }
 
+    /// The declaration with the same reference.
+    fn earlier(&self, item: &Declared) -> Option<&Row>
+        ensures { option_copied result ≡ declared_as (reference_of item.now) self.now }
+    {
+        match self.number_of(item) {
+            Some(number) => Some(self.row(number)),
+            None => None,
+        }
+    }
+
+    fn number_of(&self, item: &Declared) -> Option<u32>
+        ensures { result ≡ number_of (reference_of item.now) self.now }
+    {
+        self.numbers.get(item.item.kind.as_text(), &item.item.title)
+    }
+
     /// Declares a resource that is not declared yet.
     fn declare_new(&mut self, alloc: Global, item: Declared, mode: Mode) -> Result<u32, Stop>
-        requires { number_of (reference_of item) self.old ≡ None }
+        requires { declared_as (reference_of item) self.old ≡ None }
         ensures { Changes (declared_last item mode self.old) self.old result self.new }
     {
         if self.count() >= DECLARATION_LIMIT {
@@ -125,7 +141,7 @@ impl Book {
 
     /// Adds a row, whose reference no other has. Where there is no memory, all stays as it was.
     fn add(&mut self, alloc: Global, row: Row) -> Result<u32, Memory>
-        requires new { number_of (reference_of row.item) self.old ≡ None }
+        requires new { declared_as (reference_of row.item) self.old ≡ None }
         requires room { length self.old < limit }
         ensures number { IfOk result (λ n. n ≡ length self.old) }
         ensures rows { self.new ≡ (if is_ok result then self.old ++ row ∷ [] else self.old) }
@@ -144,6 +160,36 @@ impl Book {
         ensures { result ≡ is_live_at self.now number }
     {
         is_live(self.row(number))
+    }
+
+    /// The next instance of a definition behind a declaration, or of all, that is live and was not evaluated.
+    pub fn pending(&self, after: Option<u32>) -> Option<u32>
+        ensures { result ≡ pending_after self.now after }
+    {
+        let from = match after {
+            Some(number) => number as usize + 1,
+            None => 0,
+        };
+        self.pending_from(from)
+    }
+
+    #[tactic(auto, using(crate::proofs::Pending::none_from, crate::proofs::Pending::not_here, crate::proofs::Pending::here))]
+    fn pending_from(&self, from: usize) -> Option<u32>
+        ensures { result ≡ pending_from self.now from }
+    {
+        for number in from..self.rows.len() {
+            if self.is_pending(number as u32) {
+                return Some(number as u32);
+            }
+        }
+        None
+    }
+
+    fn is_pending(&self, number: u32) -> bool
+        requires { number < length self.now }
+        ensures { result ≡ is_pending_at self.now number }
+    {
+        is_pending(self.row(number))
     }
 
     /// Marks a declaration as taken by a collector. True exactly where that makes it live.
@@ -190,6 +236,18 @@ fn is_live(row: &Row) -> bool
     ensures { result ≡ live_meant row.now }
 {
     !is_virtual(&row.mode) || row.marked
+}
+
+fn is_instance(item: &Declared) -> bool
+    ensures { result ≡ instance_meant item.now }
+{
+    !item.item.kind.is("class") && native(item.item.kind.as_text()).is_none()
+}
+
+fn is_pending(row: &Row) -> bool
+    ensures { result ≡ pending_meant row.now }
+{
+    is_live(row) && is_instance(&row.item) && row.bound.is_none()
 }
 
 fn is_class_virtual(item: &Declared, mode: &Mode) -> bool

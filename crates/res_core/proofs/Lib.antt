@@ -1,3 +1,4 @@
 pub mod SegmentLemmas
 pub mod NameLemmas
 mod Examples
+mod NativeExamples

@@ -6,3 +6,11 @@ pub mod ExportSetCodes
 pub mod Asked
 pub mod AskedFacts
 pub mod RequestViews
+pub mod NativeTypes
+pub mod NativeRows
+pub mod Metaparameters
+pub mod AttributeChecks
+pub mod Criteria
+pub mod CriteriaCodes
+pub mod QueryViews
+pub mod QueryFalls

@@ -1,7 +1,8 @@
 -- Which tags a resource has.
 use Rattle.std.specs.Prelude.{◌≡◌, ◌↔◌, ℕ, Bool, true, false, IsTrue, ◌&&◌, ◌||◌, ◌==◌, if◌then◌else◌, List, [], ◌∷◌, ◌++◌, map, filter}
-use Rattle.std.specs.List.{list_all, onto_first}
+use Rattle.std.specs.List.{list_all, list_any, onto_first}
 use Rattle.std.specs.Char.{to_ascii_lowercase, is_ascii_alphanumeric}
+use Rattle.std.specs.Str.{str_eq_ignore_ascii_case}
 use Rattle.pp_values.specs.Rising.{is_rising, has_text, sorted}
 
 -- the parts of a name between its `::`, which are found from the left; empty parts too
@@ -43,6 +44,10 @@ lowered = map to_ascii_lowercase
 -- the tags, in rising byte order, each once
 abbrev pub tags : List ℕ → List ℕ → List (List ℕ) → List (List ℕ) → List (List ℕ)
 tags kind title given container = sorted (map lowered (names kind title given container))
+
+-- some tag is this text, with ASCII letters folded
+abbrev pub is_tagged : List (List ℕ) → List ℕ → Bool
+is_tagged ts text = list_any (str_eq_ignore_ascii_case text) ts
 
 -- The tags rise and hold exactly the names in lower case, and no other list does both.
 abbrev pub TagsAreTheSet : Type 0

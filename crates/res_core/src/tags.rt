@@ -1,5 +1,6 @@
 ghost use Rattle.std.specs.Prelude.{◌≡◌, [], ◌↔◌, length, IfOk, IsTrue};
 ghost use Rattle.pp_values.specs.Rising.{is_rising};
+ghost use Rattle.res_core.specs.TagNames.{is_tagged};
 
 use pp_values::{Memory, Text};
 use std::alloc::Global;
@@ -57,6 +58,15 @@ impl Tags {
         ensures rising { IsTrue (is_rising self.now) }
     {
         self.items.as_slice()
+    }
+
+    /// Whether one of them is this text, with ASCII letters folded.
+    pub fn has(&self, text: &Text) -> bool
+        ensures { result ≡ is_tagged self.now text.now }
+    {
+        self.items
+            .iter()
+            .any(|tag| text.as_str().eq_ignore_ascii_case(tag.as_str()))
     }
 
     pub fn copy(&self, alloc: Global) -> Result<Tags, Memory>

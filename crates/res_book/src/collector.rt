@@ -1,0 +1,14 @@
+use pp_values::{Kind, Place, Reference};
+use res_core::QueryBox;
+
+/// What takes declarations, as `File <| tag == 'a' |>` does.
+#[derive(Drop)]
+pub struct Collector {
+    pub kind: Kind,
+    pub query: QueryBox,
+    pub at: Place,
+    /// Whether it takes exported declarations alone, and those that other nodes export, as `File <<| |>>` does.
+    pub exported: bool,
+    /// The one declaration that it takes, where it comes from the function `realize`.
+    pub realized: Option<Reference>,
+}

@@ -8,5 +8,4 @@ pub mod Outward
 pub mod Gathered
 pub mod Among
 pub mod Ranges
-pub mod Rows
 pub mod Examples

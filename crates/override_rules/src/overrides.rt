@@ -1,13 +1,13 @@
 ghost use Rattle.std.specs.Prelude.{◌≡◌, ◌<◌, ◌+◌, ◌++◌, [], ℕ, List, Some, length, find, if◌then◌else◌, is_ok, nat_lt, option_copied, option_map, slice_get, IfOk, OnOk};
 ghost use Rattle.pp_values.specs.Answers.{Answers};
 ghost use Rattle.pp_values.specs.Views.{view};
-ghost use Rattle.pp_values.specs.Rising.{sorted};
+ghost use Rattle.pp_values.specs.Rising.{sorted, with_texts};
 ghost use Rattle.res_book.specs.Outcomes.{Changes};
 ghost use Rattle.res_core.specs.AttributeViews.{settings};
 ghost use Rattle.override_rules.specs.Fold.{set_in};
 ghost use Rattle.override_rules.specs.Lines.{line_of, lines_of};
 ghost use Rattle.override_rules.specs.Meaning.{State, attribute_of as attribute_meant, attribute_at, defaulted as defaulted_meant, is_imported as imported_meant, line_added, tested, test_of, row_of, stands, is_orphan as is_orphan_meant, orphan, default_added, scope_opened, touched_by};
-ghost use Rattle.override_rules.specs.Names.{names_of, setting_for, settings_among};
+ghost use Rattle.override_rules.specs.Names.{names_of, default_names, setting_for, settings_among};
 
 use crate::changing::set_to;
 use crate::defaults::Defaults;
@@ -176,11 +176,23 @@ impl Overrides {
         let mut names = BTreeSet::new(alloc);
         put_own(alloc, &row.item.item.attributes, &mut names)?;
         put_overridden(alloc, &self.lines, &row.item, &mut names)?;
-        if !is_imported(&row.mode) {
-            let kind = &row.item.item.kind;
-            put_defaults(alloc, &self.scopes, &self.defaults, kind, row.item.scope, &mut names)?;
-        }
+        self.put_default_names(alloc, row, &mut names)?;
         Ok(names)
+    }
+
+    fn put_default_names(
+        &self,
+        alloc: Global,
+        row: &Row,
+        names: &mut BTreeSet<Text>,
+    ) -> Result<(), Memory>
+        ensures { OnOk result (names.new.keys ≡ with_texts names.old.keys (default_names self.now row.now)) }
+    {
+        if is_imported(&row.mode) {
+            return Ok(());
+        }
+        let item = &row.item;
+        put_defaults(alloc, &self.scopes, &self.defaults, &item.item.kind, item.scope, names)
     }
 
     fn attributes_among(

@@ -16,7 +16,7 @@ returns-in-None-parent c =
     let t = c.loop-left-test.true in
     let left = c.loop-left.left in
     sym (put_scope left (left - 1) c.args.scopes.now c.args.defaults.now c.args.kind.now c.loop-left.wanted c.in-Some.parent
-    c.loop-left.names.keys c.put_names.new.names.keys (omega arith) (sym c.in-Some.ensures) c.in_ok-put_names.ensures
+    c.loop-left.names.keys c.put_names.new.names.keys (omega arith) (sym c.in-Some.ensures) c.in_ok-put_names-in-Some.ensures
     ∙ ap (with_texts c.put_names.new.names.keys)
     (names_none (left - 1) c.args.scopes.now c.args.defaults.now c.args.kind.now c.in-Some.parent c.in-None-parent.is))
     ∙ c.loop-left.invariant
@@ -26,7 +26,7 @@ loop-left-preserved c =
     let t = c.loop-left-test.true in
     let left = c.loop-left.left in
     sym (put_scope left (left - 1) c.args.scopes.now c.args.defaults.now c.args.kind.now c.loop-left.wanted c.in-Some.parent
-    c.loop-left.names.keys c.put_names.new.names.keys (omega arith) (sym c.in-Some.ensures) c.in_ok-put_names.ensures
+    c.loop-left.names.keys c.put_names.new.names.keys (omega arith) (sym c.in-Some.ensures) c.in_ok-put_names-in-Some.ensures
     ∙ ap (λ p. with_texts c.put_names.new.names.keys (names_within (left - 1) c.args.scopes.now c.args.defaults.now c.args.kind.now p))
     c.in-Some-parent.is)
     ∙ c.loop-left.invariant

@@ -116,7 +116,7 @@ not_set_in [] name e = refl
 not_set_in (s ∷ ss) name e =
     let parts = neither (bytes_eq name s.0) (has_text (setting_names ss) name) e in
     ap (λ b. option_map (λ x. x.1) (cond b (Some s) (find (λ x. bytes_eq x.0 name) ss)))
-      (nat_list_eq_equiv.symm s.0 name ∙ parts.0)
+    (nat_list_eq_equiv.symm s.0 name ∙ parts.0)
     ∙ not_set_in ss name parts.1
 
 not_changed : (ls : List Line) (name : List ℕ) (v : Option Datum) → has_text (line_names ls) name ≡ false → after_lines name ls v ≡ v
@@ -179,10 +179,10 @@ not_among s r name e =
     let p = parted own (line_names ls ++ default_names s r) name e in
     let q = parted (line_names ls) (default_names s r) name p.1 in
     ap (λ o. or_else o (defaulted s r name))
-      (not_changed ls name (set_in r.item.item.attributes name) q.0 ∙ not_set_in r.item.item.attributes name p.0)
+    (not_changed ls name (set_in r.item.item.attributes name) q.0 ∙ not_set_in r.item.item.attributes name p.0)
     ∙ not_defaulted (is_imported r.mode) (nearest s.scopes s.defaults r.item.item.kind name r.item.scope) name
-      (names_within (length s.scopes) s.scopes s.defaults r.item.item.kind (Some r.item.scope))
-      (not_nearest (length s.scopes) s.scopes s.defaults r.item.item.kind name (Some r.item.scope)) q.1
+    (names_within (length s.scopes) s.scopes s.defaults r.item.item.kind (Some r.item.scope))
+    (not_nearest (length s.scopes) s.scopes s.defaults r.item.item.kind name (Some r.item.scope)) q.1
 
 -- ---- all together
 
@@ -195,9 +195,9 @@ pub all_found : (s : State) (r : Row) (name : List ℕ) →
 all_found s r name =
     found_among (attribute_of s r) (sorted (names_of s r)) name
     ∙ ap (λ b. if b then attribute_of s r name else None)
-      (has_text-with_texts (names_of s r) [] name ∙ no_more (has_text (names_of s r) name))
+    (has_text-with_texts (names_of s r) [] name ∙ no_more (has_text (names_of s r) name))
     ∙ elim (has_text (names_of s r) name) as (λ b. has_text (names_of s r) name ≡ b → (if b then attribute_of s r name else None) ≡ attribute_of s r name)
-      [ true ↦ λ e. refl | false ↦ λ e. sym (not_among s r name e) ] refl
+    [ true ↦ λ e. refl | false ↦ λ e. sym (not_among s r name e) ] refl
 
 pub all_rising : (s : State) (r : Row) →
     is_rising (setting_names (settings_among (attribute_of s r) (sorted (names_of s r)))) ≡ true

@@ -101,7 +101,7 @@ declared kind title settings =
       scope = 5;
       container = None;
       class = codes "class web";
-      known = codes "mode" ∷ codes "owner" ∷ []
+      known = codes "mode" ∷ codes "owner" ∷ [];
     }
 
 abbrev row : List ℕ → List ℕ → List Setting → Mode → Option (List Setting) → Row
@@ -308,13 +308,13 @@ unfolding after_lines is_metaparameter
 set_by_line = refl
 
 unset_by_line : line_added (file_x with_a ∷ []) (changes_mode 3 web) (state (sets 2 d.undef ∷ []) [] [])
-  ≡ Ok (tt, state (sets 2 d.undef ∷ changes_mode 3 web ∷ []) [] [])
+    ≡ Ok (tt, state (sets 2 d.undef ∷ changes_mode 3 web ∷ []) [] [])
 unfolding after_lines is_metaparameter
 unset_by_line = refl
 
 -- a default doesn't count
 default_not_set : line_added (file_x [] ∷ []) (changes_mode 2 web) (state [] scopes (file_mode 5 a []))
-  ≡ Ok (tt, state (changes_mode 2 web ∷ []) scopes (file_mode 5 a []))
+    ≡ Ok (tt, state (changes_mode 2 web ∷ []) scopes (file_mode 5 a []))
 unfolding after_lines is_metaparameter
 default_not_set = refl
 
@@ -323,7 +323,7 @@ unfolding after_lines is_metaparameter
 unknown_name = refl
 
 metaparameter : line_added (file_x [] ∷ []) (line 2 (codes "x") (codes "tag") false b web) empty
-  ≡ Ok (tt, state (line 2 (codes "x") (codes "tag") false b web ∷ []) [] [])
+    ≡ Ok (tt, state (line 2 (codes "x") (codes "tag") false b web ∷ []) [] [])
 unfolding after_lines is_metaparameter
 metaparameter = refl
 
@@ -410,7 +410,7 @@ default_again : default_added (codes "file") 5 (codes "mode") a (place 3) (state
 default_again = refl
 
 default_elsewhere : default_added (codes "file") 2 (codes "mode") a (place 3) (state [] scopes (file_mode 5 b []))
-  ≡ Ok (tt, state [] scopes (file_mode 2 a (file_mode 5 b [])))
+    ≡ Ok (tt, state [] scopes (file_mode 2 a (file_mode 5 b [])))
 default_elsewhere = refl
 
 -- ---- all attributes, and how much concerns a declaration

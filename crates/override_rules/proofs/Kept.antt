@@ -88,7 +88,7 @@ counts_more a b c es k v new keeps adds held = λ kind.
     adds kind
     ∙ ap (λ n. if bytes_eq k.kind kind then suc n else n) (keeps kind ∙ held kind)
     ∙ ap (λ t. if t then suc (length (defaults_for kind (defaults_of es))) else length (defaults_for kind (defaults_of es)))
-      (nat_list_eq_equiv.symm k.kind kind)
+    (nat_list_eq_equiv.symm k.kind kind)
     ∙ sym (ap (λ ds. length (defaults_for kind ds)) (put_seen es k v) ∙ one_more (defaults_of es) k (view v) kind new)
 
 pub counts_kept : (a b : CountTable) (ds : List Default) → KeepsCounts a b → CountsKinds a ds → CountsKinds b ds

@@ -34,10 +34,10 @@ finds_more m n items l x k named last adds held = λ r.
     adds r
     ∙ if_more (same_reference k r) (numbers_at m r) x
     ∙ ap (λ b. numbers_at m r ++ (if b then x ∷ [] else []))
-      (same_reference_equiv.symm k r ∙ ap (same_reference r) named)
+    (same_reference_equiv.symm k r ∙ ap (same_reference r) named)
     ∙ ap (λ ns. ns ++ (if is_on r (line_of l) then x ∷ [] else [])) (held r)
     ∙ ap (λ i. places r (lines_of items) ++ (if is_on r (line_of l) then i ∷ [] else []))
-      (last ∙ sym (length-map items line_of))
+    (last ∙ sym (length-map items line_of))
     ∙ sym (places-append r (lines_of items) (line_of l))
     ∙ ap (places r) (sym (map-append line_of items (l ∷ [])))
 
@@ -75,7 +75,7 @@ lines_at-places r [] = refl
 lines_at-places r (l ∷ ls) =
     lines_at-append (l ∷ ls) (if is_on r l then 0 ∷ [] else []) (map suc (places r ls))
     ∙ ap (λ t. lines_at (l ∷ ls) (if is_on r l then 0 ∷ [] else []) ++ t)
-      (lines_at-later l ls (places r ls) ∙ lines_at-places r ls)
+    (lines_at-later l ls (places r ls) ∙ lines_at-places r ls)
     ∙ first_line (is_on r l) l ls (lines_on r ls)
 
 pub length-places : (r : Reference) (ls : List Line) → length (places r ls) ≡ length (lines_on r ls)

@@ -48,9 +48,9 @@ between kind scope k =
     let high = nat_cmp (scope + 1) k.scope in
     let name = slice_cmp nat_cmp [] k.name in
     by_kind (slice_cmp nat_cmp kind k.kind) (ordering_then low name) (ordering_then high name) (scope == k.scope)
-      (ap (λ b. b && not (is_le (ordering_then high name))) (le_alone low name (no_name_first k.name))
-      ∙ ap (λ b. is_le low && not b) (le_alone high name (no_name_first k.name))
-      ∙ this_one low high scope k.scope (ranks scope k.scope) (ranks (scope + 1) k.scope))
+    (ap (λ b. b && not (is_le (ordering_then high name))) (le_alone low name (no_name_first k.name))
+    ∙ ap (λ b. is_le low && not b) (le_alone high name (no_name_first k.name))
+    ∙ this_one low high scope k.scope (ranks scope k.scope) (ranks (scope + 1) k.scope))
     ∙ ap (λ b. b && (scope == k.scope)) (sym (texts_ties kind k.kind))
 
 names_seen : (test : DefaultKey → Bool) (es : List (DefaultKey × Value)) →

@@ -127,9 +127,9 @@ set_no name v = refl
 
 tests-then : (d : Declared) (e : Bool) (done a b : List Line) (l : Line) (r : Result (Unit {0}) Fault) →
     line_tests d e (done ++ l ∷ []) (a ++ b)
-      ≡ and_then (line_tests d e (done ++ l ∷ []) a) (λ _. line_tests d e ((done ++ l ∷ []) ++ a) b) →
+    ≡ and_then (line_tests d e (done ++ l ∷ []) a) (λ _. line_tests d e ((done ++ l ∷ []) ++ a) b) →
     and_then r (λ _. line_tests d e (done ++ l ∷ []) (a ++ b))
-      ≡ and_then (and_then r (λ _. line_tests d e (done ++ l ∷ []) a)) (λ _. line_tests d e (done ++ l ∷ a) b)
+    ≡ and_then (and_then r (λ _. line_tests d e (done ++ l ∷ []) a)) (λ _. line_tests d e (done ++ l ∷ a) b)
 tests-then d e done a b l (Ok u) h =
     h ∙ ap (λ t. and_then (line_tests d e (done ++ l ∷ []) a) (λ _. line_tests d e t b)) (append_assoc done (l ∷ []) a)
 tests-then d e done a b l (Err f) h = refl
@@ -158,13 +158,13 @@ tests_once d e done l = alone (line_test d e (is_set_by d done l.name) l)
 tests_step : (d : Declared) (e : Bool) (ls : List Line) (ns : List ℕ) (at : ℕ) → at < length ns →
     line_tests d e (lines_at ls (take at ns)) (lines_at ls (drop at ns))
     ≡ and_then (line_tests d e (lines_at ls (take at ns)) (option_to_list (slice_get ls (get_or ns at 0))))
-      (λ _. line_tests d e (lines_at ls (take (at + 1) ns)) (lines_at ls (drop (at + 1) ns)))
+    (λ _. line_tests d e (lines_at ls (take (at + 1) ns)) (lines_at ls (drop (at + 1) ns)))
 tests_step d e ls ns at fits =
     let n = get_or ns at 0 in
     let one : List Line = option_to_list (slice_get ls n) in
     let front : lines_at ls (take at ns) ++ one ≡ lines_at ls (take (at + 1) ns) =
-      sym (ap (lines_at ls) (take_more ns at 0 fits)
-      ∙ lines_at-append ls (take at ns) (n ∷ []) ∙ ap (λ t. lines_at ls (take at ns) ++ t) (lines_at-once ls n)) in
+    sym (ap (lines_at ls) (take_more ns at 0 fits)
+    ∙ lines_at-append ls (take at ns) (n ∷ []) ∙ ap (λ t. lines_at ls (take at ns) ++ t) (lines_at-once ls n)) in
     ap (line_tests d e (lines_at ls (take at ns))) (from_place ls ns at fits)
     ∙ tests-append d e (lines_at ls (take at ns)) one (lines_at ls (drop (at + 1) ns))
     ∙ ap (λ t. and_then (line_tests d e (lines_at ls (take at ns)) one) (λ _. line_tests d e t (lines_at ls (drop (at + 1) ns)))) front

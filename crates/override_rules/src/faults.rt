@@ -39,12 +39,7 @@ pub fn already_set(alloc: Global, item: &Declared, line: &OverrideLine) -> Resul
 }
 
 /// The scope has a default for the kind and name already.
-pub fn default_twice(
-    alloc: Global,
-    kind: &Kind,
-    name: &Text,
-    at: &Place,
-) -> Result<Fault, Memory>
+pub fn default_twice(alloc: Global, kind: &Kind, name: &Text, at: &Place) -> Result<Fault, Memory>
     ensures { IfOk result (λ f. f ≡ default_twice_meant kind.now name.now at.now) }
 {
     let at = at.copy(alloc)?;

@@ -27,11 +27,7 @@ pub fn overridden(
     after_lines(alloc, lines, numbers, name, value)
 }
 
-fn declared(
-    alloc: Global,
-    attributes: &Attributes,
-    name: &Text,
-) -> Result<Option<Value>, Memory>
+fn declared(alloc: Global, attributes: &Attributes, name: &Text) -> Result<Option<Value>, Memory>
     ensures { IfOk result (λ o. option_map view o ≡ set_in attributes.now name.now) }
 {
     match named(attributes.as_slice(), name) {

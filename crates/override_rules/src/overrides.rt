@@ -156,12 +156,7 @@ impl Overrides {
     }
 
     /// All attributes that are set, each with what `attribute` gives for it.
-    pub fn attributes(
-        &self,
-        alloc: Global,
-        book: &Book,
-        number: u32,
-    ) -> Result<Attributes, Memory>
+    pub fn attributes(&self, alloc: Global, book: &Book, number: u32) -> Result<Attributes, Memory>
         requires { number < length book.now }
         ensures { IfOk result (λ a. (name : List ℕ) → set_in a name ≡ attribute_at self.now book.now number name) }
     {
@@ -192,7 +187,14 @@ impl Overrides {
             return Ok(());
         }
         let item = &row.item;
-        put_defaults(alloc, &self.scopes, &self.defaults, &item.item.kind, item.scope, names)
+        put_defaults(
+            alloc,
+            &self.scopes,
+            &self.defaults,
+            &item.item.kind,
+            item.scope,
+            names,
+        )
     }
 
     fn attributes_among(

@@ -13,9 +13,7 @@ pub fn may(right: &Right, source: &Text, set: bool) -> bool
 {
     match right {
         Right::Any => true,
-        Right::From(own, above) => {
-            contains(above.as_slice(), source) || (!set && own == source)
-        }
+        Right::From(own, above) => { contains(above.as_slice(), source) || (!set && own == source) }
     }
 }
 

@@ -42,15 +42,16 @@ pub fn line_test(
 }
 
 /// The first fault of the lines on a declaration, each of which is tested after those before it.
-pub fn test_all(
-    alloc: Global,
-    lines: &Lines,
-    item: &Declared,
-    evaluated: bool,
-) -> Result<(), Stop>
+pub fn test_all(alloc: Global, lines: &Lines, item: &Declared, evaluated: bool) -> Result<(), Stop>
     ensures { Answers result (line_tests item.now evaluated [] (lines_on (reference_of item.now) lines.now)) }
 {
-    test_numbers(alloc, lines, lines.on(&item.item.kind, &item.item.title), item, evaluated)
+    test_numbers(
+        alloc,
+        lines,
+        lines.on(&item.item.kind, &item.item.title),
+        item,
+        evaluated,
+    )
 }
 
 fn test_numbers(

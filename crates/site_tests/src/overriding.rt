@@ -65,10 +65,9 @@ fn declared(alloc: Global, mode: &str) -> Result<Declared, Memory> {
     known.push(Text::from_str(alloc, "mode")?)?;
     let class = Text::from_str(alloc, "class web")?;
     let at = at(alloc)?;
-    let Reference { kind, title } = file(alloc, "x")?;
     let item = Resource {
-        kind,
-        title,
+        kind: Kind::from_str(alloc, "file")?,
+        title: Text::from_str(alloc, "x")?,
         attributes: attributes(alloc, mode)?,
         tags: Tags::new(alloc),
     };
@@ -100,6 +99,7 @@ fn line(
 }
 
 /// What a scene has come to.
+#[derive(Drop)]
 struct Scene {
     book: Book,
     overrides: Overrides,

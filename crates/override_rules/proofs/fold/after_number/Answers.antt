@@ -12,7 +12,7 @@ returns-in-Some c =
     let v = option_map view c.args.value in
     let l = line_of c.in-Some.line.now in
     let same : after_line name l v ≡ after_lines name (option_to_list (slice_get c.args.lines.now c.args.number)) v =
-      sym (after_one name l v) ∙ ap (λ o. after_lines name (option_to_list o) v) c.in-Some.ensures in
+    sym (after_one name l v) ∙ ap (λ o. after_lines name (option_to_list o) v) c.in-Some.ensures in
     subst (λ x. IfOk c.after_line.result (λ o. option_map view o ≡ x)) same c.after_line.ensures
 
 pub returns-in-None : goal.returns-in-None

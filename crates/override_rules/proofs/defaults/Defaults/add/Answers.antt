@@ -27,8 +27,8 @@ invariant_of-self-2 c =
     let v = c.into_inner.result in
     let key : DefaultKey = default_key c.args.kind.now c.args.scope c.args.name.now in
     let entries : c.insert.new.self.entries ≡ insert_entry key_cmp es key v =
-      c.in_ok-insert.ensures.entries
-      ∙ λ i. insert_entry key_cmp es (default_key (c.in_ok-copy.ensures i) (c.from.ensures i) (c.in_ok-copy-2.ensures i)) v in
+    c.in_ok-insert.ensures.entries
+    ∙ λ i. insert_entry key_cmp es (default_key (c.in_ok-copy.ensures i) (c.from.ensures i) (c.in_ok-copy-2.ensures i)) v in
     λ kind. counts_more c.self.inside.counts.by_kind c.open.new.self.by_kind c.raise.new.self.by_kind es key v
     (sym (default_at (defaults_of es) c.args.kind.now c.args.scope c.args.name.now)
     ∙ ap (λ ds. default_in ds c.args.kind.now c.args.scope c.args.name.now) c.self.view_is ∙ c.requires.new)
@@ -43,8 +43,8 @@ returns c =
     let v = c.into_inner.result in
     let key : DefaultKey = default_key c.args.kind.now c.args.scope c.args.name.now in
     let entries : c.insert.new.self.entries ≡ insert_entry key_cmp es key v =
-      c.in_ok-insert.ensures.entries
-      ∙ λ i. insert_entry key_cmp es (default_key (c.in_ok-copy.ensures i) (c.from.ensures i) (c.in_ok-copy-2.ensures i)) v in
+    c.in_ok-insert.ensures.entries
+    ∙ λ i. insert_entry key_cmp es (default_key (c.in_ok-copy.ensures i) (c.from.ensures i) (c.in_ok-copy-2.ensures i)) v in
     ap defaults_of entries
     ∙ put_seen es key v
     ∙ ap (λ ds. with_default ds key (view v)) c.self.view_is

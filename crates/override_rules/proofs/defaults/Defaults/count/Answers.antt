@@ -8,7 +8,7 @@ pub returns-clause-fits : goal.returns-clause-fits
 returns-clause-fits c =
     let k = c.as_text.result.now in
     let same : c.at.result ≡ length (defaults_for k c.args.self.now) =
-      c.at.ensures ∙ c.self.invariant k ∙ ap (λ ds. length (defaults_for k ds)) c.self.view_is in
+    c.at.ensures ∙ c.self.invariant k ∙ ap (λ ds. length (defaults_for k ds)) c.self.view_is in
     let fits : length (defaults_for k c.args.self.now) ≤ length c.args.self.now =
-      length-filter-le (λ d. bytes_eq k d.0.kind) c.args.self.now in
+    length-filter-le (λ d. bytes_eq k d.0.kind) c.args.self.now in
     omega arith

@@ -23,7 +23,7 @@ loop-key-init c =
     let number = c.from-number.result in
     let iterated : c.into_iter-key-iterator.result ≡ c.range-key-items.result = search rules in
     let between : c.range-key-items.result ≡ entries_between key_cmp (Included c.in_ok-first.first) (Excluded c.in_ok-end.end) es =
-      c.range-key-items.ensures.between tt in
+    c.range-key-items.ensures.between tt in
     ap (λ l. with_texts c.args.names.now.keys (map (λ e. e.0.name) l)) (iterated ∙ between)
     ∙ ap (with_texts c.args.names.now.keys)
     ((λ i. map (λ e. e.0.name) (entries_between key_cmp (Included (c.in_ok-first.ensures i)) (Excluded (c.in_ok-end.ensures i)) es))

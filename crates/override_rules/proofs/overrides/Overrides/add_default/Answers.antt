@@ -11,7 +11,7 @@ invariant_of-self-then-has_room c =
     let key = default_key c.args.kind.now c.args.scope c.args.name.now in
     let d = view c.args.value in
     let room : length c.args.self.now.lines + length c.args.self.now.defaults < 4294967295 =
-      ltb-true _ _ (sym c.has_room.ensures ∙ c.if-has_room.true) in
+    ltb-true _ _ (sym c.has_room.ensures ∙ c.if-has_room.true) in
     let lines : length c.self.inside.lines ≡ length c.args.self.now.lines = ap (λ s. length s.lines) c.self.view_is in
     let defaults : length ds ≡ length c.args.self.now.defaults = ap (λ s. length s.defaults) c.self.view_is in
     let new : length c.add.new.self ≡ length (with_default ds key d) = ap length c.in_ok-add.ensures in

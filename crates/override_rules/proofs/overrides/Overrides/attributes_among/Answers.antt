@@ -16,7 +16,7 @@ from_vec-requires c =
     let items = settings c.loop-name.items.items in
     let ended : c.loop-name.name-iterator ≡ [] = search rules in
     let all : items ≡ settings_among (attribute_of s r) (sorted (names_of s r)) =
-      sym (c.loop-name.invariant ∙ ap (λ t. items ++ settings_among (attribute_of s r) t) ended ∙ append-nil items) in
+    sym (c.loop-name.invariant ∙ ap (λ t. items ++ settings_among (attribute_of s r) t) ended ∙ append-nil items) in
     ap (λ ss. is_rising (setting_names ss)) all ∙ all_rising s r
 
 pub returns : goal.returns
@@ -26,5 +26,5 @@ returns c = λ name.
     let items = settings c.loop-name.items.items in
     let ended : c.loop-name.name-iterator ≡ [] = search rules in
     let all : items ≡ settings_among (attribute_of s r) (sorted (names_of s r)) =
-      sym (c.loop-name.invariant ∙ ap (λ t. items ++ settings_among (attribute_of s r) t) ended ∙ append-nil items) in
+    sym (c.loop-name.invariant ∙ ap (λ t. items ++ settings_among (attribute_of s r) t) ended ∙ append-nil items) in
     ap (λ ss. set_in ss name) (c.from_vec.ensures ∙ all) ∙ all_found s r name

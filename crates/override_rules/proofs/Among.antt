@@ -1,11 +1,10 @@
 -- The attributes that are set, in the order of their names.
-use Rattle.std.proofs.Common.{◌≡◌, ℕ, zero, suc, Bool, true, false, ◌&&◌, ◌||◌, ◌==◌, cond, if◌then◌else◌, List, [], ◌∷◌, ◌++◌, length, map, filter, find, Option, None, Some, option_map, refl, sym, ap, subst, ◌∙◌}
+use Rattle.std.proofs.Common.{◌≡◌, ℕ, zero, suc, Bool, true, false, ◌&&◌, ◌||◌, ◌==◌, cond, if◌then◌else◌, List, [], ◌∷◌, ◌++◌, length, map, filter, find, Option, None, Some, option_map, refl, sym, ap, ◌∙◌}
 use Rattle.std.proofs.lemmas.List.Folds.{list_any-append}
 use Rattle.std.specs.Cmp.Lexicographic.{bytes_decides, nat_list_cmp_total, nat_list_eq_equiv}
 use Rattle.std.specs.declared.cmp.Ordering.{Ordering}
 use Rattle.std.specs.declared.cmp.Ordering.TheVariants.{Less, Equal, Greater}
-use Rattle.std.specs.List.{list_all, list_any}
-use Rattle.std.specs.Map.{lookup}
+use Rattle.std.specs.List.{list_all}
 use Rattle.std.specs.Ordering.{is_lt}
 use Rattle.std.specs.Prelude.{option_to_list}
 use Rattle.std.specs.Str.{bytes_eq}
@@ -16,11 +15,11 @@ use Rattle.pp_values.specs.Settings.{Setting, setting_names}
 use Rattle.res_book.specs.Rows.{reference_of}
 use Rattle.res_book.specs.declared.row.Row.{Row}
 use Rattle.override_rules.specs.Changes.{changed}
-use Rattle.override_rules.specs.Defaults.{Default, Scope, parent_of, default_in, is_default, from_scope, or_else, set_by, nearest, nearest_within}
-use Rattle.override_rules.specs.Fold.{set_in, after_line, after_lines, overridden}
+use Rattle.override_rules.specs.Defaults.{Default, Scope, parent_of, default_in, from_scope, or_else, set_by, nearest, nearest_within}
+use Rattle.override_rules.specs.Fold.{set_in, after_lines}
 use Rattle.override_rules.specs.Lines.{Line, lines_on}
 use Rattle.override_rules.specs.Meaning.{State, is_imported, defaulted, attribute_of}
-use Rattle.override_rules.specs.Names.{is_for, names_in, names_from, names_within, line_names, default_names, names_of, setting_for, settings_among}
+use Rattle.override_rules.specs.Names.{is_for, names_in, names_from, names_within, line_names, default_names, names_of, settings_among}
 
 -- ---- they rise
 
@@ -37,7 +36,8 @@ lt_is Greater e = absurd cc
 lt_trans : (t u v : List ℕ) → is_lt (text_cmp t u) ≡ true → is_lt (text_cmp u v) ≡ true → is_lt (text_cmp t v) ≡ true
 lt_trans t u v p q = ap is_lt (nat_list_cmp_total.trans t u v (lt_is (text_cmp t u) p) (lt_is (text_cmp u v) q))
 
-above_all : (t u : List ℕ) (us : List (List ℕ)) → is_lt (text_cmp t u) ≡ true → list_all (λ v. is_lt (text_cmp u v)) us ≡ true →
+above_all : (t u : List ℕ) (us : List (List ℕ)) → is_lt (text_cmp t u) ≡ true →
+    list_all (λ v. is_lt (text_cmp u v)) us ≡ true →
     list_all (λ v. is_lt (text_cmp t v)) us ≡ true
 above_all t u [] p all = refl
 above_all t u (v ∷ vs) p all =
@@ -45,7 +45,8 @@ above_all t u (v ∷ vs) p all =
     let first = lt_trans t u v p parts.0 in
     rw (first, above_all t u vs p parts.1) refl
 
-pub rising_all : (t : List ℕ) (us : List (List ℕ)) → is_rising (t ∷ us) ≡ true → list_all (λ v. is_lt (text_cmp t v)) us ≡ true
+pub rising_all : (t : List ℕ) (us : List (List ℕ)) → is_rising (t ∷ us) ≡ true →
+    list_all (λ v. is_lt (text_cmp t v)) us ≡ true
 rising_all t [] e = refl
 rising_all t (u ∷ us) e =
     let parts = both (is_lt (text_cmp t u)) (is_rising (u ∷ us)) e in
@@ -57,7 +58,8 @@ precedes_among : (value : List ℕ → Option Datum) (t : List ℕ) (us : List (
 precedes_among value t [] e = refl
 precedes_among value t (u ∷ us) e =
     let parts = both (is_lt (text_cmp t u)) (list_all (λ v. is_lt (text_cmp t v)) us) e in
-    elim (value u) as (λ o. precedes t (setting_names (option_to_list (option_map (λ d. (u, d)) o) ++ settings_among value us)) ≡ true)
+    elim (value u) as (λ o. precedes t (setting_names (option_to_list (option_map (λ d. (u, d)) o)
+    ++ settings_among value us)) ≡ true)
     [ None ↦ precedes_among value t us parts.1 | Some d ↦ parts.0 ]
 
 pub rising_among : (value : List ℕ → Option Datum) (ts : List (List ℕ)) → is_rising ts ≡ true →
@@ -67,7 +69,8 @@ rising_among value (t ∷ ts) e =
     let parts = both (precedes t ts) (is_rising ts) e in
     let rest = rising_among value ts parts.1 in
     let first = precedes_among value t ts (rising_all t ts e) in
-    elim (value t) as (λ o. is_rising (setting_names (option_to_list (option_map (λ d. (t, d)) o) ++ settings_among value ts)) ≡ true)
+    elim (value t) as (λ o. is_rising (setting_names (option_to_list (option_map (λ d. (t, d)) o)
+    ++ settings_among value ts)) ≡ true)
     [ None ↦ rest | Some d ↦ rw (first, rest) refl ]
 
 -- ---- what they have for a name
@@ -81,18 +84,23 @@ hit : (value : List ℕ → Option Datum) (t name : List ℕ) (ts : List (List �
     set_in (option_to_list (option_map (λ d. (t, d)) o) ++ settings_among value ts) name
     ≡ (if bytes_eq name t || has_text ts name then value name else None)
 hit value t name ts None e more =
-    elim (bytes_eq name t) as (λ b. bytes_eq name t ≡ b → set_in (settings_among value ts) name ≡ (if b || has_text ts name then value name else None)) [
+    elim (bytes_eq name t) as (λ b. bytes_eq name t ≡ b → set_in (settings_among value ts) name
+    ≡ (if b || has_text ts name then value name else None)) [
       | true ↦ λ same. let none : value name ≡ None = ap value ((bytes_decides name t).0 same) ∙ e in
           more ∙ either_none (has_text ts name) (value name) none ∙ sym none
       | false ↦ λ other. more
     ] refl
 hit value t name ts (Some d) e more =
-    elim (bytes_eq name t) as (λ b. bytes_eq name t ≡ b → option_map (λ s. s.1) (cond (bytes_eq t name) (Some (t, d)) (find (λ s. bytes_eq s.0 name) (settings_among value ts))) ≡ (if b || has_text ts name then value name else None)) [
+    elim (bytes_eq name t) as (λ b. bytes_eq name t ≡ b →
+    option_map (λ s. s.1) (cond (bytes_eq t name) (Some (t, d)) (find (λ s. bytes_eq s.0 name)
+    (settings_among value ts))) ≡ (if b || has_text ts name then value name else None)) [
       | true ↦ λ same. let flipped : bytes_eq t name ≡ true = nat_list_eq_equiv.symm t name ∙ same in
-          ap (λ b. option_map (λ s. s.1) (cond b (Some (t, d)) (find (λ s. bytes_eq s.0 name) (settings_among value ts)))) flipped
+          ap (λ b. option_map (λ s. s.1) (cond b (Some (t, d))
+          (find (λ s. bytes_eq s.0 name) (settings_among value ts)))) flipped
           ∙ sym (ap value ((bytes_decides name t).0 same) ∙ e)
       | false ↦ λ other. let flipped : bytes_eq t name ≡ false = nat_list_eq_equiv.symm t name ∙ other in
-          ap (λ b. option_map (λ s. s.1) (cond b (Some (t, d)) (find (λ s. bytes_eq s.0 name) (settings_among value ts)))) flipped
+          ap (λ b. option_map (λ s. s.1) (cond b (Some (t, d))
+          (find (λ s. bytes_eq s.0 name) (settings_among value ts)))) flipped
           ∙ more
     ] refl
 
@@ -119,18 +127,22 @@ not_set_in (s ∷ ss) name e =
     (nat_list_eq_equiv.symm s.0 name ∙ parts.0)
     ∙ not_set_in ss name parts.1
 
-not_changed : (ls : List Line) (name : List ℕ) (v : Option Datum) → has_text (line_names ls) name ≡ false → after_lines name ls v ≡ v
+not_changed : (ls : List Line) (name : List ℕ) (v : Option Datum) → has_text (line_names ls) name ≡ false →
+    after_lines name ls v ≡ v
 unfolding after_lines
 not_changed [] name v e = refl
 not_changed (l ∷ ls) name v e =
     let parts = neither (bytes_eq name l.name) (has_text (line_names ls) name) e in
-    ap (λ b. after_lines name ls (if b then changed l.append l.value v else v)) (nat_list_eq_equiv.symm l.name name ∙ parts.0)
+    ap (λ b. after_lines name ls (if b then changed l.append l.value v else v)) (nat_list_eq_equiv.symm l.name name
+    ∙ parts.0)
     ∙ not_changed ls name v parts.1
 
 no_default_there : (a b c : Bool) (d : Datum) (name x : List ℕ) (xs : List (List ℕ)) (o : Option Datum) →
     c ≡ bytes_eq name x → has_text (cond (a && b) (x ∷ xs) xs) name ≡ false →
     (has_text xs name ≡ false → o ≡ None) → cond (a && (b && c)) (Some d) o ≡ None
-no_default_there true true true d name x xs o is e rest = let parts = neither (bytes_eq name x) (has_text xs name) e in absurd cc
+no_default_there true true true d name x xs o is e rest =
+    let parts = neither (bytes_eq name x) (has_text xs name) e in
+    absurd cc
 no_default_there true true false d name x xs o is e rest = rest (neither (bytes_eq name x) (has_text xs name) e).1
 no_default_there true false c d name x xs o is e rest = rest e
 no_default_there false b c d name x xs o is e rest = rest e
@@ -140,13 +152,16 @@ names_there : (b : Bool) (x : Default) (xs : List Default) →
 names_there true x xs = refl
 names_there false x xs = refl
 
-no_default : (ds : List Default) (kind : List ℕ) (scope : ℕ) (name : List ℕ) → has_text (names_in ds kind scope) name ≡ false →
+no_default : (ds : List Default) (kind : List ℕ) (scope : ℕ) (name : List ℕ) →
+    has_text (names_in ds kind scope) name ≡ false →
     default_in ds kind scope name ≡ None
 no_default [] kind scope name e = refl
 no_default (x ∷ xs) kind scope name e =
-    no_default_there (bytes_eq kind x.0.kind) (scope == x.0.scope) (bytes_eq name x.0.name) x.1 name x.0.name (names_in xs kind scope)
+    no_default_there (bytes_eq kind x.0.kind) (scope == x.0.scope) (bytes_eq name x.0.name) x.1 name x.0.name
+    (names_in xs kind scope)
     (default_in xs kind scope name) refl
-    (sym (ap (λ ts. has_text ts name) (names_there (is_for kind scope x.0) x (filter (λ d. is_for kind scope d.0) xs))) ∙ e)
+    (sym (ap (λ ts. has_text ts name)
+    (names_there (is_for kind scope x.0) x (filter (λ d. is_for kind scope d.0) xs))) ∙ e)
     (no_default xs kind scope name)
 
 outer_none : (p : Option (Option ℕ)) (own : Option Datum) (outer : Option ℕ → Option Datum) (names : List (List ℕ))
@@ -159,20 +174,25 @@ outer_none (Some q) own outer names further name e first rest =
     ap (λ o. or_else o (outer q)) (first parts.0) ∙ rest q parts.1
 
 not_nearest : (left : ℕ) (scopes : List Scope) (ds : List Default) (kind name : List ℕ) (from : Option ℕ) →
-    has_text (names_within left scopes ds kind from) name ≡ false → nearest_within left scopes ds kind name from ≡ None
+    has_text (names_within left scopes ds kind from) name ≡ false →
+    nearest_within left scopes ds kind name from ≡ None
 unfolding nearest_within names_within
 not_nearest zero scopes ds kind name from e = refl
 not_nearest (suc left) scopes ds kind name None e = refl
 not_nearest (suc left) scopes ds kind name (Some s) e =
-    outer_none (parent_of scopes s) (default_in ds kind s name) (nearest_within left scopes ds kind name) (names_in ds kind s)
-    (names_within left scopes ds kind) name e (no_default ds kind s name) (λ q. not_nearest left scopes ds kind name q)
+    outer_none (parent_of scopes s) (default_in ds kind s name) (nearest_within left scopes ds kind name)
+    (names_in ds kind s)
+    (names_within left scopes ds kind) name e (no_default ds kind s name)
+    (λ q. not_nearest left scopes ds kind name q)
 
-not_defaulted : (b : Bool) (o : Option Datum) (name : List ℕ) (ts : List (List ℕ)) → (has_text ts name ≡ false → o ≡ None) →
+not_defaulted : (b : Bool) (o : Option Datum) (name : List ℕ) (ts : List (List ℕ)) →
+    (has_text ts name ≡ false → o ≡ None) →
     has_text (if b then [] else ts) name ≡ false → (if b then None else set_by o) ≡ None
 not_defaulted true o name ts h e = refl
 not_defaulted false o name ts h e = ap set_by (h e)
 
-pub not_among : (s : State) (r : Row) (name : List ℕ) → has_text (names_of s r) name ≡ false → attribute_of s r name ≡ None
+pub not_among : (s : State) (r : Row) (name : List ℕ) → has_text (names_of s r) name ≡ false →
+    attribute_of s r name ≡ None
 not_among s r name e =
     let ls = lines_on (reference_of r.item) s.lines in
     let own = setting_names r.item.item.attributes in
@@ -196,7 +216,8 @@ all_found s r name =
     found_among (attribute_of s r) (sorted (names_of s r)) name
     ∙ ap (λ b. if b then attribute_of s r name else None)
     (has_text-with_texts (names_of s r) [] name ∙ no_more (has_text (names_of s r) name))
-    ∙ elim (has_text (names_of s r) name) as (λ b. has_text (names_of s r) name ≡ b → (if b then attribute_of s r name else None) ≡ attribute_of s r name)
+    ∙ elim (has_text (names_of s r) name) as (λ b. has_text (names_of s r) name ≡ b →
+    (if b then attribute_of s r name else None) ≡ attribute_of s r name)
     [ true ↦ λ e. refl | false ↦ λ e. sym (not_among s r name e) ] refl
 
 pub all_rising : (s : State) (r : Row) →

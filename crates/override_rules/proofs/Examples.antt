@@ -1,5 +1,5 @@
 -- The definitions at worked examples. Each line holds by computing.
-use Rattle.std.proofs.Common.{◌≡◌, ℕ, Bool, true, false, List, [], ◌∷◌, ◌++◌, Option, None, Some, Result, Ok, Err, refl, codes, pos}
+use Rattle.std.proofs.Common.{◌≡◌, ℕ, Bool, true, false, List, [], ◌∷◌, Option, None, Some, Ok, Err, refl, codes}
 use Rattle.pp_values.specs.Datum as d
 use Rattle.pp_values.specs.Datum.{Datum, data_of}
 use Rattle.pp_values.specs.Faults.{fault}
@@ -14,11 +14,11 @@ use Rattle.res_book.specs.declared.mode.Mode.TheVariants as mode
 use Rattle.res_book.specs.declared.row.Row.{Row}
 use Rattle.res_core.specs.Metaparameters.{is_metaparameter}
 use Rattle.res_core.specs.declared.declared.Declared.{Declared}
-use Rattle.override_rules.specs.Changes.{set_to, appended, changed}
+use Rattle.override_rules.specs.Changes.{changed}
 use Rattle.override_rules.specs.Defaults.{Default, Scope, default_key, with_default, with_scope, nearest_within}
 use Rattle.override_rules.specs.Fold.{after_lines}
 use Rattle.override_rules.specs.Lines.{Line}
-use Rattle.override_rules.specs.Meaning.{State, attribute_at, line_added, with_line, stands, orphan, default_added, touched_by}
+use Rattle.override_rules.specs.Meaning.{State, attribute_at, line_added, stands, orphan, default_added, touched_by}
 use Rattle.override_rules.specs.Names.{names_of, names_within}
 use Rattle.override_rules.specs.Rights.{may, line_tests}
 use Rattle.override_rules.specs.declared.override_line.Right.{Right}
@@ -75,7 +75,8 @@ adds_list_to_list : changed true (list (b ∷ [])) (Some (list (a ∷ []))) ≡ 
 adds_list_to_list = refl
 
 -- only the outer level of a list is opened
-adds_lists_within : changed true (list (list (b ∷ []) ∷ [])) (Some (list (list (a ∷ []) ∷ []))) ≡ Some (list (list (a ∷ []) ∷ list (b ∷ []) ∷ []))
+adds_lists_within : changed true (list (list (b ∷ []) ∷ [])) (Some (list (list (a ∷ []) ∷ [])))
+    ≡ Some (list (list (a ∷ []) ∷ list (b ∷ []) ∷ []))
 adds_lists_within = refl
 
 adds_undef : changed true d.undef (Some a) ≡ Some (list (a ∷ d.undef ∷ []))
@@ -105,7 +106,8 @@ declared kind title settings =
     }
 
 abbrev row : List ℕ → List ℕ → List Setting → Mode → Option (List Setting) → Row
-row kind title settings m bound = record { item = declared kind title settings; mode = m; marked = false; bound = bound }
+row kind title settings m bound =
+    record { item = declared kind title settings; mode = m; marked = false; bound = bound }
 
 abbrev file_x : List Setting → Row
 file_x settings = row (codes "file") (codes "x") settings mode.Plain None
@@ -121,7 +123,14 @@ other = right.From (codes "class other") (codes "class base" ∷ [])
 
 abbrev line : ℕ → List ℕ → List ℕ → Bool → Datum → Right → Line
 line n title name append value r =
-    record { target = reference (codes "file") title; name = name; append = append; value = value; at = place n; right = r }
+    record {
+      target = reference (codes "file") title;
+      name = name;
+      append = append;
+      value = value;
+      at = place n;
+      right = r;
+    }
 
 abbrev sets : ℕ → Datum → Line
 sets n value = line n (codes "x") (codes "mode") false value right.Any
@@ -166,11 +175,13 @@ add_after_unset : mode_of (state (sets 2 d.undef ∷ adds 3 c ∷ []) [] []) (fi
 unfolding after_lines nearest_within
 add_after_unset = refl
 
-other_attribute : mode_of (state (line 2 (codes "x") (codes "owner") false b right.Any ∷ []) [] []) (file_x with_a) ≡ Some a
+other_attribute : mode_of (state (line 2 (codes "x") (codes "owner") false b right.Any ∷ []) [] []) (file_x with_a)
+    ≡ Some a
 unfolding after_lines nearest_within
 other_attribute = refl
 
-other_resource : mode_of (state (line 2 (codes "y") (codes "mode") false b right.Any ∷ []) [] []) (file_x with_a) ≡ Some a
+other_resource : mode_of (state (line 2 (codes "y") (codes "mode") false b right.Any ∷ []) [] []) (file_x with_a)
+    ≡ Some a
 unfolding after_lines nearest_within
 other_resource = refl
 
@@ -211,11 +222,13 @@ add_before_default : mode_of (state (adds 2 c ∷ []) scopes (file_mode 5 b []))
 unfolding after_lines nearest_within
 add_before_default = refl
 
-other_kind : mode_of (state [] scopes (with_default [] (default_key (codes "exec") 5 (codes "mode")) b)) (file_x []) ≡ None
+other_kind : mode_of (state [] scopes (with_default [] (default_key (codes "exec") 5 (codes "mode")) b)) (file_x [])
+    ≡ None
 unfolding after_lines nearest_within
 other_kind = refl
 
-other_name : mode_of (state [] scopes (with_default [] (default_key (codes "file") 5 (codes "owner")) b)) (file_x []) ≡ None
+other_name : mode_of (state [] scopes (with_default [] (default_key (codes "file") 5 (codes "owner")) b)) (file_x [])
+    ≡ None
 unfolding after_lines nearest_within
 other_name = refl
 
@@ -294,7 +307,8 @@ changes_own_not : line_added (file_x with_a ∷ []) (changes_mode 2 web) empty �
 unfolding after_lines is_metaparameter
 changes_own_not = refl
 
-changes_below : line_added (file_x with_a ∷ []) (changes_mode 2 below_web) empty ≡ Ok (tt, state (changes_mode 2 below_web ∷ []) [] [])
+changes_below : line_added (file_x with_a ∷ []) (changes_mode 2 below_web) empty
+    ≡ Ok (tt, state (changes_mode 2 below_web ∷ []) [] [])
 unfolding after_lines is_metaparameter
 changes_below = refl
 
@@ -303,7 +317,8 @@ unfolding after_lines is_metaparameter
 sets_other_not = refl
 
 -- what an earlier line set counts as set; what one unset counts as unset
-set_by_line : line_added (file_x [] ∷ []) (changes_mode 3 web) (state (sets 2 a ∷ []) [] []) ≡ Err (f15 3 (codes "mode"))
+set_by_line : line_added (file_x [] ∷ []) (changes_mode 3 web) (state (sets 2 a ∷ []) [] [])
+    ≡ Err (f15 3 (codes "mode"))
 unfolding after_lines is_metaparameter
 set_by_line = refl
 
@@ -351,7 +366,14 @@ class_web = row (codes "class") (codes "web") [] mode.Plain (Some [])
 
 abbrev on_class : ℕ → Line
 on_class n =
-    record { target = reference (codes "class") (codes "web"); name = codes "size"; append = false; value = b; at = place n; right = other }
+    record {
+      target = reference (codes "class") (codes "web");
+      name = codes "size";
+      append = false;
+      value = b;
+      at = place n;
+      right = other;
+    }
 
 class_untested : line_added (class_web ∷ []) (on_class 2) empty ≡ Ok (tt, state (on_class 2 ∷ []) [] [])
 unfolding after_lines is_metaparameter
@@ -371,15 +393,18 @@ first_of_two : stands (state (size 2 web ∷ owner 3 other ∷ []) [] []) (file_
 unfolding line_tests after_lines is_metaparameter
 first_of_two = refl
 
-first_of_two_turned : stands (state (owner 2 other ∷ size 3 web ∷ []) [] []) (file_x [] ∷ []) 0 ≡ Err (f15 2 (codes "owner"))
+first_of_two_turned : stands (state (owner 2 other ∷ size 3 web ∷ []) [] []) (file_x [] ∷ []) 0
+    ≡ Err (f15 2 (codes "owner"))
 unfolding line_tests after_lines is_metaparameter
 first_of_two_turned = refl
 
-second_sets_again : stands (state (owner 2 web ∷ owner 3 web ∷ []) [] []) (file_x [] ∷ []) 0 ≡ Err (f15 3 (codes "owner"))
+second_sets_again : stands (state (owner 2 web ∷ owner 3 web ∷ []) [] []) (file_x [] ∷ []) 0
+    ≡ Err (f15 3 (codes "owner"))
 unfolding line_tests after_lines is_metaparameter
 second_sets_again = refl
 
-others_wait_on : stands (state (line 2 (codes "y") (codes "size") false b other ∷ []) [] []) (file_x [] ∷ []) 0 ≡ Ok tt
+others_wait_on : stands (state (line 2 (codes "y") (codes "size") false b other ∷ []) [] []) (file_x [] ∷ []) 0
+    ≡ Ok tt
 unfolding line_tests after_lines is_metaparameter
 others_wait_on = refl
 
@@ -403,10 +428,12 @@ first_orphan = refl
 abbrev twice : ℕ → Fault
 twice n = fault (place n) (what.AlreadySet (subject.Kind (codes "file")) (codes "mode"))
 
-new_default : default_added (codes "file") 5 (codes "mode") a (place 2) (state [] scopes []) ≡ Ok (tt, state [] scopes (file_mode 5 a []))
+new_default : default_added (codes "file") 5 (codes "mode") a (place 2) (state [] scopes [])
+    ≡ Ok (tt, state [] scopes (file_mode 5 a []))
 new_default = refl
 
-default_again : default_added (codes "file") 5 (codes "mode") a (place 3) (state [] scopes (file_mode 5 b [])) ≡ Err (twice 3)
+default_again : default_added (codes "file") 5 (codes "mode") a (place 3) (state [] scopes (file_mode 5 b []))
+    ≡ Err (twice 3)
 default_again = refl
 
 default_elsewhere : default_added (codes "file") 2 (codes "mode") a (place 3) (state [] scopes (file_mode 5 b []))
@@ -420,7 +447,8 @@ much =
     state (owner 2 right.Any ∷ sets 3 d.undef ∷ line 4 (codes "y") (codes "mode") false b right.Any ∷ []) scopes
     (with_default (file_mode 0 c []) (default_key (codes "file") 5 (codes "group")) a)
 
-names : names_of much (file_x with_a) ≡ codes "mode" ∷ codes "owner" ∷ codes "mode" ∷ codes "group" ∷ codes "mode" ∷ []
+names : names_of much (file_x with_a)
+    ≡ codes "mode" ∷ codes "owner" ∷ codes "mode" ∷ codes "group" ∷ codes "mode" ∷ []
 unfolding names_within
 names = refl
 

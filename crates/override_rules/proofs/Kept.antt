@@ -1,8 +1,7 @@
 -- Defaults, in their order and for a kind.
-use Rattle.std.proofs.Common.{◌≡◌, ℕ, suc, ◌≤◌, Bool, true, false, cond, if◌then◌else◌, List, [], ◌∷◌, ◌++◌, length, map, filter, Option, None, Some, option_map, refl, sym, ap, ◌∙◌, arith}
+use Rattle.std.proofs.Common.{◌≡◌, ℕ, suc, ◌≤◌, Bool, true, false, cond, if◌then◌else◌, List, [], ◌∷◌, length, Option, None, Some, option_map, refl, sym, ap, ◌∙◌, arith}
 use Rattle.std.specs.BTreeMap.{insert_entry, is_at}
 use Rattle.std.specs.Cmp.Lexicographic.{nat_list_eq_equiv}
-use Rattle.std.specs.declared.cmp.Ordering.{Ordering}
 use Rattle.std.specs.declared.cmp.Ordering.TheVariants.{Less, Equal, Greater}
 use Rattle.std.specs.Map.{lookup}
 use Rattle.std.specs.Ordering.{is_eq, match_ordering}
@@ -12,7 +11,7 @@ use denote.Ref.{Bor}
 use Rattle.pp_values.specs.Datum.{Datum}
 use Rattle.pp_values.specs.Views.{view}
 use Rattle.pp_values.specs.declared.value.Value.{Value}
-use Rattle.override_rules.specs.Counts.{CountTable, count_of, AddsOne, KeepsCounts, CountsKinds}
+use Rattle.override_rules.specs.Counts.{CountTable, AddsOne, KeepsCounts, CountsKinds}
 use Rattle.override_rules.specs.Defaults.{Default, default_key, is_default, default_in, defaults_for, with_default}
 use Rattle.override_rules.specs.Inside.{default_of, defaults_of}
 use Rattle.override_rules.specs.Keys.{key_cmp, key_ties}
@@ -26,7 +25,8 @@ lookup-seen : (test : DefaultKey → Bool) (es : List (DefaultKey × Value)) →
     lookup test (defaults_of es) ≡ option_map view (lookup test es)
 lookup-seen test [] = refl
 lookup-seen test (e ∷ es) =
-    elim (test e.0) as (λ b. cond b (Some (view e.1)) (lookup test (defaults_of es)) ≡ option_map view (cond b (Some e.1) (lookup test es)))
+    elim (test e.0) as (λ b. cond b (Some (view e.1)) (lookup test (defaults_of es))
+    ≡ option_map view (cond b (Some e.1) (lookup test es)))
     [ true ↦ refl | false ↦ lookup-seen test es ]
 
 same_tests : (kind : List ℕ) (scope : ℕ) (name : List ℕ) →
@@ -39,7 +39,8 @@ default_at ds kind scope name = ap (λ test. lookup test ds) (same_tests kind sc
 
 -- what the map finds is what the scope has
 pub default_found : (es : List (DefaultKey × Value)) (kind : List ℕ) (scope : ℕ) (name : List ℕ) →
-    default_in (defaults_of es) kind scope name ≡ option_map view (lookup (is_at (key_cmp (default_key kind scope name))) es)
+    default_in (defaults_of es) kind scope name
+    ≡ option_map view (lookup (is_at (key_cmp (default_key kind scope name))) es)
 default_found es kind scope name =
     default_at (defaults_of es) kind scope name ∙ lookup-seen (is_at (key_cmp (default_key kind scope name))) es
 
@@ -47,12 +48,15 @@ pub put_seen : (es : List (DefaultKey × Value)) (k : DefaultKey) (v : Value) �
     defaults_of (insert_entry key_cmp es k v) ≡ with_default (defaults_of es) k (view v)
 put_seen [] k v = refl
 put_seen (e ∷ es) k v =
-    elim (key_cmp k e.0) as (λ o. defaults_of (match_ordering o ((k, v) ∷ e ∷ es) ((e.0, v) ∷ es) (e ∷ insert_entry key_cmp es k v)) ≡ match_ordering o ((k, view v) ∷ default_of e ∷ defaults_of es) ((e.0, view v) ∷ defaults_of es) (default_of e ∷ insert_entry key_cmp (defaults_of es) k (view v)))
+    elim (key_cmp k e.0) as (λ o. defaults_of (match_ordering o ((k, v) ∷ e ∷ es) ((e.0, v) ∷ es)
+    (e ∷ insert_entry key_cmp es k v)) ≡ match_ordering o ((k, view v) ∷ default_of e ∷ defaults_of es)
+    ((e.0, view v) ∷ defaults_of es) (default_of e ∷ insert_entry key_cmp (defaults_of es) k (view v)))
     [ Less ↦ refl | Equal ↦ refl | Greater ↦ ap (λ t. default_of e ∷ t) (put_seen es k v) ]
 
 -- ---- how many for a kind
 
-longer : {X : Type 0} (b : Bool) (x : X) (xs : List X) → length (cond b (x ∷ xs) xs) ≡ (if b then suc (length xs) else length xs)
+longer : {X : Type 0} (b : Bool) (x : X) (xs : List X) → length (cond b (x ∷ xs) xs)
+    ≡ (if b then suc (length xs) else length xs)
 longer true x xs = refl
 longer false x xs = refl
 
@@ -67,17 +71,21 @@ none_there : {X : Type 0} (b : Bool) (x : X) (o : Option X) → cond b (Some x) 
 none_there true x o e = absurd cc
 none_there false x o e = (refl, e)
 
-pub one_more : (ds : List Default) (k : DefaultKey) (d : Datum) (kind : List ℕ) → lookup (is_at (key_cmp k)) ds ≡ None →
+pub one_more : (ds : List Default) (k : DefaultKey) (d : Datum) (kind : List ℕ) →
+    lookup (is_at (key_cmp k)) ds ≡ None →
     length (defaults_for kind (with_default ds k d))
     ≡ (if bytes_eq kind k.kind then suc (length (defaults_for kind ds)) else length (defaults_for kind ds))
 one_more [] k d kind e = longer (bytes_eq kind k.kind) (k, d) []
 one_more (x ∷ xs) k d kind e =
     let parts = none_there (is_eq (key_cmp k x.0)) x.1 (lookup (is_at (key_cmp k)) xs) e in
     let F = defaults_for kind in
-    elim (key_cmp k x.0) as (λ o. is_eq o ≡ false → length (F (match_ordering o ((k, d) ∷ x ∷ xs) ((x.0, d) ∷ xs) (x ∷ with_default xs k d))) ≡ (if bytes_eq kind k.kind then suc (length (F (x ∷ xs))) else length (F (x ∷ xs)))) [
+    elim (key_cmp k x.0) as (λ o. is_eq o ≡ false →
+    length (F (match_ordering o ((k, d) ∷ x ∷ xs) ((x.0, d) ∷ xs) (x ∷ with_default xs k d)))
+    ≡ (if bytes_eq kind k.kind then suc (length (F (x ∷ xs))) else length (F (x ∷ xs)))) [
       | Less ↦ λ no. longer (bytes_eq kind k.kind) (k, d) (F (x ∷ xs))
       | Equal ↦ λ no. absurd cc
-      | Greater ↦ λ no. further (bytes_eq kind k.kind) (bytes_eq kind x.0.kind) x (F xs) (F (with_default xs k d)) (one_more xs k d kind parts.1)
+      | Greater ↦ λ no. further (bytes_eq kind k.kind) (bytes_eq kind x.0.kind) x (F xs) (F (with_default xs k d))
+          (one_more xs k d kind parts.1)
     ] parts.0
 
 -- the counts after one more default
@@ -87,7 +95,8 @@ pub counts_more : (a b c : CountTable) (es : List (DefaultKey × Value)) (k : De
 counts_more a b c es k v new keeps adds held = λ kind.
     adds kind
     ∙ ap (λ n. if bytes_eq k.kind kind then suc n else n) (keeps kind ∙ held kind)
-    ∙ ap (λ t. if t then suc (length (defaults_for kind (defaults_of es))) else length (defaults_for kind (defaults_of es)))
+    ∙ ap (λ t. if t then suc (length (defaults_for kind (defaults_of es)))
+    else length (defaults_for kind (defaults_of es)))
     (nat_list_eq_equiv.symm k.kind kind)
     ∙ sym (ap (λ ds. length (defaults_for kind ds)) (put_seen es k v) ∙ one_more (defaults_of es) k (view v) kind new)
 
@@ -98,5 +107,6 @@ pub one_longer : (ds : List Default) (k : DefaultKey) (d : Datum) → length (wi
 one_longer [] k d = omega arith
 one_longer (x ∷ xs) k d =
     let more : length (with_default xs k d) ≤ suc (length xs) = one_longer xs k d in
-    elim (key_cmp k x.0) as (λ o. length (match_ordering o ((k, d) ∷ x ∷ xs) ((x.0, d) ∷ xs) (x ∷ with_default xs k d)) ≤ suc (suc (length xs)))
+    elim (key_cmp k x.0) as (λ o. length (match_ordering o ((k, d) ∷ x ∷ xs) ((x.0, d) ∷ xs)
+    (x ∷ with_default xs k d)) ≤ suc (suc (length xs)))
     [ Less ↦ omega arith | Equal ↦ omega arith | Greater ↦ omega arith ]

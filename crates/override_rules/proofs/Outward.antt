@@ -1,16 +1,16 @@
 -- From scope to scope outwards.
-use Rattle.std.proofs.Common.{◌≡◌, ℕ, zero, suc, ◌<◌, ◌≤◌, ◌-◌, List, [], ◌++◌, Option, None, Some, refl, sym, ap, ◌∙◌, arith}
-use Rattle.std.proofs.lemmas.List.{append-nil}
-use Rattle.pp_values.specs.Datum.{Datum}
+use Rattle.std.proofs.Common.{◌≡◌, ℕ, zero, suc, List, [], ◌++◌, Option, None, Some, refl, ap, ◌∙◌}
 use Rattle.override_rules.specs.Defaults.{Default, Scope, parent_of, default_in, or_else, from_scope, nearest_within}
 use Rattle.override_rules.specs.Names.{names_in, names_from, names_within}
 
-pub near_end : (left : ℕ) (scopes : List Scope) (ds : List Default) (kind name : List ℕ) (from : Option ℕ) → left ≡ 0 →
+pub near_end : (left : ℕ) (scopes : List Scope) (ds : List Default) (kind name : List ℕ) (from : Option ℕ) →
+    left ≡ 0 →
     nearest_within left scopes ds kind name from ≡ None
 unfolding nearest_within
 near_end left scopes ds kind name from e = rw e refl
 
-pub near_none : (left : ℕ) (scopes : List Scope) (ds : List Default) (kind name : List ℕ) (from : Option ℕ) → from ≡ None →
+pub near_none : (left : ℕ) (scopes : List Scope) (ds : List Default) (kind name : List ℕ) (from : Option ℕ) →
+    from ≡ None →
     nearest_within left scopes ds kind name from ≡ None
 unfolding nearest_within
 near_none zero scopes ds kind name from e = refl
@@ -23,7 +23,8 @@ near_closed zero scopes ds kind name s e = refl
 near_closed (suc left) scopes ds kind name s e =
     ap (λ p. from_scope p (default_in ds kind s name) (nearest_within left scopes ds kind name)) e
 
-pub near_open : (left rest : ℕ) (scopes : List Scope) (ds : List Default) (kind name : List ℕ) (s : ℕ) (parent : Option ℕ) →
+pub near_open : (left rest : ℕ) (scopes : List Scope) (ds : List Default) (kind name : List ℕ) (s : ℕ)
+    (parent : Option ℕ) →
     left ≡ suc rest → parent_of scopes s ≡ Some parent →
     nearest_within left scopes ds kind name (Some s)
     ≡ or_else (default_in ds kind s name) (nearest_within rest scopes ds kind name parent)
@@ -37,7 +38,8 @@ pub names_end : (left : ℕ) (scopes : List Scope) (ds : List Default) (kind : L
 unfolding names_within
 names_end left scopes ds kind from e = rw e refl
 
-pub names_none : (left : ℕ) (scopes : List Scope) (ds : List Default) (kind : List ℕ) (from : Option ℕ) → from ≡ None →
+pub names_none : (left : ℕ) (scopes : List Scope) (ds : List Default) (kind : List ℕ) (from : Option ℕ) →
+    from ≡ None →
     names_within left scopes ds kind from ≡ []
 unfolding names_within
 names_none zero scopes ds kind from e = refl
@@ -50,7 +52,8 @@ names_closed zero scopes ds kind s e = refl
 names_closed (suc left) scopes ds kind s e =
     ap (λ p. names_from p (names_in ds kind s) (names_within left scopes ds kind)) e
 
-pub names_open : (left rest : ℕ) (scopes : List Scope) (ds : List Default) (kind : List ℕ) (s : ℕ) (parent : Option ℕ) →
+pub names_open : (left rest : ℕ) (scopes : List Scope) (ds : List Default) (kind : List ℕ) (s : ℕ)
+    (parent : Option ℕ) →
     left ≡ suc rest → parent_of scopes s ≡ Some parent →
     names_within left scopes ds kind (Some s) ≡ names_in ds kind s ++ names_within rest scopes ds kind parent
 unfolding names_within

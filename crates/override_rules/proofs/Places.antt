@@ -83,7 +83,8 @@ unfolding places
 length-places r [] = refl
 length-places r (l ∷ ls) =
     let more = length-map (places r ls) suc ∙ length-places r ls in
-    elim (is_on r l) as (λ b. length ((if b then 0 ∷ [] else []) ++ map suc (places r ls)) ≡ length (cond b (l ∷ lines_on r ls) (lines_on r ls)))
+    elim (is_on r l) as (λ b. length ((if b then 0 ∷ [] else []) ++ map suc (places r ls))
+    ≡ length (cond b (l ∷ lines_on r ls) (lines_on r ls)))
     [ true ↦ ap suc more | false ↦ more ]
 
 pub length-filter-le : {X : Type 0} (p : X → Bool) (xs : List X) → length (filter p xs) ≤ length xs

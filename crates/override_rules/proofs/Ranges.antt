@@ -1,5 +1,5 @@
 -- The defaults of one scope for one kind stand side by side in the order of their keys.
-use Rattle.std.proofs.Common.{◌≡◌, ◌≢◌, ℕ, suc, ◌+◌, ◌<◌, ◌==◌, Bool, true, false, not, ◌&&◌, cond, List, [], ◌∷◌, map, filter, refl, sym, ap, ◌∙◌, arith}
+use Rattle.std.proofs.Common.{◌≡◌, ℕ, ◌+◌, ◌<◌, ◌==◌, Bool, true, false, not, ◌&&◌, cond, List, [], ◌∷◌, map, filter, refl, sym, ap, ◌∙◌, arith}
 use Rattle.std.proofs.lemmas.Bool.{ne_eqb, eq-eqb}
 use Rattle.std.proofs.lemmas.List.Elements.{filter_agree}
 use Rattle.std.specs.BTreeMap.Range.{range_contains, entries_between}
@@ -42,7 +42,8 @@ by_kind Equal b c same e = e
 by_kind Greater b c same e = refl
 
 between : (kind : List ℕ) (scope : ℕ) (k : DefaultKey) →
-    range_contains key_cmp (Included (default_key kind scope [])) (Excluded (default_key kind (scope + 1) [])) k ≡ is_for kind scope k
+    range_contains key_cmp (Included (default_key kind scope [])) (Excluded (default_key kind (scope + 1) [])) k
+    ≡ is_for kind scope k
 between kind scope k =
     let low = nat_cmp scope k.scope in
     let high = nat_cmp (scope + 1) k.scope in
@@ -57,12 +58,15 @@ names_seen : (test : DefaultKey → Bool) (es : List (DefaultKey × Value)) →
     map (λ d. d.0.name) (filter (λ d. test d.0) (defaults_of es)) ≡ map (λ e. e.0.name) (filter (λ e. test e.0) es)
 names_seen test [] = refl
 names_seen test (e ∷ es) =
-    elim (test e.0) as (λ b. map (λ d. d.0.name) (cond b (default_of e ∷ filter (λ d. test d.0) (defaults_of es)) (filter (λ d. test d.0) (defaults_of es))) ≡ map (λ x. x.0.name) (cond b (e ∷ filter (λ x. test x.0) es) (filter (λ x. test x.0) es)))
+    elim (test e.0) as (λ b. map (λ d. d.0.name) (cond b (default_of e ∷ filter (λ d. test d.0) (defaults_of es))
+    (filter (λ d. test d.0) (defaults_of es))) ≡ map (λ x. x.0.name) (cond b (e ∷ filter (λ x. test x.0) es)
+    (filter (λ x. test x.0) es)))
     [ true ↦ ap (λ t. e.0.name ∷ t) (names_seen test es) | false ↦ names_seen test es ]
 
 -- the names between the bounds are those of the scope for the kind
 pub names_between : (kind : List ℕ) (scope : ℕ) (es : List (DefaultKey × Value)) →
-    map (λ e. e.0.name) (entries_between key_cmp (Included (default_key kind scope [])) (Excluded (default_key kind (scope + 1) [])) es)
+    map (λ e. e.0.name) (entries_between key_cmp (Included (default_key kind scope []))
+    (Excluded (default_key kind (scope + 1) [])) es)
     ≡ names_in (defaults_of es) kind scope
 names_between kind scope es =
     ap (map (λ e. e.0.name)) (filter_agree _ (λ e. is_for kind scope e.0) (λ e. between kind scope e.0) es)
@@ -72,5 +76,6 @@ names_between kind scope es =
 pub forward : (kind : List ℕ) (scope : ℕ) →
     is_gt (key_cmp (default_key kind scope []) (default_key kind (scope + 1) [])) ≡ false
 forward kind scope =
-    ap (λ o. is_gt (ordering_then o (ordering_then (nat_cmp scope (scope + 1)) Equal))) (tied_itself nat_list_cmp_total kind)
+    ap (λ o. is_gt (ordering_then o (ordering_then (nat_cmp scope (scope + 1)) Equal)))
+    (tied_itself nat_list_cmp_total kind)
     ∙ ap (λ o. is_gt (ordering_then o Equal)) (sym (nat_cmp_is scope (scope + 1) Less (omega arith)))

@@ -1,6 +1,6 @@
 -- What the tables find after one entry of theirs was set.
-use Rattle.std.proofs.Common.{◌≡◌, ℕ, suc, Bool, true, false, ◌&&◌, cond, if◌then◌else◌, List, [], ◌∷◌, ◌++◌, Option, None, Some, refl, sym, ap, ◌∙◌}
-use Rattle.std.specs.Prelude.{unwrap_or, IsSome}
+use Rattle.std.proofs.Common.{◌≡◌, ℕ, suc, Bool, true, false, ◌&&◌, cond, if◌then◌else◌, List, [], ◌∷◌, ◌++◌, Option, Some, refl, sym, ap, ◌∙◌}
+use Rattle.std.specs.Prelude.{unwrap_or}
 use Rattle.std.specs.BTreeMap.{UpdatesBy, get, get_by}
 use Rattle.std.specs.Cmp.Lexicographic.{slice_cmp, bytes_decides, texts_ties}
 use Rattle.std.specs.Ordering.{nat_cmp, is_eq, on}
@@ -25,7 +25,8 @@ same_is x y e =
     λ i. record { kind = (bytes_decides x.kind y.kind).0 p.0 i; title = (bytes_decides x.title y.title).0 p.1 i }
 
 -- what one key has is told of each that is the same
-moved : {K X : Type 0} (same : K → K → Bool) → ((a b : K) → same a b ≡ true → a ≡ b) → (f : K → X) (g : X → X) (k r : K) →
+moved : {K X : Type 0} (same : K → K → Bool) → ((a b : K) → same a b ≡ true → a ≡ b) →
+    (f : K → X) (g : X → X) (k r : K) →
     (if same k r then g (f k) else f r) ≡ (if same k r then g (f r) else f r)
 moved same is f g k r =
     elim (same k r) as (λ b. same k r ≡ b → (if b then g (f k) else f r) ≡ (if b then g (f r) else f r))
@@ -73,7 +74,8 @@ count_cond : (b : Bool) (w : ℕ) (o : Option ℕ) → unwrap_or (cond b (Some w
 count_cond true w o = refl
 count_cond false w o = refl
 
-count_put : (m n : CountTable) (k : List ℕ) (w : ℕ) → UpdatesBy (slice_cmp nat_cmp) (slice_cmp nat_cmp k) m n (Some w) →
+count_put : (m n : CountTable) (k : List ℕ) (w : ℕ) →
+    UpdatesBy (slice_cmp nat_cmp) (slice_cmp nat_cmp k) m n (Some w) →
     (q : List ℕ) → count_of n q ≡ (if bytes_eq k q then w else count_of m q)
 count_put m n k w u q =
     ap (λ o. unwrap_or o 0) (u.0 q)

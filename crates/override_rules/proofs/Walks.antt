@@ -1,11 +1,11 @@
 -- Lines one after another.
-use Rattle.std.proofs.Common.{◌≡◌, ℕ, suc, ◌+◌, ◌<◌, ◌≤◌, Bool, true, false, ◌&&◌, cond, if◌then◌else◌, List, [], ◌∷◌, ◌++◌, length, take, drop, get_or, add-one, Option, None, Some, Result, Ok, Err, refl, sym, ap, subst, ◌∙◌, arith, append_assoc}
+use Rattle.std.proofs.Common.{◌≡◌, ℕ, ◌+◌, ◌<◌, ◌≤◌, Bool, true, false, ◌&&◌, if◌then◌else◌, List, [], ◌∷◌, ◌++◌, length, take, drop, get_or, add-one, Option, None, Some, Result, Ok, Err, refl, sym, ap, subst, ◌∙◌, append_assoc}
 use Rattle.std.proofs.Math.Seq.{drop-cons}
 use Rattle.std.proofs.Math.ListN.{drop_of_length-le}
 use Rattle.std.proofs.lemmas.List.{append-nil, take_more}
 use Rattle.std.specs.Prelude.{option_to_list, slice_get}
 use Rattle.pp_values.proofs.Turns.{first_stops}
-use Rattle.pp_values.specs.Answers.{AnswersBy, Answers, fault_told, and_then}
+use Rattle.pp_values.specs.Answers.{AnswersBy, fault_told, and_then}
 use Rattle.pp_values.specs.Datum.{Datum, undef, flag, int, text, list, hash, reference, kind, default}
 use Rattle.pp_values.specs.declared.fault.Fault.{Fault}
 use Rattle.pp_values.specs.declared.fault.Stop.{Stop}
@@ -35,7 +35,8 @@ at_first ls n ns left e = ap (lines_at ls) e
 -- the numbers from a place on: the first of them, and the others
 pub from_place : (ls : List Line) (ns : List ℕ) (i : ℕ) → i < length ns →
     lines_at ls (drop i ns) ≡ option_to_list (slice_get ls (get_or ns i 0)) ++ lines_at ls (drop (i + 1) ns)
-from_place ls ns i fits = at_first ls (get_or ns i 0) (drop (i + 1) ns) (drop i ns) (rw add-one (drop-cons ns i 0 fits))
+from_place ls ns i fits =
+    at_first ls (get_or ns i 0) (drop (i + 1) ns) (drop i ns) (rw add-one (drop-cons ns i 0 fits))
 
 pub past_end : (ls : List Line) (ns : List ℕ) (i : ℕ) → length ns ≤ i → lines_at ls (drop i ns) ≡ []
 past_end ls ns i past = ap (lines_at ls) (drop_of_length-le ns past) ∙ lines_at-none ls
@@ -84,7 +85,8 @@ is_set-changed true v d = is_set-appended v d
 is_set-changed false v d = is_set-to d
 
 is_set-line : (b append : Bool) (v : Option Datum) (d : Datum) →
-    is_set (if b then changed append d v else v) ≡ (if b then (if append && is_set v then true else is_value d) else is_set v)
+    is_set (if b then changed append d v else v) ≡ (if b then (if append && is_set v then true else is_value d)
+    else is_set v)
 is_set-line true append v d = is_set-changed append v d
 is_set-line false append v d = refl
 
@@ -131,7 +133,8 @@ tests-then : (d : Declared) (e : Bool) (done a b : List Line) (l : Line) (r : Re
     and_then r (λ _. line_tests d e (done ++ l ∷ []) (a ++ b))
     ≡ and_then (and_then r (λ _. line_tests d e (done ++ l ∷ []) a)) (λ _. line_tests d e (done ++ l ∷ a) b)
 tests-then d e done a b l (Ok u) h =
-    h ∙ ap (λ t. and_then (line_tests d e (done ++ l ∷ []) a) (λ _. line_tests d e t b)) (append_assoc done (l ∷ []) a)
+    h ∙ ap (λ t. and_then (line_tests d e (done ++ l ∷ []) a) (λ _. line_tests d e t b))
+    (append_assoc done (l ∷ []) a)
 tests-then d e done a b l (Err f) h = refl
 
 pub tests-append : (d : Declared) (e : Bool) (done a b : List Line) →
@@ -167,31 +170,37 @@ tests_step d e ls ns at fits =
     ∙ lines_at-append ls (take at ns) (n ∷ []) ∙ ap (λ t. lines_at ls (take at ns) ++ t) (lines_at-once ls n)) in
     ap (line_tests d e (lines_at ls (take at ns))) (from_place ls ns at fits)
     ∙ tests-append d e (lines_at ls (take at ns)) one (lines_at ls (drop (at + 1) ns))
-    ∙ ap (λ t. and_then (line_tests d e (lines_at ls (take at ns)) one) (λ _. line_tests d e t (lines_at ls (drop (at + 1) ns)))) front
+    ∙ ap (λ t. and_then (line_tests d e (lines_at ls (take at ns)) one)
+    (λ _. line_tests d e t (lines_at ls (drop (at + 1) ns)))) front
 
-pub tests_go_on : (d : Declared) (e : Bool) (ls : List Line) (ns : List ℕ) (at : ℕ) (whole : Result (Unit {0}) Fault) →
+pub tests_go_on : (d : Declared) (e : Bool) (ls : List Line) (ns : List ℕ) (at : ℕ) (whole : Result (Unit {0})
+    Fault) →
     at < length ns →
     line_tests d e (lines_at ls (take at ns)) (option_to_list (slice_get ls (get_or ns at 0))) ≡ Ok tt →
     whole ≡ line_tests d e (lines_at ls (take at ns)) (lines_at ls (drop at ns)) →
     whole ≡ line_tests d e (lines_at ls (take (at + 1) ns)) (lines_at ls (drop (at + 1) ns))
 tests_go_on d e ls ns at whole fits went held =
     held ∙ tests_step d e ls ns at fits
-    ∙ ap (λ r. and_then r (λ _. line_tests d e (lines_at ls (take (at + 1) ns)) (lines_at ls (drop (at + 1) ns)))) went
+    ∙ ap (λ r. and_then r (λ _. line_tests d e (lines_at ls (take (at + 1) ns)) (lines_at ls (drop (at + 1) ns))))
+    went
 
 pub tests_stop : (d : Declared) (e : Bool) (ls : List Line) (ns : List ℕ) (at : ℕ) (whole : Result (Unit {0}) Fault)
     (s : Stop) → at < length ns →
-    AnswersBy {T = Unit {0}} fault_told (Err s) (line_tests d e (lines_at ls (take at ns)) (option_to_list (slice_get ls (get_or ns at 0)))) →
+    AnswersBy {T = Unit {0}} fault_told (Err s) (line_tests d e (lines_at ls (take at ns))
+    (option_to_list (slice_get ls (get_or ns at 0)))) →
     whole ≡ line_tests d e (lines_at ls (take at ns)) (lines_at ls (drop at ns)) →
     AnswersBy {T = Unit {0}} fault_told (Err s) whole
 tests_stop d e ls ns at whole s fits went held =
     subst (λ m. AnswersBy {T = Unit {0}} fault_told (Err s) m) (sym (held ∙ tests_step d e ls ns at fits))
-    (first_stops fault_told s (line_tests d e (lines_at ls (take at ns)) (option_to_list (slice_get ls (get_or ns at 0))))
+    (first_stops fault_told s (line_tests d e (lines_at ls (take at ns))
+    (option_to_list (slice_get ls (get_or ns at 0))))
     (λ _. line_tests d e (lines_at ls (take (at + 1) ns)) (lines_at ls (drop (at + 1) ns))) went)
 
 pub tests_end : (d : Declared) (e : Bool) (ls : List Line) (ns : List ℕ) (at : ℕ) → length ns ≤ at →
     line_tests d e (lines_at ls (take at ns)) (lines_at ls (drop at ns)) ≡ Ok tt
 tests_end d e ls ns at past =
-    ap (line_tests d e (lines_at ls (take at ns))) (past_end ls ns at past) ∙ tests_none d e (lines_at ls (take at ns))
+    ap (line_tests d e (lines_at ls (take at ns))) (past_end ls ns at past)
+    ∙ tests_none d e (lines_at ls (take at ns))
 
 pub tests_start : (d : Declared) (e : Bool) (ls : List Line) (ns : List ℕ) →
     line_tests d e [] (lines_at ls ns) ≡ line_tests d e (lines_at ls (take 0 ns)) (lines_at ls (drop 0 ns))

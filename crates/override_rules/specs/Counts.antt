@@ -21,7 +21,8 @@ KeepsCounts old new = (kind : List ℕ) → count_of new kind ≡ count_of old k
 -- one more for this kind
 abbrev pub AddsOne : List ℕ → CountTable → CountTable → Type 0
 AddsOne counted old new =
-    (kind : List ℕ) → count_of new kind ≡ (if bytes_eq counted kind then suc (count_of old kind) else count_of old kind)
+    (kind : List ℕ) →
+    count_of new kind ≡ (if bytes_eq counted kind then suc (count_of old kind) else count_of old kind)
 
 -- the table has, for each kind, how many there are
 abbrev pub CountsKinds : CountTable → List Default → Type 0

@@ -1,6 +1,5 @@
 -- What the tables hold.
-use Rattle.std.specs.Prelude.{ℕ, ◌+◌, ◌<◌, ◌^◌, List, length, map}
-use Rattle.std.specs.BTreeMap.{BTreeMap}
+use Rattle.std.specs.Prelude.{List, map}
 use Rattle.pp_values.specs.Views.{view}
 use Rattle.pp_values.specs.declared.value.Value.{Value}
 use Rattle.override_rules.specs.Defaults.{Default}

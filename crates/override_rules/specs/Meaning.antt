@@ -1,10 +1,9 @@
 -- What the calls on overrides mean.
-use Rattle.std.specs.Prelude.{◌≡◌, ℕ, ◌+◌, Bool, true, false, if◌then◌else◌, List, ◌∷◌, [], ◌++◌, length, find, slice_get, Option, None, Some, is_some, is_none, option_and_then, Result, Ok, Err, ◌||◌, codes}
+use Rattle.std.specs.Prelude.{ℕ, ◌+◌, Bool, true, false, if◌then◌else◌, List, ◌∷◌, [], ◌++◌, length, find, slice_get, Option, None, Some, is_some, is_none, option_and_then, Result, Ok, Err, ◌||◌, codes}
 use Rattle.std.specs.Str.{bytes_eq}
 use Rattle.pp_values.specs.Answers.{and_then}
 use Rattle.pp_values.specs.Datum.{Datum}
 use Rattle.pp_values.specs.Faults.{fault}
-use Rattle.pp_values.specs.Settings.{Setting}
 use Rattle.pp_values.specs.declared.fault.Fault.{Fault}
 use Rattle.pp_values.specs.declared.fault.Subject.TheVariants as subject
 use Rattle.pp_values.specs.declared.fault.What.TheVariants.{AlreadySet}

@@ -1,5 +1,5 @@
--- Which attributes of a declaration may be set: those that it names, those of the lines on it, and those of the defaults
--- for its kind on the way out from its scope.
+-- Which attributes of a declaration may be set: those that it names, those of the lines on it, and those of the
+-- defaults for its kind on the way out from its scope.
 use Rattle.std.specs.Prelude.{ℕ, zero, suc, ◌==◌, ◌&&◌, Bool, if◌then◌else◌, List, [], ◌∷◌, ◌++◌, filter, map, length, Option, None, Some, option_map, option_to_list}
 use Rattle.std.specs.Str.{bytes_eq}
 use Rattle.pp_values.specs.Datum.{Datum}

@@ -23,7 +23,8 @@ numbers_at table r = items_in (get_by (λ t. reference_cmp r t.reference) table)
 -- one more number for a resource, behind the others; those of other resources stay
 abbrev pub Adds : Reference → ℕ → Table → Table → Type 0
 Adds target n old new =
-    (r : Reference) → numbers_at new r ≡ (if same_reference target r then numbers_at old r ++ n ∷ [] else numbers_at old r)
+    (r : Reference) →
+    numbers_at new r ≡ (if same_reference target r then numbers_at old r ++ n ∷ [] else numbers_at old r)
 
 abbrev pub Keeps : Table → Table → Type 0
 Keeps old new = (r : Reference) → numbers_at new r ≡ numbers_at old r

@@ -2,7 +2,7 @@
 use Rattle.std.specs.Prelude.{ℕ, Bool, true, false, ◌&&◌, ◌||◌, not, if◌then◌else◌, List, [], ◌∷◌, ◌++◌, Option, None, Some, Result, Ok, Err}
 use Rattle.std.specs.Str.{bytes_eq}
 use Rattle.pp_values.specs.Answers.{and_then}
-use Rattle.pp_values.specs.Datum.{Datum, undef}
+use Rattle.pp_values.specs.Datum.{Datum}
 use Rattle.pp_values.specs.Faults.{fault}
 use Rattle.pp_values.specs.Rising.{has_text}
 use Rattle.pp_values.specs.declared.fault.Fault.{Fault}

@@ -79,7 +79,10 @@ impl Defaults {
     ) -> Result<(), Memory>
         requires new { default_in self.old kind.now scope name.now ≡ None }
         requires room { length self.old < 2 ^ 32 }
-        ensures { self.new ≡ (if is_ok result then with_default self.old (default_key kind.now scope name.now) (view value) else self.old) }
+        ensures { self.new
+            ≡ (if is_ok result
+            then with_default self.old (default_key kind.now scope name.now) (view value)
+            else self.old) }
     {
         let value = Kept::new(value);
         self.counts.open(alloc, kind.as_text())?;

@@ -50,7 +50,8 @@ fn after_lines(
     name: &Text,
     start: Option<Value>,
 ) -> Result<Option<Value>, Memory>
-    ensures { IfOk result (λ o. option_map view o ≡ after_lines_meant name.now (lines_at lines.now numbers.now) (option_map view start)) }
+    ensures { IfOk result (λ o. option_map view o
+        ≡ after_lines_meant name.now (lines_at lines.now numbers.now) (option_map view start)) }
 {
     let mut value = start;
     for number in numbers {
@@ -66,7 +67,8 @@ fn after_number(
     name: &Text,
     value: Option<Value>,
 ) -> Result<Option<Value>, Memory>
-    ensures { IfOk result (λ o. option_map view o ≡ after_lines_meant name.now (option_to_list (slice_get lines.now number)) (option_map view value)) }
+    ensures { IfOk result (λ o. option_map view o
+        ≡ after_lines_meant name.now (option_to_list (slice_get lines.now number)) (option_map view value)) }
 {
     match lines.get(number) {
         Some(line) => after_line(alloc, line, name, value),
@@ -80,7 +82,8 @@ fn after_line(
     name: &Text,
     value: Option<Value>,
 ) -> Result<Option<Value>, Memory>
-    ensures { IfOk result (λ o. option_map view o ≡ after_line_meant name.now (line_of line.now) (option_map view value)) }
+    ensures { IfOk result (λ o. option_map view o
+        ≡ after_line_meant name.now (line_of line.now) (option_map view value)) }
 {
     if line.name == *name {
         return changed(alloc, line.append, &line.value, value);

@@ -38,7 +38,8 @@ pub fn put_overridden(
     item: &Declared,
     names: &mut BTreeSet<Text>,
 ) -> Result<(), Memory>
-    ensures { OnOk result (names.new.keys ≡ with_texts names.old.keys (line_names (lines_on (reference_of item.now) lines.now))) }
+    ensures { OnOk result (names.new.keys
+        ≡ with_texts names.old.keys (line_names (lines_on (reference_of item.now) lines.now))) }
 {
     let numbers = lines.on(&item.item.kind, &item.item.title);
     put_numbers(alloc, lines, numbers, names)
@@ -64,7 +65,8 @@ fn put_number(
     number: usize,
     names: &mut BTreeSet<Text>,
 ) -> Result<(), Memory>
-    ensures { OnOk result (names.new.keys ≡ with_texts names.old.keys (line_names (option_to_list (slice_get lines.now number)))) }
+    ensures { OnOk result (names.new.keys
+        ≡ with_texts names.old.keys (line_names (option_to_list (slice_get lines.now number)))) }
 {
     match lines.get(number) {
         Some(line) => {
@@ -84,7 +86,8 @@ pub fn put_defaults(
     scope: u32,
     names: &mut BTreeSet<Text>,
 ) -> Result<(), Memory>
-    ensures { OnOk result (names.new.keys ≡ with_texts names.old.keys (names_within (length scopes.now) scopes.now defaults.now kind.now (Some scope))) }
+    ensures { OnOk result (names.new.keys
+        ≡ with_texts names.old.keys (names_within (length scopes.now) scopes.now defaults.now kind.now (Some scope))) }
 {
     let mut wanted = scope;
     let mut left = scopes.len();

@@ -65,8 +65,10 @@ impl Lines {
 
     /// Where the lines on a resource stand, in their order.
     pub fn on(&self, kind: &Kind, title: &Text) -> &[usize]
-        ensures lines { lines_at self.now result.now ≡ lines_on (record { kind = kind.now; title = title.now }) self.now }
-        ensures count { length result.now ≡ length (lines_on (record { kind = kind.now; title = title.now }) self.now) }
+        ensures lines { lines_at self.now result.now
+            ≡ lines_on (record { kind = kind.now; title = title.now }) self.now }
+        ensures count { length result.now
+            ≡ length (lines_on (record { kind = kind.now; title = title.now }) self.now) }
         ensures fits { length result.now ≤ length self.now }
     {
         self.numbers.at(Wanted { kind, title })

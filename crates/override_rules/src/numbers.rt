@@ -25,7 +25,8 @@ impl Numbers {
     }
 
     pub fn at(&self, wanted: Wanted<'_>) -> &[usize]
-        ensures { result.now ≡ numbers_at self.now.by_target (record { kind = wanted.entry.kind.now; title = wanted.entry.title.now }) }
+        ensures { result.now
+            ≡ numbers_at self.now.by_target (record { kind = wanted.entry.kind.now; title = wanted.entry.title.now }) }
     {
         match self.by_target.get(wanted) {
             Some(numbers) => numbers.as_slice(),

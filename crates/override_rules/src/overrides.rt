@@ -220,7 +220,8 @@ impl Overrides {
         name: Text,
         items: &mut Vec<Attribute>,
     ) -> Result<(), Memory>
-        ensures { OnOk result (settings items.new.items ≡ settings items.old.items ++ setting_for (attribute_meant self.now row.now) name) }
+        ensures { OnOk result (settings items.new.items
+            ≡ settings items.old.items ++ setting_for (attribute_meant self.now row.now) name) }
     {
         match self.attribute_of(alloc, row, &name)? {
             Some(value) => {
@@ -260,7 +261,8 @@ impl Overrides {
         value: Value,
         at: &Place,
     ) -> Result<(), Stop>
-        ensures { Changes (default_added kind.now scope name.now (view value) at.now self.old) self.old result self.new }
+        ensures { Changes (default_added kind.now scope name.now (view value) at.now self.old)
+            self.old result self.new }
     {
         if self.defaults.get(kind, scope, name).is_some() {
             return Err(Stop::Fault(default_twice(alloc, kind, name, at)?));

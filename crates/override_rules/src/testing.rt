@@ -78,7 +78,8 @@ fn test_number(
     item: &Declared,
     evaluated: bool,
 ) -> Result<(), Stop>
-    ensures { Answers result (line_tests item.now evaluated (lines_at lines.now done.now) (option_to_list (slice_get lines.now number))) }
+    ensures { Answers result
+        (line_tests item.now evaluated (lines_at lines.now done.now) (option_to_list (slice_get lines.now number))) }
 {
     match lines.get(number) {
         Some(line) => {

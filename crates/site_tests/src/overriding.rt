@@ -1,6 +1,8 @@
 //! Override lines and default statements, by scenes of a few words: what is declared, what is said of it, and what comes of it.
 use override_rules::{OverrideLine, Overrides, Right};
-use pp_values::{Fault, Kind, Memory, Place, Reference, Stop, Text, Texts, Value, Values, What, text_of};
+use pp_values::{
+    Fault, Kind, Memory, Place, Reference, Stop, Text, Texts, Value, Values, What, text_of,
+};
 use res_book::{Book, Mode};
 use res_core::{Attribute, Attributes, Declared, Resource, Tags};
 use std::alloc::Global;
@@ -59,26 +61,20 @@ fn attributes(alloc: Global, mode: &str) -> Result<Attributes, Memory> {
     Ok(Attributes::from_vec(items))
 }
 
-/// The file `x` with this mode, in class `web` and scope 5.
-fn declared(alloc: Global, mode: &str) -> Result<Declared, Memory> {
-    let mut known = Texts::new(alloc);
-    known.push(Text::from_str(alloc, "mode")?)?;
-    let class = Text::from_str(alloc, "class web")?;
-    let at = at(alloc)?;
-    let item = Resource {
+/// The file `x` with this mode.
+fn resource(alloc: Global, mode: &str) -> Result<Resource, Memory> {
+    Ok(Resource {
         kind: Kind::from_str(alloc, "file")?,
         title: Text::from_str(alloc, "x")?,
-        attributes: attributes(alloc, mode)?,
         tags: Tags::new(alloc),
-    };
-    Ok(Declared {
-        item,
-        at,
-        scope: 5,
-        container: None,
-        class,
-        known,
+        attributes: attributes(alloc, mode)?,
     })
+}
+
+fn known(alloc: Global) -> Result<Texts, Memory> {
+    let mut known = Texts::new(alloc);
+    known.push(Text::from_str(alloc, "mode")?)?;
+    Ok(known)
 }
 
 fn line(
@@ -137,8 +133,17 @@ enum Step {
     Nothing,
 }
 
-fn declare(alloc: Global, scene: &mut Scene, item: Declared, mode: Mode) -> Result<(), Stop> {
-    let number = scene.book.declare(alloc, item, mode)?;
+/// Declares the file in class `web` and scope 5.
+fn declare(alloc: Global, scene: &mut Scene, mode: &str, way: Mode) -> Result<(), Stop> {
+    let item = Declared {
+        at: at(alloc)?,
+        scope: 5,
+        container: None,
+        class: Text::from_str(alloc, "class web")?,
+        known: known(alloc)?,
+        item: resource(alloc, mode)?,
+    };
+    let number = scene.book.declare(alloc, item, way)?;
     if number < scene.book.count() {
         scene.overrides.stand(alloc, &scene.book, number)?;
     }
@@ -147,8 +152,7 @@ fn declare(alloc: Global, scene: &mut Scene, item: Declared, mode: Mode) -> Resu
 
 fn import(alloc: Global, scene: &mut Scene) -> Result<(), Stop> {
     let node = Text::from_str(alloc, "n")?;
-    let item = declared(alloc, "-")?;
-    declare(alloc, scene, item, Mode::Imported { node, place: 0 })
+    declare(alloc, scene, "-", Mode::Imported { node, place: 0 })
 }
 
 fn add_default(alloc: Global, scene: &mut Scene, scope: u32, word: &str) -> Result<(), Stop> {
@@ -163,7 +167,7 @@ fn add_default(alloc: Global, scene: &mut Scene, scope: u32, word: &str) -> Resu
 
 fn act(alloc: Global, scene: &mut Scene, step: &Step) -> Result<(), Stop> {
     match *step {
-        Step::Declare(mode) => declare(alloc, scene, declared(alloc, mode)?, Mode::Plain),
+        Step::Declare(mode) => declare(alloc, scene, mode, Mode::Plain),
         Step::Import => import(alloc, scene),
         Step::Evaluate => {
             if scene.book.count() > 0 {
@@ -229,23 +233,119 @@ fn comes_to(alloc: Global, row: &([Step; 3], &str)) -> Result<bool, Memory> {
 const SCENES: [([Step; 3], &str); 19] = [
     ([Step::Declare("a"), Step::Nothing, Step::Nothing], "a"),
     ([Step::Declare("-"), Step::Nothing, Step::Nothing], "unset"),
-    ([Step::Declare("a"), Step::Set("mode", "b", "any"), Step::Nothing], "b"),
-    ([Step::Set("mode", "b", "any"), Step::Declare("a"), Step::Nothing], "b"),
-    ([Step::Declare("a"), Step::Set("mode", "-", "any"), Step::Nothing], "unset"),
-    ([Step::Declare("a"), Step::Add("b"), Step::Add("c+d")], "[a, b, c, d]"),
+    (
+        [
+            Step::Declare("a"),
+            Step::Set("mode", "b", "any"),
+            Step::Nothing,
+        ],
+        "b",
+    ),
+    (
+        [
+            Step::Set("mode", "b", "any"),
+            Step::Declare("a"),
+            Step::Nothing,
+        ],
+        "b",
+    ),
+    (
+        [
+            Step::Declare("a"),
+            Step::Set("mode", "-", "any"),
+            Step::Nothing,
+        ],
+        "unset",
+    ),
+    (
+        [Step::Declare("a"), Step::Add("b"), Step::Add("c+d")],
+        "[a, b, c, d]",
+    ),
     ([Step::Declare("-"), Step::Add("b"), Step::Nothing], "b"),
-    ([Step::Declare("-"), Step::Default(0, "b"), Step::Nothing], "b"),
-    ([Step::Declare("-"), Step::Default(0, "b"), Step::Default(2, "c")], "c"),
-    ([Step::Declare("-"), Step::Default(0, "b"), Step::Default(2, "-")], "unset"),
-    ([Step::Declare("a"), Step::Default(5, "b"), Step::Nothing], "a"),
-    ([Step::Import, Step::Default(5, "b"), Step::Nothing], "unset"),
-    ([Step::Declare("-"), Step::Set("mode", "b", "web"), Step::Nothing], "b"),
-    ([Step::Declare("a"), Step::Set("mode", "b", "web"), Step::Nothing], "F15"),
-    ([Step::Declare("a"), Step::Set("mode", "b", "below"), Step::Nothing], "b"),
-    ([Step::Declare("a"), Step::Set("size", "b", "web"), Step::Nothing], "F10"),
-    ([Step::Set("size", "b", "any"), Step::Declare("a"), Step::Nothing], "F10"),
-    ([Step::Declare("a"), Step::Evaluate, Step::Set("mode", "b", "any")], "F15"),
-    ([Step::Declare("a"), Step::Default(5, "b"), Step::Default(5, "c")], "F15"),
+    (
+        [Step::Declare("-"), Step::Default(0, "b"), Step::Nothing],
+        "b",
+    ),
+    (
+        [
+            Step::Declare("-"),
+            Step::Default(0, "b"),
+            Step::Default(2, "c"),
+        ],
+        "c",
+    ),
+    (
+        [
+            Step::Declare("-"),
+            Step::Default(0, "b"),
+            Step::Default(2, "-"),
+        ],
+        "unset",
+    ),
+    (
+        [Step::Declare("a"), Step::Default(5, "b"), Step::Nothing],
+        "a",
+    ),
+    (
+        [Step::Import, Step::Default(5, "b"), Step::Nothing],
+        "unset",
+    ),
+    (
+        [
+            Step::Declare("-"),
+            Step::Set("mode", "b", "web"),
+            Step::Nothing,
+        ],
+        "b",
+    ),
+    (
+        [
+            Step::Declare("a"),
+            Step::Set("mode", "b", "web"),
+            Step::Nothing,
+        ],
+        "F15",
+    ),
+    (
+        [
+            Step::Declare("a"),
+            Step::Set("mode", "b", "below"),
+            Step::Nothing,
+        ],
+        "b",
+    ),
+    (
+        [
+            Step::Declare("a"),
+            Step::Set("size", "b", "web"),
+            Step::Nothing,
+        ],
+        "F10",
+    ),
+    (
+        [
+            Step::Set("size", "b", "any"),
+            Step::Declare("a"),
+            Step::Nothing,
+        ],
+        "F10",
+    ),
+    (
+        [
+            Step::Declare("a"),
+            Step::Evaluate,
+            Step::Set("mode", "b", "any"),
+        ],
+        "F15",
+    ),
+    (
+        [
+            Step::Declare("a"),
+            Step::Default(5, "b"),
+            Step::Default(5, "c"),
+        ],
+        "F15",
+    ),
 ];
 
 #[test]
@@ -281,9 +381,26 @@ fn counts(alloc: Global, row: &([Step; 3], (usize, u32, bool))) -> Result<bool, 
 
 const COUNTS: [([Step; 3], (usize, u32, bool)); 4] = [
     ([Step::Nothing, Step::Nothing, Step::Nothing], (0, 0, false)),
-    ([Step::Set("mode", "b", "any"), Step::Nothing, Step::Nothing], (0, 0, true)),
-    ([Step::Declare("-"), Step::Set("tag", "b", "any"), Step::Default(2, "c")], (2, 2, false)),
-    ([Step::Declare("a"), Step::Set("mode", "-", "any"), Step::Default(7, "c")], (0, 2, false)),
+    (
+        [Step::Set("mode", "b", "any"), Step::Nothing, Step::Nothing],
+        (0, 0, true),
+    ),
+    (
+        [
+            Step::Declare("-"),
+            Step::Set("tag", "b", "any"),
+            Step::Default(2, "c"),
+        ],
+        (2, 2, false),
+    ),
+    (
+        [
+            Step::Declare("a"),
+            Step::Set("mode", "-", "any"),
+            Step::Default(7, "c"),
+        ],
+        (0, 2, false),
+    ),
 ];
 
 #[test]

@@ -13,7 +13,8 @@ returns-in_err-test_number c =
     let p = err_from_is_err_and c.from_residual.result c.from_residual.ensures.1 in
     rw (p.1, p.2)
     (tests_stop c.args.item.now c.args.evaluated c.args.lines.now c.args.numbers.now c.loop-at.at
-    (line_tests c.args.item.now c.args.evaluated [] (lines_at c.args.lines.now c.args.numbers.now)) c.in_err-test_number.field-0.0
+    (line_tests c.args.item.now c.args.evaluated [] (lines_at c.args.lines.now c.args.numbers.now))
+    c.in_err-test_number.field-0.0
     c.loop-at-test.true c.in_err-test_number.ensures c.loop-at.invariant)
 
 pub loop-at-preserved : goal.loop-at-preserved

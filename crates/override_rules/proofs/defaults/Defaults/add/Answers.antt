@@ -15,8 +15,10 @@ pub raise-requires-clause-fits : goal.raise-requires-clause-fits
 raise-requires-clause-fits c =
     let es = c.self.inside.values.entries in
     let k = c.as_text-2.result.now in
-    let same : count_of c.open.new.self.by_kind k ≡ length (defaults_for k (defaults_of es)) = c.in_ok-open.ensures.keeps k ∙ c.self.invariant k in
-    let fits : length (defaults_for k (defaults_of es)) ≤ length (defaults_of es) = length-filter-le (λ d. bytes_eq k d.0.kind) (defaults_of es) in
+    let same : count_of c.open.new.self.by_kind k ≡ length (defaults_for k (defaults_of es)) =
+    c.in_ok-open.ensures.keeps k ∙ c.self.invariant k in
+    let fits : length (defaults_for k (defaults_of es)) ≤ length (defaults_of es) =
+    length-filter-le (λ d. bytes_eq k d.0.kind) (defaults_of es) in
     let size : length (defaults_of es) ≡ length c.args.self.now = ap length c.self.view_is in
     let room = c.requires.room in
     omega arith
@@ -28,7 +30,8 @@ invariant_of-self-2 c =
     let key : DefaultKey = default_key c.args.kind.now c.args.scope c.args.name.now in
     let entries : c.insert.new.self.entries ≡ insert_entry key_cmp es key v =
     c.in_ok-insert.ensures.entries
-    ∙ λ i. insert_entry key_cmp es (default_key (c.in_ok-copy.ensures i) (c.from.ensures i) (c.in_ok-copy-2.ensures i)) v in
+    ∙ λ i. insert_entry key_cmp es
+    (default_key (c.in_ok-copy.ensures i) (c.from.ensures i) (c.in_ok-copy-2.ensures i)) v in
     λ kind. counts_more c.self.inside.counts.by_kind c.open.new.self.by_kind c.raise.new.self.by_kind es key v
     (sym (default_at (defaults_of es) c.args.kind.now c.args.scope c.args.name.now)
     ∙ ap (λ ds. default_in ds c.args.kind.now c.args.scope c.args.name.now) c.self.view_is ∙ c.requires.new)
@@ -44,7 +47,8 @@ returns c =
     let key : DefaultKey = default_key c.args.kind.now c.args.scope c.args.name.now in
     let entries : c.insert.new.self.entries ≡ insert_entry key_cmp es key v =
     c.in_ok-insert.ensures.entries
-    ∙ λ i. insert_entry key_cmp es (default_key (c.in_ok-copy.ensures i) (c.from.ensures i) (c.in_ok-copy-2.ensures i)) v in
+    ∙ λ i. insert_entry key_cmp es
+    (default_key (c.in_ok-copy.ensures i) (c.from.ensures i) (c.in_ok-copy-2.ensures i)) v in
     ap defaults_of entries
     ∙ put_seen es key v
     ∙ ap (λ ds. with_default ds key (view v)) c.self.view_is

@@ -1,4 +1,4 @@
-use Rattle.std.proofs.Common.{◌≡◌, ◌+◌, [], map, ap, ◌∙◌, rules}
+use Rattle.std.proofs.Common.{◌≡◌, [], map, ap, ◌∙◌, rules}
 use Rattle.std.specs.BTreeMap.Range.{entries_between}
 use Rattle.std.specs.declared.ops.Bound.TheVariants.{Included, Excluded}
 use Rattle.std.specs.Ordering.{is_gt}
@@ -22,11 +22,13 @@ loop-key-init c =
     let kind = c.args.kind.now in
     let number = c.from-number.result in
     let iterated : c.into_iter-key-iterator.result ≡ c.range-key-items.result = search rules in
-    let between : c.range-key-items.result ≡ entries_between key_cmp (Included c.in_ok-first.first) (Excluded c.in_ok-end.end) es =
+    let between : c.range-key-items.result ≡ entries_between key_cmp (Included c.in_ok-first.first)
+    (Excluded c.in_ok-end.end) es =
     c.range-key-items.ensures.between tt in
     ap (λ l. with_texts c.args.names.now.keys (map (λ e. e.0.name) l)) (iterated ∙ between)
     ∙ ap (with_texts c.args.names.now.keys)
-    ((λ i. map (λ e. e.0.name) (entries_between key_cmp (Included (c.in_ok-first.ensures i)) (Excluded (c.in_ok-end.ensures i)) es))
+    ((λ i. map (λ e. e.0.name) (entries_between key_cmp (Included (c.in_ok-first.ensures i))
+    (Excluded (c.in_ok-end.ensures i)) es))
     ∙ names_between kind number es
     ∙ ap (names_in (defaults_of es) kind) c.from-number.ensures
     ∙ ap (λ ds. names_in ds kind c.args.scope) c.self.view_is)

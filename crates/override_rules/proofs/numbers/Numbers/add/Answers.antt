@@ -9,7 +9,8 @@ returns-in_err-push-clause-keeps c =
     let w = c.push.new.self in
     on_err c.from_residual.result
     (unchanged c.args.self.now.by_target (c.get_mut.follows.lender w) c.args.target w
-    ((c.get_mut.follows.holds w).3 (search rules)) (c.in_err-push.ensures.items ∙ ap items_in c.in-Some.ensures.value))
+    ((c.get_mut.follows.holds w).3 (search rules)) (c.in_err-push.ensures.items
+    ∙ ap items_in c.in-Some.ensures.value))
 
 pub returns-in-Some-clause-adds : goal.returns-in-Some-clause-adds
 returns-in-Some-clause-adds c =

@@ -6,6 +6,8 @@ mod comparing;
 #[cfg(test)]
 mod copies;
 #[cfg(test)]
+mod declarations;
+#[cfg(test)]
 mod definitions;
 #[cfg(test)]
 mod forms;

@@ -1,4 +1,8 @@
-mod Pending
-mod Tables
-mod References
+pub mod Growth
 pub mod Rows
+pub mod Live
+mod Examples
+mod Kept
+mod Pending
+mod References
+mod Tables

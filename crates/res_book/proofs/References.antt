@@ -1,5 +1,5 @@
 -- References that are the same.
-use Rattle.std.proofs.Common.{◌≡◌, Bool, true, false, ◌&&◌, refl, sym}
+use Rattle.std.proofs.Common.{◌≡◌, Bool, true, false, ◌&&◌, refl}
 use Rattle.std.proofs.lemmas.Slice.Eq.{bytes_eq-Decides}
 use Rattle.std.specs.Str.{bytes_eq}
 use Rattle.pp_values.specs.References.{same_reference, same_reference_equiv}

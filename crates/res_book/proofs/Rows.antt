@@ -1,13 +1,11 @@
 -- Declarations by number and by reference.
-use Rattle.std.proofs.Common.{◌≡◌, ℕ, zero, suc, ◌+◌, ◌<◌, ◌≤◌, Bool, true, false, cond, if◌then◌else◌, List, [], ◌∷◌, ◌++◌, length}
-use Rattle.std.proofs.Common.{Option, None, Some, option_map, ◌⊎◌, inl, inr, refl, sym, ap, subst, ◌∙◌, arith, length-append}
+use Rattle.std.proofs.Common.{◌≡◌, ℕ, zero, suc, ◌<◌, Bool, true, false, cond, List, [], ◌∷◌, ◌++◌, length}
+use Rattle.std.proofs.Common.{Option, None, Some, option_map, ◌⊎◌, inl, inr, refl, sym, ap, subst, ◌∙◌, arith}
 use Rattle.std.specs.Prelude.{slice_get, slice_set}
 use Rattle.pp_values.specs.References.{same_reference}
 use Rattle.pp_values.specs.declared.reference.Reference.{Reference}
 use Rattle.res_core.specs.declared.declared.Declared.{Declared}
-use Rattle.res_book.specs.Kept.{Finds, IsKept}
-use Rattle.res_book.specs.Numbers.{Kinds, number_at, Adds, Keeps}
-use Rattle.res_book.specs.Rows.{reference_of, is_named, item_at, declared_as, number_of, AreApart, limit, with_change}
+use Rattle.res_book.specs.Rows.{reference_of, is_named, item_at, declared_as, number_of, AreApart, with_change}
 use Rattle.res_book.specs.declared.row.Row.{Row}
 use Rattle.res_book.proofs.References.{same, itself, turned}
 
@@ -112,37 +110,18 @@ old_stays q p rows n l false e new old = old
 
 pub apart-append : (rows : List Row) (r : Row) → number_of (reference_of r.item) rows ≡ None → AreApart rows →
     AreApart (rows ++ r ∷ [])
-apart-append rows r new apart = record { found = λ n d at.
-    number_of-append (reference_of d) rows r new
-    ∙ (elim (item_at-append rows r n d at) [
-      | inl old ↦ old_stays (reference_of r.item) (reference_of d) rows n (length rows)
-          (same_reference (reference_of r.item) (reference_of d)) refl new (apart.found n d old)
-      | inr last ↦
-          ap (λ x. cond (same_reference (reference_of r.item) (reference_of x)) (Some (length rows))
-          (number_of (reference_of x) rows)) (sym last.1)
-          ∙ ap (λ b. cond b (Some (length rows)) (number_of (reference_of r.item) rows)) (itself (reference_of r.item))
-          ∙ ap (λ m. Some m) (sym last.0)
-    ]) }
-
-pub kept-append : (kinds new : Kinds) (rows : List Row) (r : Row) → declared_as (reference_of r.item) rows ≡ None →
-    length rows < limit → Adds r.item.item.kind r.item.item.title (length rows) kinds new → IsKept kinds rows →
-    IsKept new (rows ++ r ∷ [])
-kept-append kinds new rows r undeclared room adds kept =
-    let fresh = numberless (reference_of r.item) rows undeclared in record {
-  finds = λ q.
-      adds q.kind q.title
-      ∙ ap (cond (same_reference (reference_of r.item) q) (Some (length rows))) (kept.finds q)
-      ∙ sym (number_of-append q rows r fresh);
-  apart = apart-append rows r fresh kept.apart;
-  few = let l = length-append rows (r ∷ []) in omega arith;
-}
-
--- nothing is found otherwise
-pub kept-keeps : (kinds new : Kinds) (rows : List Row) → Keeps kinds new → IsKept kinds rows → IsKept new rows
-kept-keeps kinds new rows same kept = record {
-  finds = λ q. same q.kind q.title ∙ kept.finds q;
-  apart = kept.apart;
-  few = kept.few;
+apart-append rows r new apart = record {
+  found = λ n d at.
+      number_of-append (reference_of d) rows r new
+      ∙ (elim (item_at-append rows r n d at) [
+        | inl old ↦ old_stays (reference_of r.item) (reference_of d) rows n (length rows)
+            (same_reference (reference_of r.item) (reference_of d)) refl new (apart.found n d old)
+        | inr last ↦
+            ap (λ x. cond (same_reference (reference_of r.item) (reference_of x)) (Some (length rows))
+            (number_of (reference_of x) rows)) (sym last.1)
+            ∙ ap (λ b. cond b (Some (length rows)) (number_of (reference_of r.item) rows)) (itself (reference_of r.item))
+            ∙ ap (λ m. Some m) (sym last.0)
+      ]);
 }
 
 -- ---- a declaration that changes, and stays the same resource
@@ -180,12 +159,10 @@ length-change change n [] = refl
 length-change change zero (r ∷ rs) = refl
 length-change change (suc n) (r ∷ rs) = ap suc (length-change change n rs)
 
-pub kept-change : (change : Row → Row) → KeepsItem change → (kinds : Kinds) (n : ℕ) (rows : List Row) →
-    IsKept kinds rows → IsKept kinds (with_change change n rows)
-kept-change change keeps kinds n rows kept = record {
-  finds = λ q. kept.finds q ∙ sym (number_of-change change keeps q n rows);
-  apart = record { found = λ m d at.
+pub apart-change : (change : Row → Row) → KeepsItem change → (n : ℕ) (rows : List Row) → AreApart rows →
+    AreApart (with_change change n rows)
+apart-change change keeps n rows apart = record {
+  found = λ m d at.
       number_of-change change keeps (reference_of d) n rows
-      ∙ kept.apart.found m d (sym (item_at-change change keeps m n rows) ∙ at) };
-  few = let l = length-change change n rows in let f = kept.few in omega arith;
+      ∙ apart.found m d (sym (item_at-change change keeps m n rows) ∙ at);
 }

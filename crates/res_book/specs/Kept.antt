@@ -1,7 +1,7 @@
 -- What holds of a book at each moment.
 use Rattle.std.specs.Prelude.{◌≡◌, ◌≤◌, List, length}
 use Rattle.pp_values.specs.declared.reference.Reference.{Reference}
-use Rattle.res_book.specs.Rows.{number_of, limit, AreApart}
+use Rattle.res_book.specs.Rows.{number_of, limit, AreApart, AreContained}
 use Rattle.res_book.specs.declared.row.Row.{Row}
 use Rattle.res_book.specs.Numbers.{Kinds, number_at}
 
@@ -12,4 +12,5 @@ Finds kinds rows = (q : Reference) → number_at kinds q.kind q.title ≡ number
 pub record IsKept (kinds : Kinds) (rows : List Row) : Type 0 where
   pub finds : Finds kinds rows
   pub apart : AreApart rows
+  pub contained : AreContained rows
   pub few : length rows ≤ limit

@@ -1,5 +1,5 @@
 -- The declarations of one compile, as a list.
-use Rattle.std.specs.Prelude.{◌≡◌, ℕ, zero, suc, ◌+◌, ◌-◌, nat_lt, Bool, true, false, not, ◌&&◌, ◌||◌, if◌then◌else◌}
+use Rattle.std.specs.Prelude.{◌≡◌, ℕ, zero, suc, ◌+◌, ◌-◌, ◌<◌, nat_lt, IsTrue, Bool, true, false, not, ◌&&◌, ◌||◌, if◌then◌else◌}
 use Rattle.std.specs.Prelude.{List, [], ◌∷◌, ◌++◌, length, find, slice_get, Option, None, Some, option_map}
 use Rattle.std.specs.Prelude.{option_and_then, is_none, Result, Ok, Err, codes}
 use Rattle.std.specs.List.{range_with_len}
@@ -97,6 +97,18 @@ number_of q (r ∷ rs) = if is_named q r then Some 0 else option_map suc (number
 pub record AreApart (rows : List Row) : Type 0 where
   pub found : (n : ℕ) (d : Declared) → item_at rows n ≡ Some d → number_of (reference_of d) rows ≡ Some n
 
+-- ---- containers
+
+-- where there is a container, it is a live declaration
+abbrev pub is_contained : Option ℕ → List Row → Bool
+is_contained None rows = true
+is_contained (Some n) rows = is_live_at rows n
+
+-- Each container was declared before what it contains, and is live.
+pub record AreContained (rows : List Row) : Type 0 where
+  pub before : (n c : ℕ) (d : Declared) → item_at rows n ≡ Some d → d.container ≡ Some c → c < n
+  pub live : (n c : ℕ) (d : Declared) → item_at rows n ≡ Some d → d.container ≡ Some c → IsTrue (is_live_at rows c)
+
 -- ---- declaring
 
 abbrev pub limit : ℕ
@@ -135,11 +147,6 @@ declared d m rows =
     if is_class_virtual d m
     then Err (class_virtual d)
     else declared_once d m (declared_as (reference_of d) rows) rows
-
--- where there is a container, it is a live declaration
-abbrev pub is_contained : Option ℕ → List Row → Bool
-is_contained None rows = true
-is_contained (Some n) rows = is_live_at rows n
 
 -- ---- what becomes of a declaration
 

@@ -1,7 +1,7 @@
 ghost use Rattle.std.specs.Prelude.{◌≡◌, ◌<◌, [], ◌∷◌, ◌++◌, length, not, is_ok, if◌then◌else◌, option_copied, slice_get, IfOk, IsTrue};
 ghost use Rattle.res_book.specs.Outcomes.{Changes};
 ghost use Rattle.res_book.specs.Rows.{reference_of, is_class_virtual as class_virtual_meant, is_virtual as virtual_meant, is_live as live_meant, is_instance as instance_meant, is_pending as pending_meant};
-ghost use Rattle.res_book.specs.Rows.{item_at, mode_at, is_live_at, is_pending_at, pending_from, pending_after, bound_at, number_of, declared, declared_as, declared_last, is_contained, limit, with_mark, with_bound};
+ghost use Rattle.res_book.specs.Rows.{AreApart, AreContained, item_at, mode_at, is_live_at, is_pending_at, pending_from, pending_after, bound_at, number_of, declared, declared_as, declared_last, is_contained, limit, with_mark, with_bound};
 
 use crate::faults::{class_virtual, duplicate, too_many};
 use crate::mode::Mode;
@@ -74,6 +74,20 @@ impl Book {
         &self.rows[number as usize].item
     }
 
+    /// No two declarations have the same reference.
+    pub fn references_differ(&self)
+        ensures { AreApart self.now }
+    {
+        let _count = self.rows.len();
+    }
+
+    /// Each container was declared before what it contains, and is live.
+    pub fn containers_stand(&self)
+        ensures { AreContained self.now }
+    {
+        let _count = self.rows.len();
+    }
+
     pub fn mode(&self, number: u32) -> &Mode
         requires { number < length self.now }
         ensures { mode_at self.now number ≡ Some result.now }
@@ -85,8 +99,7 @@ impl Book {
     pub fn find(&self, reference: &Reference) -> Option<u32>
         ensures { result ≡ number_of reference.now self.now }
     {
-        self.numbers
-            .get(reference.kind.as_text(), &reference.title)
+        self.numbers.get(reference.kind.as_text(), &reference.title)
     }
 
     /// Declares a resource. The answer is its number.
@@ -124,7 +137,8 @@ impl Book {
 
     /// Declares a resource that is not declared yet.
     fn declare_new(&mut self, alloc: Global, item: Declared, mode: Mode) -> Result<u32, Stop>
-        requires { declared_as (reference_of item) self.old ≡ None }
+        requires new { declared_as (reference_of item) self.old ≡ None }
+        requires contained { IsTrue (is_contained item.container self.old) }
         ensures { Changes (declared_last item mode self.old) self.old result self.new }
     {
         if self.count() >= DECLARATION_LIMIT {
@@ -142,6 +156,7 @@ impl Book {
     /// Adds a row, whose reference no other has. Where there is no memory, all stays as it was.
     fn add(&mut self, alloc: Global, row: Row) -> Result<u32, Memory>
         requires new { declared_as (reference_of row.item) self.old ≡ None }
+        requires contained { IsTrue (is_contained row.item.container self.old) }
         requires room { length self.old < limit }
         ensures number { IfOk result (λ n. n ≡ length self.old) }
         ensures rows { self.new ≡ (if is_ok result then self.old ++ row ∷ [] else self.old) }

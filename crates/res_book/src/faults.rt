@@ -20,11 +20,7 @@ pub fn class_virtual(alloc: Global, item: &Declared) -> Result<Fault, Memory>
 {
     let at = item.at.copy(alloc)?;
     let reference = reference_of(alloc, item)?;
-    Fault::new(
-        alloc,
-        at,
-        What::ClassVirtual(Subject::Reference(reference)),
-    )
+    Fault::new(alloc, at, What::ClassVirtual(Subject::Reference(reference)))
 }
 
 /// The reference was declared before, at that place.

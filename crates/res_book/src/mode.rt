@@ -12,8 +12,5 @@ pub enum Mode {
     Exported,
 
     /// By a collector, which found it at this place of the node's exports.
-    Imported {
-        node: Text,
-        place: u32,
-    },
+    Imported { node: Text, place: u32 },
 }

@@ -1,0 +1,354 @@
+//! The declarations of a compile: numbers, faults, marks, and what is still to be evaluated.
+use pp_values::{Kind, Memory, Place, Reference, Stop, Text, Texts, What};
+use res_book::{Book, Collector, Containment, DECLARATION_LIMIT, Mode, RelationLine, Relations};
+use res_core::{Attributes, Declared, Operands, Query, QueryBox, Resource, Tags};
+use std::alloc::Global;
+use std::test::Fail;
+
+/// What a declaration answers.
+#[derive(Clone, Copy)]
+enum Told {
+    Number(u32),
+    ClassVirtual,
+    /// With the line of the earlier one.
+    Duplicate(u32),
+    TooMany,
+}
+
+/// One after another in a book, at lines from 1 on: kind, title, how it is declared, and the answer.
+const DECLARED: [(&str, &str, &str, Told); 15] = [
+    ("class", "main", "", Told::Number(0)),
+    ("file", "/a", "", Told::Number(1)),
+    ("file", "/a", "", Told::Duplicate(2)),
+    ("file", "/a", "@", Told::Duplicate(2)),
+    ("file", "/a", "import", Told::Duplicate(2)),
+    ("class", "main", "", Told::Duplicate(1)),
+    ("class", "main", "@", Told::ClassVirtual),
+    ("class", "web", "@@", Told::ClassVirtual),
+    ("web::vhost", "a", "", Told::Number(2)),
+    ("web::vhost", "b", "@", Told::Number(3)),
+    ("web::vhost", "c", "@@", Told::Number(4)),
+    ("web::vhost", "d", "import", Told::Number(5)),
+    ("file", "/A", "", Told::Number(6)),
+    ("user", "/a", "", Told::Number(7)),
+    ("file", "/A", "@@", Told::Duplicate(13)),
+];
+
+/// A kind, a title, and the number that they find.
+const FOUND: [(&str, &str, Option<u32>); 6] = [
+    ("class", "main", Some(0)),
+    ("file", "/a", Some(1)),
+    ("file", "/A", Some(6)),
+    ("user", "/a", Some(7)),
+    ("web::vhost", "/a", None),
+    ("class", "web", None),
+];
+
+/// A number, whether it is live, and whether a mark makes it live.
+const MARKED: [(u32, bool, bool); 5] = [
+    (0, true, false),
+    (2, true, false),
+    (3, false, true),
+    (4, false, true),
+    (5, true, false),
+];
+
+/// What is marked, what is evaluated, and what is pending then.
+const PENDING: [(Option<u32>, Option<u32>, &str); 7] = [
+    (None, None, " 2 5"),
+    (Some(3), None, " 2 3 5"),
+    (Some(4), None, " 2 4 5"),
+    (None, Some(2), " 5"),
+    (Some(4), Some(5), " 2 4"),
+    (Some(3), Some(3), " 2 5"),
+    (None, Some(0), " 2 5"),
+];
+
+fn kind(alloc: Global, name: &str) -> Result<Kind, Memory> {
+    match Kind::from_text(Text::from_str(alloc, name)?) {
+        Some(kind) => Ok(kind),
+        None => Err(Memory),
+    }
+}
+
+fn place(alloc: Global, line: u32) -> Result<Place, Memory> {
+    let file = Text::from_str(alloc, "site.pp")?;
+    Ok(Place { file, line })
+}
+
+fn resource(alloc: Global, name: &str, title: &str) -> Result<Resource, Memory> {
+    Ok(Resource {
+        kind: kind(alloc, name)?,
+        title: Text::from_str(alloc, title)?,
+        attributes: Attributes::new(alloc),
+        tags: Tags::new(alloc),
+    })
+}
+
+fn mode(alloc: Global, sign: &str) -> Result<Mode, Memory> {
+    match sign {
+        "@" => Ok(Mode::Virtual),
+        "@@" => Ok(Mode::Exported),
+        "import" => {
+            let node = Text::from_str(alloc, "b.example.com")?;
+            Ok(Mode::Imported { node, place: 4 })
+        }
+        _ => Ok(Mode::Plain),
+    }
+}
+
+fn declare(
+    alloc: Global,
+    book: &mut Book,
+    name: &str,
+    title: &str,
+    sign: &str,
+    line: u32,
+) -> Result<u32, Stop> {
+    let item = resource(alloc, name, title)?;
+    let at = place(alloc, line)?;
+    let class = Text::from_str(alloc, "class main")?;
+    let mode = mode(alloc, sign)?;
+    let item = Declared {
+        item,
+        at,
+        scope: 0,
+        container: None,
+        class,
+        known: Texts::new(alloc),
+    };
+    book.declare(alloc, item, mode)
+}
+
+fn is_fault(told: Told, stop: &Stop) -> bool {
+    match stop {
+        Stop::Fault(fault) => is_what(told, fault.what.get()),
+        Stop::Memory => false,
+    }
+}
+
+fn is_what(told: Told, what: &What) -> bool {
+    match what {
+        What::ClassVirtual(_) => matches!(told, Told::ClassVirtual),
+        What::Duplicate {
+            reference: _,
+            earlier,
+        } => is_at(told, earlier.line),
+        What::ResourceLimit => matches!(told, Told::TooMany),
+        _ => false,
+    }
+}
+
+fn is_at(told: Told, earlier: u32) -> bool {
+    match told {
+        Told::Duplicate(line) => earlier == line,
+        _ => false,
+    }
+}
+
+fn is_number(told: Told, answer: u32) -> bool {
+    match told {
+        Told::Number(number) => answer == number,
+        _ => false,
+    }
+}
+
+fn is_told(told: Told, answer: &Result<u32, Stop>) -> bool {
+    match answer {
+        Ok(number) => is_number(told, *number),
+        Err(stop) => is_fault(told, stop),
+    }
+}
+
+fn declare_row(alloc: Global, book: &mut Book, row: u32) -> Result<u32, Stop> {
+    match DECLARED.get(row as usize) {
+        Some((name, title, sign, _told)) => {
+            declare(alloc, book, name, title, sign, row.saturating_add(1))
+        }
+        None => Err(Stop::Memory),
+    }
+}
+
+/// A book with so many declarations of the table; the refused ones leave it as it is.
+fn book(alloc: Global, rows: u32) -> Book {
+    let mut book = Book::new(alloc);
+    for row in 0..rows {
+        let _answer = declare_row(alloc, &mut book, row);
+    }
+    book
+}
+
+fn answers(alloc: Global, row: u32, told: Told) -> bool {
+    let mut book = book(alloc, row);
+    let answer = declare_row(alloc, &mut book, row);
+    is_told(told, &answer)
+}
+
+fn finds(alloc: Global, name: &str, title: &str, number: Option<u32>) -> Result<bool, Memory> {
+    let book = book(alloc, 15);
+    let reference = Reference {
+        kind: kind(alloc, name)?,
+        title: Text::from_str(alloc, title)?,
+    };
+    Ok(book.find(&reference) == number)
+}
+
+fn marks(alloc: Global, number: u32, live: bool, realized: bool) -> Result<bool, Memory> {
+    let mut book = book(alloc, 15);
+    if number >= book.count() {
+        return Ok(false);
+    }
+    let was = book.live(number) == live;
+    let first = book.realize(number)? == realized;
+    let second = book.realize(number)?;
+    Ok(was && first && !second && book.live(number))
+}
+
+/// The numbers of what is pending, with a blank before each.
+fn pending(alloc: Global, book: &Book) -> Result<String, Memory> {
+    let mut out = String::new(alloc);
+    let mut after = None;
+    for _turn in 0..9u32 {
+        match book.pending(after) {
+            Some(number) => {
+                write!(out, " {number}")?;
+                after = Some(number);
+            }
+            None => return Ok(out),
+        }
+    }
+    Ok(out)
+}
+
+fn realize(book: &mut Book, number: u32) {
+    if number < book.count() {
+        let _marked = book.realize(number);
+    }
+}
+
+fn evaluate(alloc: Global, book: &mut Book, number: u32) {
+    if number < book.count() {
+        book.set_bound(number, Attributes::new(alloc));
+    }
+}
+
+fn waits(
+    alloc: Global,
+    marked: Option<u32>,
+    evaluated: Option<u32>,
+    told: &str,
+) -> Result<bool, Memory> {
+    let mut book = book(alloc, 15);
+    if let Some(number) = marked {
+        realize(&mut book, number);
+    }
+    if let Some(number) = evaluated {
+        evaluate(alloc, &mut book, number);
+    }
+    Ok(pending(alloc, &book)?.as_str() == told)
+}
+
+/// A book with as many declarations as there may be refuses one more, but a duplicate first.
+fn fills(alloc: Global) -> Result<bool, Stop> {
+    let mut book = Book::new(alloc);
+    for number in 0..DECLARATION_LIMIT {
+        let title = format!(in alloc; "{number}")?;
+        declare(alloc, &mut book, "file", title.as_str(), "", 1)?;
+    }
+    let more = declare(alloc, &mut book, "file", "more", "", 2);
+    let again = declare(alloc, &mut book, "file", "65535", "", 3);
+    Ok(is_told(Told::TooMany, &more)
+        && is_told(Told::Duplicate(1), &again)
+        && book.count() == DECLARATION_LIMIT)
+}
+
+fn collector(alloc: Global, exported: bool) -> Result<Collector, Memory> {
+    Ok(Collector {
+        kind: kind(alloc, "file")?,
+        query: QueryBox::new(alloc, Query::All)?,
+        at: place(alloc, 4)?,
+        exported,
+        realized: None,
+    })
+}
+
+fn line(alloc: Global, signal: bool) -> Result<RelationLine, Memory> {
+    Ok(RelationLine {
+        left: Operands::new(alloc),
+        right: Operands::new(alloc),
+        signal,
+        at: place(alloc, 5)?,
+    })
+}
+
+fn relates(alloc: Global) -> Result<bool, Memory> {
+    let mut relations = Relations::new(alloc);
+    let first = relations.add_collector(collector(alloc, false)?)?;
+    let second = relations.add_collector(collector(alloc, true)?)?;
+    relations.add_line(line(alloc, false)?)?;
+    relations.add_line(line(alloc, true)?)?;
+    relations.add_containment(Containment { outer: 1, inner: 2 })?;
+    Ok(first == 0 && second == 1 && are_related(&relations))
+}
+
+fn are_related(relations: &Relations) -> bool {
+    if relations.collector_count() != 2 {
+        return false;
+    }
+    relations.collector(1).exported
+        && relations.lines().len() == 2
+        && relations.containments().len() == 1
+}
+
+fn holds(outcome: Result<bool, Stop>) -> bool {
+    match outcome {
+        Ok(holds) => holds,
+        Err(_stop) => false,
+    }
+}
+
+#[test]
+fn declarations_are_numbered_or_refused(rt: HostRuntime) -> Result<(), Fail> {
+    let mut row: u32 = 0;
+    for (name, title, sign, told) in DECLARED.iter() {
+        assert!(rt; answers(rt.alloc(), row, *told), "{name} {title} {sign}");
+        row = row.saturating_add(1);
+    }
+    Ok(())
+}
+
+#[test]
+fn references_find_numbers(rt: HostRuntime) -> Result<(), Fail> {
+    for (name, title, number) in FOUND.iter() {
+        assert!(rt; finds(rt.alloc(), name, title, *number)?, "{name} {title}");
+    }
+    Ok(())
+}
+
+#[test]
+fn marks_make_live(rt: HostRuntime) -> Result<(), Fail> {
+    for (number, live, realized) in MARKED.iter() {
+        assert!(rt; marks(rt.alloc(), *number, *live, *realized)?, "{number}");
+    }
+    Ok(())
+}
+
+#[test]
+fn instances_wait_for_their_evaluation(rt: HostRuntime) -> Result<(), Fail> {
+    for (marked, evaluated, told) in PENDING.iter() {
+        assert!(rt; waits(rt.alloc(), *marked, *evaluated, told)?, "{told}");
+    }
+    Ok(())
+}
+
+#[test]
+fn a_full_book_refuses_one_more(rt: HostRuntime) -> Result<(), Fail> {
+    assert!(rt; holds(fills(rt.alloc())));
+    Ok(())
+}
+
+#[test]
+fn relations_are_kept_in_order(rt: HostRuntime) -> Result<(), Fail> {
+    assert!(rt; relates(rt.alloc())?);
+    Ok(())
+}

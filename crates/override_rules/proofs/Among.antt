@@ -14,9 +14,9 @@ use Rattle.pp_values.specs.Rising.{text_cmp, precedes, is_rising, has_text, sort
 use Rattle.pp_values.specs.Settings.{Setting, setting_names}
 use Rattle.res_book.specs.Rows.{reference_of}
 use Rattle.res_book.specs.declared.row.Row.{Row}
-use Rattle.override_rules.specs.Changes.{changed}
-use Rattle.override_rules.specs.Defaults.{Default, Scope, parent_of, default_in, from_scope, or_else, set_by, nearest, nearest_within}
-use Rattle.override_rules.specs.Fold.{set_in, after_lines}
+use Rattle.override_rules.specs.Changes.{changed, set_by}
+use Rattle.override_rules.specs.Defaults.{Default, Scope, parent_of, default_in, from_scope, or_else, nearest, nearest_within}
+use Rattle.override_rules.specs.Fold.{set_in, declared, after_lines}
 use Rattle.override_rules.specs.Lines.{Line, lines_on}
 use Rattle.override_rules.specs.Meaning.{State, is_imported, defaulted, attribute_of}
 use Rattle.override_rules.specs.Names.{is_for, names_in, names_from, names_within, line_names, default_names, names_of, settings_among}
@@ -199,7 +199,7 @@ not_among s r name e =
     let p = parted own (line_names ls ++ default_names s r) name e in
     let q = parted (line_names ls) (default_names s r) name p.1 in
     ap (λ o. or_else o (defaulted s r name))
-    (not_changed ls name (set_in r.item.item.attributes name) q.0 ∙ not_set_in r.item.item.attributes name p.0)
+    (not_changed ls name (declared r.item name) q.0 ∙ ap set_by (not_set_in r.item.item.attributes name p.0))
     ∙ not_defaulted (is_imported r.mode) (nearest s.scopes s.defaults r.item.item.kind name r.item.scope) name
     (names_within (length s.scopes) s.scopes s.defaults r.item.item.kind (Some r.item.scope))
     (not_nearest (length s.scopes) s.scopes s.defaults r.item.item.kind name (Some r.item.scope)) q.1

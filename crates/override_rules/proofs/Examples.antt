@@ -147,6 +147,9 @@ mode_of s r = attribute_at s (r ∷ []) 0 (codes "mode")
 abbrev with_a : List Setting
 with_a = (codes "mode", a) ∷ []
 
+abbrev with_undef : List Setting
+with_undef = (codes "mode", d.undef) ∷ []
+
 no_line : mode_of (state [] [] []) (file_x with_a) ≡ Some a
 unfolding after_lines nearest_within
 no_line = refl
@@ -154,6 +157,14 @@ no_line = refl
 not_set : mode_of (state [] [] []) (file_x []) ≡ None
 unfolding after_lines nearest_within
 not_set = refl
+
+undef_is_not_set : mode_of (state [] [] []) (file_x with_undef) ≡ None
+unfolding after_lines nearest_within
+undef_is_not_set = refl
+
+adds_to_undef : mode_of (state (adds 2 b ∷ []) [] []) (file_x with_undef) ≡ Some b
+unfolding after_lines nearest_within
+adds_to_undef = refl
 
 one_line : mode_of (state (sets 2 b ∷ []) [] []) (file_x with_a) ≡ Some b
 unfolding after_lines nearest_within
@@ -213,6 +224,10 @@ declaration_wins : mode_of (state [] scopes (file_mode 5 b [])) (file_x with_a) 
 unfolding after_lines nearest_within
 declaration_wins = refl
 
+default_after_undef : mode_of (state [] scopes (file_mode 5 b [])) (file_x with_undef) ≡ Some b
+unfolding after_lines nearest_within
+default_after_undef = refl
+
 default_after_unset : mode_of (state (sets 2 d.undef ∷ []) scopes (file_mode 5 b [])) (file_x with_a) ≡ Some b
 unfolding after_lines nearest_within
 default_after_unset = refl
@@ -270,6 +285,14 @@ own_changes_not = refl
 below_sets : may below_web (codes "class web") false ≡ true
 below_sets = refl
 
+far_below_changes : may (right.From (codes "class c") (codes "class b" ∷ codes "class web" ∷ [])) (codes "class web") true
+    ≡ true
+far_below_changes = refl
+
+far_below_sets : may (right.From (codes "class c") (codes "class b" ∷ codes "class web" ∷ [])) (codes "class web") false
+    ≡ true
+far_below_sets = refl
+
 below_changes : may below_web (codes "class web") true ≡ true
 below_changes = refl
 
@@ -326,6 +349,11 @@ unset_by_line : line_added (file_x with_a ∷ []) (changes_mode 3 web) (state (s
     ≡ Ok (tt, state (sets 2 d.undef ∷ changes_mode 3 web ∷ []) [] [])
 unfolding after_lines is_metaparameter
 unset_by_line = refl
+
+own_sets_undef : line_added (file_x with_undef ∷ []) (changes_mode 2 web) empty
+    ≡ Ok (tt, state (changes_mode 2 web ∷ []) [] [])
+unfolding after_lines is_metaparameter
+own_sets_undef = refl
 
 -- a default doesn't count
 default_not_set : line_added (file_x [] ∷ []) (changes_mode 2 web) (state [] scopes (file_mode 5 a []))
@@ -408,6 +436,28 @@ others_wait_on : stands (state (line 2 (codes "y") (codes "size") false b other 
 unfolding line_tests after_lines is_metaparameter
 others_wait_on = refl
 
+-- by number, with what the declaration sets and a line unsets
+waits_for_second : stands (state (changes_mode 2 web ∷ []) [] []) (class_web ∷ file_x with_a ∷ []) 1
+    ≡ Err (f15 2 (codes "mode"))
+unfolding line_tests after_lines is_metaparameter
+waits_for_second = refl
+
+not_for_first : stands (state (changes_mode 2 web ∷ []) [] []) (class_web ∷ file_x with_a ∷ []) 0 ≡ Ok tt
+unfolding line_tests after_lines is_metaparameter
+not_for_first = refl
+
+unset_before : stands (state (sets 2 d.undef ∷ changes_mode 3 web ∷ []) [] []) (file_x with_a ∷ []) 0 ≡ Ok tt
+unfolding line_tests after_lines is_metaparameter
+unset_before = refl
+
+class_waits_untested : stands (state (on_class 2 ∷ []) [] []) (class_web ∷ []) 0 ≡ Ok tt
+unfolding line_tests after_lines is_metaparameter
+class_waits_untested = refl
+
+evaluated_is_told : stands (state (owner 2 right.Any ∷ []) [] []) (evaluated ∷ []) 0 ≡ Err (f15 2 (codes "owner"))
+unfolding line_tests after_lines is_metaparameter
+evaluated_is_told = refl
+
 -- ---- lines without a target
 
 no_orphan : orphan (file_x [] ∷ []) (state (owner 2 web ∷ []) [] []) ≡ None
@@ -454,6 +504,12 @@ names = refl
 
 two_lines_two_defaults : touched_by much (file_x with_a) ≡ 4
 two_lines_two_defaults = refl
+
+one_line_two_defaults : touched_by (state (owner 2 web ∷ []) scopes much.defaults) (file_x []) ≡ 3
+one_line_two_defaults = refl
+
+two_lines_no_default : touched_by (state (owner 2 web ∷ sets 3 a ∷ []) [] []) (file_x []) ≡ 2
+two_lines_no_default = refl
 
 other_kinds_count_not : touched_by much (row (codes "exec") (codes "x") [] mode.Plain None) ≡ 0
 other_kinds_count_not = refl

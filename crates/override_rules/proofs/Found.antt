@@ -1,6 +1,6 @@
 -- What a search among attributes finds.
 use Rattle.std.proofs.Common.{◌≡◌, ℕ, Bool, true, false, cond, List, [], ◌∷◌, Option, None, Some, option_map, find, refl, ap}
-use Rattle.std.specs.Prelude.{is_some, option_copied}
+use Rattle.std.specs.Prelude.{option_copied}
 use Rattle.std.specs.Str.{bytes_eq}
 use denote.Ref.{Bor}
 use Rattle.pp_values.specs.Datum.{Datum, data_of, members_of}
@@ -9,7 +9,6 @@ use Rattle.res_core.specs.AttributeViews.{setting, settings}
 use Rattle.res_core.specs.declared.attribute.Attribute.{Attribute}
 use Rattle.override_rules.specs.Fold.{set_in}
 use Rattle.override_rules.specs.Lines.{Line, line_of, lines_of}
-use Rattle.override_rules.specs.Rights.{is_set}
 use Rattle.override_rules.specs.declared.override_line.OverrideLine.{OverrideLine}
 
 pub found_setting : (name : List ℕ) (xs : List Attribute) →
@@ -20,10 +19,6 @@ found_setting name (x ∷ xs) =
     (find (λ s. bytes_eq s.0 name) (settings xs)))
     ≡ option_map (λ a. view a.value) (cond b (Some x) (find (λ a. bytes_eq a.name name) xs)))
     [ true ↦ refl | false ↦ found_setting name xs ]
-
-pub found_set : (o : Option (Bor Attribute)) → is_some o ≡ is_set (option_map (λ a. view a.value) (option_copied o))
-found_set None = refl
-found_set (Some a) = refl
 
 pub members-data : (ds : List Datum) → members_of (data_of ds) ≡ ds
 members-data [] = refl

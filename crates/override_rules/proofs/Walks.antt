@@ -64,7 +64,7 @@ after_no name v = refl
 
 -- ---- whether it is set
 
-is_set-to : (d : Datum) → is_set (set_to d) ≡ is_value d
+pub is_set-to : (d : Datum) → is_set (set_to d) ≡ is_value d
 is_set-to undef = refl
 is_set-to (flag b) = refl
 is_set-to (int z) = refl

@@ -7,6 +7,11 @@ abbrev pub set_to : Datum → Option Datum
 set_to undef = None
 set_to d = Some d
 
+-- a value that is Undef sets nothing either where it is declared or a default
+abbrev pub set_by : Option Datum → Option Datum
+set_by None = None
+set_by (Some d) = set_to d
+
 -- a list's members, or else the value alone; lists within stay as they are
 abbrev pub opened : Datum → List Datum
 opened (list ds) = members_of ds

@@ -5,7 +5,6 @@ use Rattle.std.specs.Map.{lookup}
 use Rattle.std.specs.Ordering.{nat_cmp}
 use Rattle.std.specs.Str.{bytes_eq}
 use Rattle.pp_values.specs.Datum.{Datum}
-use Rattle.override_rules.specs.Changes.{set_to}
 use Rattle.override_rules.specs.Keys.{key_cmp}
 use Rattle.override_rules.specs.declared.default_key.DefaultKey.{DefaultKey}
 
@@ -61,8 +60,3 @@ nearest_within (suc left) scopes ds kind name (Some s) =
 -- A scope's parent was opened before it, so the way out has no more scopes than there are.
 abbrev pub nearest : List Scope → List Default → List ℕ → List ℕ → ℕ → Option Datum
 nearest scopes ds kind name s = nearest_within (length scopes) scopes ds kind name (Some s)
-
--- an Undef that is nearer hides what is further out, and sets nothing
-abbrev pub set_by : Option Datum → Option Datum
-set_by None = None
-set_by (Some d) = set_to d

@@ -5,12 +5,16 @@ use Rattle.pp_values.specs.Datum.{Datum}
 use Rattle.pp_values.specs.Settings.{Setting}
 use Rattle.res_book.specs.Rows.{reference_of}
 use Rattle.res_core.specs.declared.declared.Declared.{Declared}
-use Rattle.override_rules.specs.Changes.{changed}
+use Rattle.override_rules.specs.Changes.{changed, set_by}
 use Rattle.override_rules.specs.Lines.{Line, lines_on}
 
--- what the attributes of a declaration have for this name
+-- what attributes have for this name
 abbrev pub set_in : List Setting → List ℕ → Option Datum
 set_in settings name = option_map (λ s. s.1) (find (λ s. bytes_eq s.0 name) settings)
+
+-- what a declaration sets: an attribute that it has as Undef is not set
+abbrev pub declared : Declared → List ℕ → Option Datum
+declared d name = set_by (set_in d.item.attributes name)
 
 -- a line changes the attribute that it names
 abbrev pub after_line : List ℕ → Line → Option Datum → Option Datum
@@ -23,4 +27,4 @@ after_lines name (l ∷ ls) v = after_lines name ls (after_line name l v)
 
 -- the declaration, then the lines on it in their order
 abbrev pub overridden : List Line → Declared → List ℕ → Option Datum
-overridden ls d name = after_lines name (lines_on (reference_of d) ls) (set_in d.item.attributes name)
+overridden ls d name = after_lines name (lines_on (reference_of d) ls) (declared d name)

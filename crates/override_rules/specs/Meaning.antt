@@ -13,7 +13,8 @@ use Rattle.res_book.specs.Rows.{reference_of, number_of}
 use Rattle.res_book.specs.declared.mode.Mode.{Mode}
 use Rattle.res_book.specs.declared.mode.Mode.TheVariants as mode
 use Rattle.res_book.specs.declared.row.Row.{Row}
-use Rattle.override_rules.specs.Defaults.{Default, Scope, default_key, default_in, with_default, defaults_for, with_scope, nearest, or_else, set_by}
+use Rattle.override_rules.specs.Changes.{set_by}
+use Rattle.override_rules.specs.Defaults.{Default, Scope, default_key, default_in, with_default, defaults_for, with_scope, nearest, or_else}
 use Rattle.override_rules.specs.Fold.{overridden}
 use Rattle.override_rules.specs.Lines.{Line, lines_on}
 use Rattle.override_rules.specs.Rights.{line_test, line_tests, is_set_by}
@@ -36,7 +37,8 @@ is_imported mode.Virtual = false
 is_imported mode.Exported = false
 is_imported (mode.Imported node place) = true
 
--- what the default statements give; imported resources take none
+-- What the default statements give. An Undef that is nearer hides what is further out, and sets nothing. Imported
+-- resources take none.
 abbrev pub defaulted : State → Row → List ℕ → Option Datum
 defaulted s r name =
     if is_imported r.mode then None else set_by (nearest s.scopes s.defaults r.item.item.kind name r.item.scope)

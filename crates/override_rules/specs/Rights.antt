@@ -11,7 +11,7 @@ use Rattle.pp_values.specs.declared.fault.What.TheVariants.{UnknownParameter, Al
 use Rattle.res_book.specs.Rows.{reference_of, is_class}
 use Rattle.res_core.specs.Metaparameters.{is_metaparameter}
 use Rattle.res_core.specs.declared.declared.Declared.{Declared}
-use Rattle.override_rules.specs.Fold.{set_in, after_lines}
+use Rattle.override_rules.specs.Fold.{declared, after_lines}
 use Rattle.override_rules.specs.Lines.{Line}
 use Rattle.override_rules.specs.declared.override_line.Right.{Right}
 use Rattle.override_rules.specs.declared.override_line.Right.TheVariants as right
@@ -49,7 +49,7 @@ line_test d evaluated set l =
 
 -- the attribute is set by the declaration or by one of these lines
 abbrev pub is_set_by : Declared → List Line → List ℕ → Bool
-is_set_by d done name = is_set (after_lines name done (set_in d.item.attributes name))
+is_set_by d done name = is_set (after_lines name done (declared d name))
 
 -- the lines on a declaration in their order, each after those before it
 unfoldable pub line_tests : Declared → Bool → List Line → List Line → Result (Unit {0}) Fault

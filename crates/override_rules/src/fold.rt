@@ -4,13 +4,13 @@ ghost use Rattle.std.specs.Str.{bytes_eq};
 ghost use Rattle.pp_values.specs.Views.{view};
 ghost use Rattle.override_rules.specs.Lines.{line_of};
 ghost use Rattle.override_rules.specs.Numbers.{lines_at};
-ghost use Rattle.override_rules.specs.Fold.{set_in, after_line as after_line_meant, after_lines as after_lines_meant, overridden as overridden_meant};
+ghost use Rattle.override_rules.specs.Fold.{declared, after_line as after_line_meant, after_lines as after_lines_meant, overridden as overridden_meant};
 
-use crate::changing::changed;
+use crate::changing::{changed, set_to};
 use crate::lines::Lines;
 use crate::override_line::OverrideLine;
-use pp_values::{Memory, Text, Value, copy};
-use res_core::{Attribute, Attributes, Declared};
+use pp_values::{Memory, Text, Value};
+use res_core::{Attribute, Declared};
 use std::alloc::Global;
 
 /// What the declaration and the lines on it make of the attribute.
@@ -22,16 +22,17 @@ pub fn overridden(
 ) -> Result<Option<Value>, Memory>
     ensures { IfOk result (λ o. option_map view o ≡ overridden_meant lines.now item.now name.now) }
 {
-    let value = declared(alloc, &item.item.attributes, name)?;
+    let value = declared(alloc, item, name)?;
     let numbers = lines.on(&item.item.kind, &item.item.title);
     after_lines(alloc, lines, numbers, name, value)
 }
 
-fn declared(alloc: Global, attributes: &Attributes, name: &Text) -> Result<Option<Value>, Memory>
-    ensures { IfOk result (λ o. option_map view o ≡ set_in attributes.now name.now) }
+/// What the declaration sets.
+fn declared(alloc: Global, item: &Declared, name: &Text) -> Result<Option<Value>, Memory>
+    ensures { IfOk result (λ o. option_map view o ≡ declared item.now name.now) }
 {
-    match named(attributes.as_slice(), name) {
-        Some(attribute) => Ok(Some(copy(alloc, &attribute.value)?)),
+    match named(item.item.attributes.as_slice(), name) {
+        Some(attribute) => set_to(alloc, &attribute.value),
         None => Ok(None),
     }
 }

@@ -106,7 +106,7 @@ impl Overrides {
     {
         let item = &row.item;
         let numbers = self.lines.on(&item.item.kind, &item.item.title);
-        let set = is_set_by(&self.lines, numbers, &item.item.attributes, &line.name);
+        let set = is_set_by(&self.lines, numbers, item, &line.name);
         line_test(alloc, item, row.bound.is_some(), set, line)
     }
 

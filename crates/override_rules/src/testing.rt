@@ -4,7 +4,7 @@ ghost use Rattle.pp_values.specs.Answers.{Answers};
 ghost use Rattle.pp_values.specs.Settings.{Setting};
 ghost use Rattle.pp_values.specs.Views.{view};
 ghost use Rattle.res_book.specs.Rows.{reference_of};
-ghost use Rattle.override_rules.specs.Fold.{set_in, after_lines};
+ghost use Rattle.override_rules.specs.Fold.{declared};
 ghost use Rattle.override_rules.specs.Lines.{line_of, lines_on};
 ghost use Rattle.override_rules.specs.Numbers.{lines_at};
 ghost use Rattle.override_rules.specs.Rights.{is_set, is_set_by as is_set_by_meant, line_test as line_test_meant, line_tests};
@@ -16,7 +16,7 @@ use crate::lines::Lines;
 use crate::override_line::OverrideLine;
 use crate::rights::{is_known, may};
 use pp_values::{Stop, Text, Value};
-use res_core::{Attributes, Declared};
+use res_core::Declared;
 use std::alloc::Global;
 
 /// The test of a line on a declaration, which is evaluated or not and has the attribute set or not.
@@ -83,7 +83,7 @@ fn test_number(
 {
     match lines.get(number) {
         Some(line) => {
-            let set = is_set_by(lines, done, &item.item.attributes, &line.name);
+            let set = is_set_by(lines, done, item, &line.name);
             line_test(alloc, item, evaluated, set, line)
         }
         None => Ok(()),
@@ -91,17 +91,20 @@ fn test_number(
 }
 
 /// Whether the attribute is set by the declaration or by the lines of these numbers.
-pub fn is_set_by(lines: &Lines, numbers: &[usize], attributes: &Attributes, name: &Text) -> bool
-    ensures { result ≡ is_set (after_lines name.now (lines_at lines.now numbers.now) (set_in attributes.now name.now)) }
+pub fn is_set_by(lines: &Lines, numbers: &[usize], item: &Declared, name: &Text) -> bool
+    ensures { result ≡ is_set_by_meant item.now (lines_at lines.now numbers.now) name.now }
 {
-    let set = is_declared(attributes, name);
+    let set = is_declared(item, name);
     set_after_lines(lines, numbers, name, set)
 }
 
-fn is_declared(attributes: &Attributes, name: &Text) -> bool
-    ensures { result ≡ is_set (set_in attributes.now name.now) }
+fn is_declared(item: &Declared, name: &Text) -> bool
+    ensures { result ≡ is_set (declared item.now name.now) }
 {
-    named(attributes.as_slice(), name).is_some()
+    match named(item.item.attributes.as_slice(), name) {
+        Some(attribute) => is_value(&attribute.value),
+        None => false,
+    }
 }
 
 fn set_after_lines(lines: &Lines, numbers: &[usize], name: &Text, start: bool) -> bool

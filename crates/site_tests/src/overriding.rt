@@ -8,9 +8,9 @@ use res_core::{Attribute, Attributes, Declared, Resource, Tags};
 use std::alloc::Global;
 use std::test::Fail;
 
-/// A value by its word: `-` is Undef, and `a+b` a list of two texts.
+/// A value by its word: `-` and `undef` are Undef, and `a+b` is a list of two texts.
 fn value(alloc: Global, word: &str) -> Result<Value, Memory> {
-    if word == "-" {
+    if word == "-" || word == "undef" {
         return Ok(Value::Undef);
     }
     match word.split_once("+") {
@@ -118,7 +118,7 @@ impl Scene {
 /// What happens in a scene, to the file `x`.
 #[derive(Clone, Copy)]
 enum Step {
-    /// It is declared, with this mode.
+    /// It is declared, with this mode; `-` is none.
     Declare(&'static str),
     /// It is imported, without a mode.
     Import,
@@ -230,9 +230,25 @@ fn comes_to(alloc: Global, row: &([Step; 3], &str)) -> Result<bool, Memory> {
     }
 }
 
-const SCENES: [([Step; 3], &str); 19] = [
+const SCENES: [([Step; 3], &str); 21] = [
     ([Step::Declare("a"), Step::Nothing, Step::Nothing], "a"),
     ([Step::Declare("-"), Step::Nothing, Step::Nothing], "unset"),
+    (
+        [
+            Step::Declare("undef"),
+            Step::Default(5, "b"),
+            Step::Nothing,
+        ],
+        "b",
+    ),
+    (
+        [
+            Step::Declare("undef"),
+            Step::Set("mode", "b", "web"),
+            Step::Nothing,
+        ],
+        "b",
+    ),
     (
         [
             Step::Declare("a"),

@@ -234,11 +234,7 @@ const SCENES: [([Step; 3], &str); 21] = [
     ([Step::Declare("a"), Step::Nothing, Step::Nothing], "a"),
     ([Step::Declare("-"), Step::Nothing, Step::Nothing], "unset"),
     (
-        [
-            Step::Declare("undef"),
-            Step::Default(5, "b"),
-            Step::Nothing,
-        ],
+        [Step::Declare("undef"), Step::Default(5, "b"), Step::Nothing],
         "b",
     ),
     (

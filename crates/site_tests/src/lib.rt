@@ -28,6 +28,8 @@ mod lines;
 #[cfg(test)]
 mod locks;
 #[cfg(test)]
+mod overriding;
+#[cfg(test)]
 mod puppet;
 #[cfg(test)]
 mod queries;

@@ -1,0 +1,11 @@
+pub mod Both
+pub mod Found
+pub mod Tables
+pub mod Places
+pub mod Walks
+pub mod Kept
+pub mod Outward
+pub mod Gathered
+pub mod Among
+pub mod Ranges
+pub mod Examples

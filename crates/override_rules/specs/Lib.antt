@@ -1,0 +1,14 @@
+pub mod Targets
+pub mod Lines
+pub mod Numbers
+pub mod Changes
+pub mod Fold
+pub mod Keys
+pub mod Defaults
+pub mod Counts
+pub mod Rights
+pub mod SetLines
+pub mod Meaning
+pub mod Names
+pub mod Codes
+pub mod Inside

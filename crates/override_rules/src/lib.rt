@@ -1,0 +1,22 @@
+//! The values of attributes: what a declaration, the override lines on it and the default statements make of them.
+#![tactic(auto)]
+
+mod changing;
+mod counts;
+mod default_key;
+mod defaults;
+mod faults;
+mod fold;
+mod gathering;
+mod lines;
+mod nearest;
+mod numbers;
+pub mod override_line;
+pub mod overrides;
+mod rights;
+mod scopes;
+mod target;
+mod testing;
+
+pub use override_line::{OverrideLine, Right};
+pub use overrides::Overrides;

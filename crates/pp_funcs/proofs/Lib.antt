@@ -1,0 +1,3 @@
+mod Tables
+pub mod Told
+pub mod Backs

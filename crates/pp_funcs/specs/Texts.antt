@@ -1,0 +1,48 @@
+-- Functions of texts. Letters and white space are ASCII's; all other characters stay as they are.
+use Rattle.std.specs.Prelude.{ℕ, ◌==◌, nat_le, Bool, ◌||◌, ◌&&◌, if◌then◌else◌, Result, Ok, Err, List, [], ◌∷◌, codes}
+use Rattle.std.specs.List.{join_by}
+use Rattle.std.specs.Str.{str_to_ascii_uppercase, str_to_ascii_lowercase}
+use Rattle.pp_values.specs.Datum.{Datum, text}
+use Rattle.pp_values.specs.TextOf.{text_of}
+use Rattle.pp_funcs.specs.declared.refusal.Refusal.{Refusal}
+use Rattle.pp_funcs.specs.declared.refusal.Refusal.TheVariants.{Arguments, Failed}
+
+-- a failure, whose message is the texts of the arguments with one space between each two
+abbrev pub failure : List Datum → Result Datum Refusal
+failure arguments = Err (Failed (join_by text_of (codes " ") arguments))
+
+-- a function of one text
+abbrev pub of_text : (List ℕ → List ℕ) → List Datum → Result Datum Refusal
+of_text f (text t ∷ []) = Ok (text (f t))
+of_text f arguments = Err Arguments
+
+abbrev pub upcase : List Datum → Result Datum Refusal
+upcase arguments = of_text str_to_ascii_uppercase arguments
+
+abbrev pub downcase : List Datum → Result Datum Refusal
+downcase arguments = of_text str_to_ascii_lowercase arguments
+
+-- space, and tab, line feed, vertical tab, form feed and carriage return, which are 9 to 13
+abbrev pub is_white : ℕ → Bool
+is_white b = (b == 32) || (nat_le 9 b && nat_le b 13)
+
+-- without the white space at the front
+abbrev pub without_front : List ℕ → List ℕ
+without_front [] = []
+without_front (b ∷ bs) = if is_white b then without_front bs else b ∷ bs
+
+-- a byte before what is left of the text behind it: white space is dropped where nothing is left
+abbrev pub before : ℕ → List ℕ → List ℕ
+before b [] = if is_white b then [] else b ∷ []
+before b (c ∷ cs) = b ∷ c ∷ cs
+
+-- without the white space at the end
+abbrev pub without_back : List ℕ → List ℕ
+without_back [] = []
+without_back (b ∷ bs) = before b (without_back bs)
+
+abbrev pub stripped : List ℕ → List ℕ
+stripped t = without_back (without_front t)
+
+abbrev pub strip : List Datum → Result Datum Refusal
+strip arguments = of_text stripped arguments

@@ -1,0 +1,36 @@
+//! A list without its repeats.
+ghost use Rattle.std.specs.Prelude.{◌≡◌, [], IfOk};
+ghost use Rattle.std.specs.List.{fold};
+ghost use Rattle.pp_values.specs.Views.{views};
+ghost use Rattle.pp_funcs.specs.Lists.{with_new, unique};
+ghost use Rattle.pp_funcs.specs.Refusals.{Gives};
+
+use crate::refusal::{Halt, Refusal};
+use pp_ops::listing::has_same;
+use pp_values::copying::copy;
+use pp_values::memory::Memory;
+use pp_values::value::Value;
+use pp_values::values::Values;
+use std::alloc::Global;
+
+#[tactic(auto, using(crate::proofs::Told::members_told, crate::proofs::Told::pairs_told))]
+pub fn unique(alloc: Global, args: &[Value]) -> Result<Value, Halt>
+    ensures { Gives result (unique (views args.now)) }
+{
+    match args {
+        [Value::List(items)] => Ok(Value::List(without_repeats(alloc, items.as_slice())?)),
+        _ => Err(Halt::Refused(Refusal::Arguments)),
+    }
+}
+
+fn without_repeats(alloc: Global, items: &[Value]) -> Result<Values, Memory>
+    ensures { IfOk result (λ l. l ≡ fold with_new [] (views items.now)) }
+{
+    let mut kept = Values::new(alloc);
+    for item in items {
+        if !has_same(kept.as_slice(), item) {
+            kept.push(copy(alloc, item)?)?;
+        }
+    }
+    Ok(kept)
+}

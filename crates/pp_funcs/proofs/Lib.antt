@@ -1,3 +1,3 @@
 mod Tables
-pub mod Told
 pub mod Backs
+pub mod Steps

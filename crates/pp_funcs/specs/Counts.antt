@@ -1,5 +1,5 @@
 -- How much a text, a list or a hash holds.
-use Rattle.std.specs.Prelude.{ℕ, ◌==◌, true, Result, Ok, Err, List, [], ◌∷◌, length}
+use Rattle.std.specs.Prelude.{ℕ, ◌==◌, true, Result, Ok, Err, List, length}
 use Rattle.std.specs.Fmt.{is_char_start}
 use Rattle.std.specs.List.{count_by}
 use Rattle.pp_values.specs.Datum.{Datum, undef, flag, text, list, hash, members_of, pairs_of}
@@ -12,16 +12,16 @@ abbrev pub characters : List ℕ → ℕ
 characters t = count_by is_char_start t
 
 -- the characters of a text, the members of a list, or the pairs of a hash
-abbrev pub count : List Datum → Result Datum Refusal
-count (text t ∷ []) = natural (characters t)
-count (list ds ∷ []) = natural (length (members_of ds))
-count (hash es ∷ []) = natural (length (pairs_of es))
-count arguments = Err Arguments
+abbrev pub count : Datum → Result Datum Refusal
+count (text t) = natural (characters t)
+count (list ds) = natural (length (members_of ds))
+count (hash es) = natural (length (pairs_of es))
+count d = Err Arguments
 
 -- a text, a list or a hash that holds nothing, and Undef
-abbrev pub is_empty : List Datum → Result Datum Refusal
-is_empty (undef ∷ []) = Ok (flag true)
-is_empty (text t ∷ []) = Ok (flag (length t == 0))
-is_empty (list ds ∷ []) = Ok (flag (length (members_of ds) == 0))
-is_empty (hash es ∷ []) = Ok (flag (length (pairs_of es) == 0))
-is_empty arguments = Err Arguments
+abbrev pub is_empty : Datum → Result Datum Refusal
+is_empty undef = Ok (flag true)
+is_empty (text t) = Ok (flag (length t == 0))
+is_empty (list ds) = Ok (flag (length (members_of ds) == 0))
+is_empty (hash es) = Ok (flag (length (pairs_of es) == 0))
+is_empty d = Err Arguments

@@ -15,25 +15,26 @@ use Rattle.pp_funcs.specs.Digging.{dig}
 use Rattle.pp_funcs.specs.Lists.{keys, values, flatten, join, unique}
 use Rattle.pp_funcs.specs.Names.{function_of}
 use Rattle.pp_funcs.specs.Numbers.{absolute, least, greatest}
+use Rattle.pp_funcs.specs.Refusals.{of_one}
 use Rattle.pp_funcs.specs.Texts.{failure, upcase, downcase, strip}
 
 abbrev pub computed : Function → List Datum → Result Datum Refusal
 computed f.Fail arguments = failure arguments
-computed f.Length arguments = count arguments
-computed f.Size arguments = count arguments
-computed f.Empty arguments = is_empty arguments
-computed f.Keys arguments = keys arguments
-computed f.Values arguments = values arguments
+computed f.Length arguments = of_one count arguments
+computed f.Size arguments = of_one count arguments
+computed f.Empty arguments = of_one is_empty arguments
+computed f.Keys arguments = of_one keys arguments
+computed f.Values arguments = of_one values arguments
 computed f.Join arguments = join arguments
-computed f.Flatten arguments = flatten arguments
-computed f.Unique arguments = unique arguments
-computed f.Upcase arguments = upcase arguments
-computed f.Downcase arguments = downcase arguments
-computed f.Strip arguments = strip arguments
+computed f.Flatten arguments = of_one flatten arguments
+computed f.Unique arguments = of_one unique arguments
+computed f.Upcase arguments = of_one upcase arguments
+computed f.Downcase arguments = of_one downcase arguments
+computed f.Strip arguments = of_one strip arguments
 computed f.Dig arguments = dig arguments
 computed f.Min arguments = least arguments
 computed f.Max arguments = greatest arguments
-computed f.Abs arguments = absolute arguments
+computed f.Abs arguments = of_one absolute arguments
 
 -- the function of a name, if there is one
 abbrev pub computed_by : Option Function → List Datum → Result Datum Refusal

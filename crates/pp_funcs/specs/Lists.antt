@@ -8,13 +8,13 @@ use Rattle.pp_values.specs.TextOf.{text_of}
 use Rattle.pp_funcs.specs.declared.refusal.Refusal.{Refusal}
 use Rattle.pp_funcs.specs.declared.refusal.Refusal.TheVariants.{Arguments}
 
-abbrev pub keys : List Datum → Result Datum Refusal
-keys (hash es ∷ []) = Ok (as_list (map (λ p. p.0) (pairs_of es)))
-keys arguments = Err Arguments
+abbrev pub keys : Datum → Result Datum Refusal
+keys (hash es) = Ok (as_list (map (λ p. p.0) (pairs_of es)))
+keys d = Err Arguments
 
-abbrev pub values : List Datum → Result Datum Refusal
-values (hash es ∷ []) = Ok (as_list (map (λ p. p.1) (pairs_of es)))
-values arguments = Err Arguments
+abbrev pub values : Datum → Result Datum Refusal
+values (hash es) = Ok (as_list (map (λ p. p.1) (pairs_of es)))
+values d = Err Arguments
 
 abbrev mutual
   -- a list is its members, with those of each list among them in its place; another value is itself
@@ -26,9 +26,9 @@ abbrev mutual
   flat_members no_data = []
   flat_members (datum d ds) = flat d ++ flat_members ds
 
-abbrev pub flatten : List Datum → Result Datum Refusal
-flatten (list ds ∷ []) = Ok (as_list (flat_members ds))
-flatten arguments = Err Arguments
+abbrev pub flatten : Datum → Result Datum Refusal
+flatten (list ds) = Ok (as_list (flat_members ds))
+flatten d = Err Arguments
 
 -- the texts of the flattened list's members, one behind another or with a text between each two
 abbrev pub join : List Datum → Result Datum Refusal
@@ -41,6 +41,6 @@ abbrev pub with_new : List Datum → Datum → List Datum
 with_new had d = if list_any (same d) had then had else had ++ d ∷ []
 
 -- the first of members that are exactly the same, in their order
-abbrev pub unique : List Datum → Result Datum Refusal
-unique (list ds ∷ []) = Ok (as_list (fold with_new [] (members_of ds)))
-unique arguments = Err Arguments
+abbrev pub unique : Datum → Result Datum Refusal
+unique (list ds) = Ok (as_list (fold with_new [] (members_of ds)))
+unique d = Err Arguments

@@ -10,9 +10,9 @@ abbrev pub natural : ℕ → Result Datum Refusal
 natural n = if nat_lt n (2 ^ 63) then Ok (int (pos n)) else Err Range
 
 -- how far an integer is from 0
-abbrev pub absolute : List Datum → Result Datum Refusal
-absolute (int z ∷ []) = natural (unsigned_abs z)
-absolute arguments = Err Arguments
+abbrev pub absolute : Datum → Result Datum Refusal
+absolute (int z) = natural (unsigned_abs z)
+absolute d = Err Arguments
 
 -- the one of all these integers that is left by the choice between two
 abbrev pub chosen : (ℤ → ℤ → ℤ) → ℤ → List Datum → Result Datum Refusal

@@ -11,16 +11,16 @@ use Rattle.pp_funcs.specs.declared.refusal.Refusal.TheVariants.{Arguments, Faile
 abbrev pub failure : List Datum → Result Datum Refusal
 failure arguments = Err (Failed (join_by text_of (codes " ") arguments))
 
--- a function of one text
-abbrev pub of_text : (List ℕ → List ℕ) → List Datum → Result Datum Refusal
-of_text f (text t ∷ []) = Ok (text (f t))
-of_text f arguments = Err Arguments
+-- a function of a text
+abbrev pub of_text : (List ℕ → List ℕ) → Datum → Result Datum Refusal
+of_text f (text t) = Ok (text (f t))
+of_text f d = Err Arguments
 
-abbrev pub upcase : List Datum → Result Datum Refusal
-upcase arguments = of_text str_to_ascii_uppercase arguments
+abbrev pub upcase : Datum → Result Datum Refusal
+upcase d = of_text str_to_ascii_uppercase d
 
-abbrev pub downcase : List Datum → Result Datum Refusal
-downcase arguments = of_text str_to_ascii_lowercase arguments
+abbrev pub downcase : Datum → Result Datum Refusal
+downcase d = of_text str_to_ascii_lowercase d
 
 -- space, and tab, line feed, vertical tab, form feed and carriage return, which are 9 to 13
 abbrev pub is_white : ℕ → Bool
@@ -44,5 +44,5 @@ without_back (b ∷ bs) = before b (without_back bs)
 abbrev pub stripped : List ℕ → List ℕ
 stripped t = without_back (without_front t)
 
-abbrev pub strip : List Datum → Result Datum Refusal
-strip arguments = of_text stripped arguments
+abbrev pub strip : Datum → Result Datum Refusal
+strip d = of_text stripped d

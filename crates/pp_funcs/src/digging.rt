@@ -28,9 +28,10 @@ fn found<'a>(whole: &'a Value, keys: &[Value]) -> Result<Option<&'a Value>, Refu
 {
     let mut value = whole;
     for key in keys {
-        match step(value, key)? {
-            Some(next) => value = next,
-            None => return Ok(None),
+        match step(value, key) {
+            Ok(Some(next)) => value = next,
+            Ok(None) => return Ok(None),
+            Err(refusal) => return Err(refusal),
         }
     }
     Ok(Some(value))

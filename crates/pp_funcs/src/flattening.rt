@@ -5,7 +5,7 @@ ghost use Rattle.pp_values.specs.Datum.{data_of};
 ghost use Rattle.pp_values.specs.TextOf.{text_of};
 ghost use Rattle.pp_values.specs.Views.{view, views};
 ghost use Rattle.pp_funcs.specs.Lists.{flat_members, flatten, join};
-ghost use Rattle.pp_funcs.specs.Refusals.{Gives};
+ghost use Rattle.pp_funcs.specs.Refusals.{Gives, of_one};
 
 use crate::refusal::{Halt, Refusal};
 use crate::texting::write_separated;
@@ -18,10 +18,19 @@ use pp_values::values::Values;
 use std::alloc::Global;
 
 pub fn flatten(alloc: Global, args: &[Value]) -> Result<Value, Halt>
-    ensures { Gives result (flatten (views args.now)) }
+    ensures { Gives result (of_one flatten (views args.now)) }
 {
     match args {
-        [Value::List(items)] => Ok(Value::List(flattened(alloc, items.as_slice())?)),
+        [value] => flatten_value(alloc, value),
+        _ => Err(Halt::Refused(Refusal::Arguments)),
+    }
+}
+
+fn flatten_value(alloc: Global, value: &Value) -> Result<Value, Halt>
+    ensures { Gives result (flatten (view value.now)) }
+{
+    match value {
+        Value::List(items) => Ok(Value::List(flattened(alloc, items.as_slice())?)),
         _ => Err(Halt::Refused(Refusal::Arguments)),
     }
 }

@@ -1,8 +1,8 @@
 //! The keys and the values of a hash.
 ghost use Rattle.std.specs.Prelude.{◌≡◌, IfOk, map};
-ghost use Rattle.pp_values.specs.Views.{views, pair_views};
+ghost use Rattle.pp_values.specs.Views.{view, views, pair_views};
 ghost use Rattle.pp_funcs.specs.Lists.{keys, values};
-ghost use Rattle.pp_funcs.specs.Refusals.{Gives};
+ghost use Rattle.pp_funcs.specs.Refusals.{Gives, of_one};
 
 use crate::refusal::{Halt, Refusal};
 use pp_values::copying::copy;
@@ -11,22 +11,38 @@ use pp_values::value::Value;
 use pp_values::values::Values;
 use std::alloc::Global;
 
-#[tactic(auto, using(crate::proofs::Told::members_told, crate::proofs::Told::pairs_told))]
 pub fn keys(alloc: Global, args: &[Value]) -> Result<Value, Halt>
-    ensures { Gives result (keys (views args.now)) }
+    ensures { Gives result (of_one keys (views args.now)) }
 {
     match args {
-        [Value::Hash(pairs)] => Ok(Value::List(keys_of(alloc, pairs.as_slice())?)),
+        [value] => keys_in(alloc, value),
         _ => Err(Halt::Refused(Refusal::Arguments)),
     }
 }
 
-#[tactic(auto, using(crate::proofs::Told::members_told, crate::proofs::Told::pairs_told))]
+fn keys_in(alloc: Global, value: &Value) -> Result<Value, Halt>
+    ensures { Gives result (keys (view value.now)) }
+{
+    match value {
+        Value::Hash(pairs) => Ok(Value::List(keys_of(alloc, pairs.as_slice())?)),
+        _ => Err(Halt::Refused(Refusal::Arguments)),
+    }
+}
+
 pub fn values(alloc: Global, args: &[Value]) -> Result<Value, Halt>
-    ensures { Gives result (values (views args.now)) }
+    ensures { Gives result (of_one values (views args.now)) }
 {
     match args {
-        [Value::Hash(pairs)] => Ok(Value::List(values_of(alloc, pairs.as_slice())?)),
+        [value] => values_in(alloc, value),
+        _ => Err(Halt::Refused(Refusal::Arguments)),
+    }
+}
+
+fn values_in(alloc: Global, value: &Value) -> Result<Value, Halt>
+    ensures { Gives result (values (view value.now)) }
+{
+    match value {
+        Value::Hash(pairs) => Ok(Value::List(values_of(alloc, pairs.as_slice())?)),
         _ => Err(Halt::Refused(Refusal::Arguments)),
     }
 }

@@ -1,9 +1,9 @@
 //! Functions of integers.
 ghost use Rattle.std.specs.Prelude.{◌≡◌};
 ghost use Rattle.std.specs.Int.{int_min, int_max};
-ghost use Rattle.pp_values.specs.Views.{views};
+ghost use Rattle.pp_values.specs.Views.{view, views};
 ghost use Rattle.pp_funcs.specs.Numbers.{natural, absolute, least, greatest, chosen};
-ghost use Rattle.pp_funcs.specs.Refusals.{Gives};
+ghost use Rattle.pp_funcs.specs.Refusals.{Gives, of_one};
 
 use crate::refusal::{Halt, Refusal};
 use pp_values::value::Value;
@@ -19,10 +19,19 @@ pub fn natural(number: u64) -> Result<Value, Halt>
 }
 
 pub fn absolute(args: &[Value]) -> Result<Value, Halt>
-    ensures { Gives result (absolute (views args.now)) }
+    ensures { Gives result (of_one absolute (views args.now)) }
 {
     match args {
-        [Value::Int(number)] => natural(number.unsigned_abs()),
+        [value] => absolute_of(value),
+        _ => Err(Halt::Refused(Refusal::Arguments)),
+    }
+}
+
+fn absolute_of(value: &Value) -> Result<Value, Halt>
+    ensures { Gives result (absolute (view value.now)) }
+{
+    match value {
+        Value::Int(number) => natural(number.unsigned_abs()),
         _ => Err(Halt::Refused(Refusal::Arguments)),
     }
 }

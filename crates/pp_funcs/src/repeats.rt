@@ -1,9 +1,9 @@
 //! A list without its repeats.
 ghost use Rattle.std.specs.Prelude.{◌≡◌, [], IfOk};
 ghost use Rattle.std.specs.List.{fold};
-ghost use Rattle.pp_values.specs.Views.{views};
+ghost use Rattle.pp_values.specs.Views.{view, views};
 ghost use Rattle.pp_funcs.specs.Lists.{with_new, unique};
-ghost use Rattle.pp_funcs.specs.Refusals.{Gives};
+ghost use Rattle.pp_funcs.specs.Refusals.{Gives, of_one};
 
 use crate::refusal::{Halt, Refusal};
 use pp_ops::listing::has_same;
@@ -13,12 +13,20 @@ use pp_values::value::Value;
 use pp_values::values::Values;
 use std::alloc::Global;
 
-#[tactic(auto, using(crate::proofs::Told::members_told, crate::proofs::Told::pairs_told))]
 pub fn unique(alloc: Global, args: &[Value]) -> Result<Value, Halt>
-    ensures { Gives result (unique (views args.now)) }
+    ensures { Gives result (of_one unique (views args.now)) }
 {
     match args {
-        [Value::List(items)] => Ok(Value::List(without_repeats(alloc, items.as_slice())?)),
+        [value] => unique_in(alloc, value),
+        _ => Err(Halt::Refused(Refusal::Arguments)),
+    }
+}
+
+fn unique_in(alloc: Global, value: &Value) -> Result<Value, Halt>
+    ensures { Gives result (unique (view value.now)) }
+{
+    match value {
+        Value::List(items) => Ok(Value::List(without_repeats(alloc, items.as_slice())?)),
         _ => Err(Halt::Refused(Refusal::Arguments)),
     }
 }

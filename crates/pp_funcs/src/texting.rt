@@ -5,7 +5,7 @@ ghost use Rattle.std.specs.Str.{str_to_ascii_uppercase, str_to_ascii_lowercase};
 ghost use Rattle.pp_values.specs.TextOf.{text_of};
 ghost use Rattle.pp_values.specs.Views.{view, views};
 ghost use Rattle.pp_funcs.specs.Texts.{failure, upcase, downcase, strip};
-ghost use Rattle.pp_funcs.specs.Refusals.{Gives};
+ghost use Rattle.pp_funcs.specs.Refusals.{Gives, of_one};
 
 use crate::refusal::{Halt, Refusal};
 use crate::stripping::stripped;
@@ -54,28 +54,55 @@ pub fn write_separated(out: &mut String, between: &str, value: &Value) -> Result
 }
 
 pub fn upcase(alloc: Global, args: &[Value]) -> Result<Value, Halt>
-    ensures { Gives result (upcase (views args.now)) }
+    ensures { Gives result (of_one upcase (views args.now)) }
 {
     match args {
-        [Value::Text(text)] => Ok(Value::Text(upper(alloc, text)?)),
+        [value] => upcase_of(alloc, value),
+        _ => Err(Halt::Refused(Refusal::Arguments)),
+    }
+}
+
+fn upcase_of(alloc: Global, value: &Value) -> Result<Value, Halt>
+    ensures { Gives result (upcase (view value.now)) }
+{
+    match value {
+        Value::Text(text) => Ok(Value::Text(upper(alloc, text)?)),
         _ => Err(Halt::Refused(Refusal::Arguments)),
     }
 }
 
 pub fn downcase(alloc: Global, args: &[Value]) -> Result<Value, Halt>
-    ensures { Gives result (downcase (views args.now)) }
+    ensures { Gives result (of_one downcase (views args.now)) }
 {
     match args {
-        [Value::Text(text)] => Ok(Value::Text(lower(alloc, text)?)),
+        [value] => downcase_of(alloc, value),
+        _ => Err(Halt::Refused(Refusal::Arguments)),
+    }
+}
+
+fn downcase_of(alloc: Global, value: &Value) -> Result<Value, Halt>
+    ensures { Gives result (downcase (view value.now)) }
+{
+    match value {
+        Value::Text(text) => Ok(Value::Text(lower(alloc, text)?)),
         _ => Err(Halt::Refused(Refusal::Arguments)),
     }
 }
 
 pub fn strip(alloc: Global, args: &[Value]) -> Result<Value, Halt>
-    ensures { Gives result (strip (views args.now)) }
+    ensures { Gives result (of_one strip (views args.now)) }
 {
     match args {
-        [Value::Text(text)] => Ok(Value::Text(Text::from_str(alloc, stripped(text.as_str()))?)),
+        [value] => strip_of(alloc, value),
+        _ => Err(Halt::Refused(Refusal::Arguments)),
+    }
+}
+
+fn strip_of(alloc: Global, value: &Value) -> Result<Value, Halt>
+    ensures { Gives result (strip (view value.now)) }
+{
+    match value {
+        Value::Text(text) => Ok(Value::Text(Text::from_str(alloc, stripped(text.as_str()))?)),
         _ => Err(Halt::Refused(Refusal::Arguments)),
     }
 }

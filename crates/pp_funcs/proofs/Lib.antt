@@ -1,3 +1,4 @@
+mod Examples
 mod Tables
 pub mod Backs
 pub mod Steps

@@ -1,4 +1,6 @@
 mod Examples
 mod Tables
+pub mod Alike
 pub mod Backs
+pub mod SameOnes
 pub mod Steps

@@ -4,5 +4,6 @@ pub mod Numbers
 pub mod Counts
 pub mod Texts
 pub mod Lists
+pub mod Seen
 pub mod Digging
 pub mod Functions

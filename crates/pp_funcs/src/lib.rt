@@ -11,6 +11,7 @@ pub mod listing;
 pub mod numbers;
 pub mod refusal;
 pub mod repeats;
+pub mod seen;
 pub mod stripping;
 pub mod texting;
 

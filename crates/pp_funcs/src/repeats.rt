@@ -6,7 +6,7 @@ ghost use Rattle.pp_funcs.specs.Lists.{with_new, unique};
 ghost use Rattle.pp_funcs.specs.Refusals.{Gives, of_one};
 
 use crate::refusal::{Halt, Refusal};
-use pp_ops::listing::has_same;
+use crate::seen::{Seen, is_new};
 use pp_values::copying::copy;
 use pp_values::memory::Memory;
 use pp_values::value::Value;
@@ -35,8 +35,9 @@ fn without_repeats(alloc: Global, items: &[Value]) -> Result<Values, Memory>
     ensures { IfOk result (λ l. l ≡ fold with_new [] (views items.now)) }
 {
     let mut kept = Values::new(alloc);
+    let mut seen = Seen::new(alloc);
     for item in items {
-        if !has_same(kept.as_slice(), item) {
+        if is_new(alloc, &mut seen, item)? {
             kept.push(copy(alloc, item)?)?;
         }
     }

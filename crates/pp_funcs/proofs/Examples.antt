@@ -1,6 +1,7 @@
 -- The definitions at worked examples. Each line holds by computing.
 use Rattle.std.proofs.Common.{◌≡◌, ℕ, Bool, true, false, cond, List, [], ◌∷◌, ◌++◌, map, ℤ, pos, negsuc, refl, codes, Result, Ok, Err}
 use Rattle.std.specs.Fmt.{digits}
+use Rattle.std.specs.List.{list_all, list_any}
 use Rattle.std.specs.Prelude.{is_ok}
 use Rattle.pp_values.specs.declared.bounds.Bounds.TheVariants as bounds
 use Rattle.pp_values.specs.declared.fault.Fault.{Fault}
@@ -104,7 +105,8 @@ no_argument : map (λ function. computed function []) every_function ≡
 no_argument = refl
 
 -- `fail`: the texts of all arguments, one space between each two
-fail_texts : computed f.Fail (a ∷ one ∷ d.undef ∷ d.flag true ∷ list (a ∷ list (b ∷ []) ∷ []) ∷ hash ((a, one) ∷ []) ∷ [])
+fail_texts :
+    computed f.Fail (a ∷ one ∷ d.undef ∷ d.flag true ∷ list (a ∷ list (b ∷ []) ∷ []) ∷ hash ((a, one) ∷ []) ∷ [])
     ≡ Err (Failed (codes "a 1  true [a, [b]] {a => 1}"))
 unfolding digits
 fail_texts = refl
@@ -129,8 +131,8 @@ size_counts = refl
 
 -- `empty`
 emptiness : answers f.Empty (
-      (text [] ∷ []) ∷ (text (codes " ") ∷ []) ∷ (list [] ∷ []) ∷ (list (d.undef ∷ []) ∷ []) ∷ (hash [] ∷ []) ∷
-      (hash ((a, d.undef) ∷ []) ∷ []) ∷ (d.undef ∷ []) ∷ (int (pos 0) ∷ []) ∷ (d.undef ∷ d.undef ∷ []) ∷ []
+    (text [] ∷ []) ∷ (text (codes " ") ∷ []) ∷ (list [] ∷ []) ∷ (list (d.undef ∷ []) ∷ []) ∷ (hash [] ∷ []) ∷
+    (hash ((a, d.undef) ∷ []) ∷ []) ∷ (d.undef ∷ []) ∷ (int (pos 0) ∷ []) ∷ (d.undef ∷ d.undef ∷ []) ∷ []
     )
     ≡ Ok (d.flag true) ∷ Ok (d.flag false) ∷ Ok (d.flag true) ∷ Ok (d.flag false) ∷ Ok (d.flag true) ∷
     Ok (d.flag false) ∷ Ok (d.flag true) ∷ Err Arguments ∷ Err Arguments ∷ []
@@ -153,8 +155,8 @@ abbrev nested : Datum
 nested = list (one ∷ list (a ∷ list (d.undef ∷ list [] ∷ d.flag true ∷ []) ∷ []) ∷ list [] ∷ [])
 
 flattened : answers f.Flatten (
-      (nested ∷ []) ∷ (list [] ∷ []) ∷ (list (list (list [] ∷ []) ∷ []) ∷ []) ∷
-      (list (hash ((a, list (one ∷ [])) ∷ []) ∷ []) ∷ []) ∷ (nested ∷ nested ∷ []) ∷ []
+    (nested ∷ []) ∷ (list [] ∷ []) ∷ (list (list (list [] ∷ []) ∷ []) ∷ []) ∷
+    (list (hash ((a, list (one ∷ [])) ∷ []) ∷ []) ∷ []) ∷ (nested ∷ nested ∷ []) ∷ []
     )
     ≡ Ok (list (one ∷ a ∷ d.undef ∷ d.flag true ∷ [])) ∷ Ok (list []) ∷ Ok (list []) ∷
     Ok (list (hash ((a, list (one ∷ [])) ∷ []) ∷ [])) ∷ Err Arguments ∷ []
@@ -162,9 +164,9 @@ flattened = refl
 
 -- `join`
 joined : answers f.Join (
-      (nested ∷ []) ∷ (nested ∷ text (codes "--") ∷ []) ∷ (nested ∷ text [] ∷ []) ∷ (list [] ∷ text (codes ",") ∷ []) ∷
-      (list (a ∷ []) ∷ text (codes ",") ∷ []) ∷
-      (list (hash ((a, list (one ∷ two ∷ [])) ∷ []) ∷ d.default ∷ integer ∷ []) ∷ text (codes ";") ∷ []) ∷ []
+    (nested ∷ []) ∷ (nested ∷ text (codes "--") ∷ []) ∷ (nested ∷ text [] ∷ []) ∷ (list [] ∷ text (codes ",") ∷ []) ∷
+    (list (a ∷ []) ∷ text (codes ",") ∷ []) ∷
+    (list (hash ((a, list (one ∷ two ∷ [])) ∷ []) ∷ d.default ∷ integer ∷ []) ∷ text (codes ";") ∷ []) ∷ []
     )
     ≡ Ok (text (codes "1atrue")) ∷ Ok (text (codes "1--a----true")) ∷ Ok (text (codes "1atrue")) ∷ Ok (text []) ∷
     Ok (text (codes "a")) ∷ Ok (text (codes "{a => [1, 2]};default;Integer")) ∷ []
@@ -172,8 +174,8 @@ unfolding digits
 joined = refl
 
 not_joined : answers f.Join (
-      (nested ∷ one ∷ []) ∷ (nested ∷ d.undef ∷ []) ∷ (a ∷ a ∷ []) ∷ (hash ((a, one) ∷ []) ∷ a ∷ []) ∷
-      (nested ∷ a ∷ a ∷ []) ∷ []
+    (nested ∷ one ∷ []) ∷ (nested ∷ d.undef ∷ []) ∷ (a ∷ a ∷ []) ∷ (hash ((a, one) ∷ []) ∷ a ∷ []) ∷
+    (nested ∷ a ∷ a ∷ []) ∷ []
     )
     ≡ Err Arguments ∷ Err Arguments ∷ Err Arguments ∷ Err Arguments ∷ Err Arguments ∷ []
 not_joined = refl
@@ -186,10 +188,10 @@ abbrev ba : Datum
 ba = hash ((b, two) ∷ (a, one) ∷ [])
 
 firsts : answers f.Unique (
-      (list (a ∷ big_a ∷ b ∷ a ∷ big_a ∷ []) ∷ []) ∷ (list (one ∷ text (codes "1") ∷ one ∷ []) ∷ []) ∷
-      (list (ab ∷ ba ∷ ab ∷ []) ∷ []) ∷ (list (list (a ∷ a ∷ []) ∷ list (a ∷ a ∷ []) ∷ list (big_a ∷ a ∷ []) ∷ []) ∷ []) ∷
-      (list (d.undef ∷ d.default ∷ d.undef ∷ integer ∷ integer ∷ []) ∷ []) ∷ (list [] ∷ []) ∷
-      (list (a ∷ []) ∷ list (a ∷ []) ∷ []) ∷ []
+    (list (a ∷ big_a ∷ b ∷ a ∷ big_a ∷ []) ∷ []) ∷ (list (one ∷ text (codes "1") ∷ one ∷ []) ∷ []) ∷
+    (list (ab ∷ ba ∷ ab ∷ []) ∷ []) ∷ (list (list (a ∷ a ∷ []) ∷ list (a ∷ a ∷ []) ∷ list (big_a ∷ a ∷ []) ∷ []) ∷ []) ∷
+    (list (d.undef ∷ d.default ∷ d.undef ∷ integer ∷ integer ∷ []) ∷ []) ∷ (list [] ∷ []) ∷
+    (list (a ∷ []) ∷ list (a ∷ []) ∷ []) ∷ []
     )
     ≡ Ok (list (a ∷ big_a ∷ b ∷ [])) ∷ Ok (list (one ∷ text (codes "1") ∷ [])) ∷ Ok (list (ab ∷ ba ∷ [])) ∷
     Ok (list (list (a ∷ a ∷ []) ∷ list (big_a ∷ a ∷ []) ∷ [])) ∷
@@ -198,25 +200,28 @@ firsts = refl
 
 -- `upcase`, `downcase`: the letters of ASCII alone
 upcased : answers f.Upcase (
-      (text (codes "aZ[`{1 ") ∷ []) ∷ (text (codes "x" ++ small_e) ∷ []) ∷ (text [] ∷ []) ∷ (a ∷ a ∷ []) ∷ []
+    (text (codes "aZ[`{1 ") ∷ []) ∷ (text (codes "x" ++ small_e) ∷ []) ∷ (text [] ∷ []) ∷ (a ∷ a ∷ []) ∷ []
     )
     ≡ Ok (text (codes "AZ[`{1 ")) ∷ Ok (text (codes "X" ++ small_e)) ∷ Ok (text []) ∷ Err Arguments ∷ []
 upcased = refl
 
 downcased : answers f.Downcase (
-      (text (codes "aZ[@{1 ") ∷ []) ∷ (text (codes "X" ++ large_e) ∷ []) ∷ (text [] ∷ []) ∷ (a ∷ a ∷ []) ∷ []
+    (text (codes "aZ[@{1 ") ∷ []) ∷ (text (codes "X" ++ large_e) ∷ []) ∷ (text [] ∷ []) ∷ (a ∷ a ∷ []) ∷ []
     )
     ≡ Ok (text (codes "az[@{1 ")) ∷ Ok (text (codes "x" ++ large_e)) ∷ Ok (text []) ∷ Err Arguments ∷ []
 downcased = refl
 
 -- `strip`: white space is space, tab, line feed, vertical tab, form feed and carriage return
-white : map is_white (8 ∷ 9 ∷ 10 ∷ 11 ∷ 12 ∷ 13 ∷ 14 ∷ 28 ∷ 31 ∷ 32 ∷ 33 ∷ 0 ∷ 127 ∷ 133 ∷ 160 ∷ [])
-    ≡ false ∷ true ∷ true ∷ true ∷ true ∷ true ∷ false ∷ false ∷ false ∷ true ∷ false ∷ false ∷ false ∷ false ∷ false ∷ []
+white : list_all is_white (9 ∷ 10 ∷ 11 ∷ 12 ∷ 13 ∷ 32 ∷ []) ≡ true
 white = refl
 
+not_white : list_any is_white (0 ∷ 8 ∷ 14 ∷ 28 ∷ 31 ∷ 33 ∷ 95 ∷ 127 ∷ 133 ∷ 160 ∷ []) ≡ false
+not_white = refl
+
 stripped : answers f.Strip (
-      (text (32 ∷ 9 ∷ 10 ∷ 97 ∷ 32 ∷ 98 ∷ 11 ∷ 12 ∷ 13 ∷ []) ∷ []) ∷ (text (codes "   ") ∷ []) ∷ (text [] ∷ []) ∷ (a ∷ []) ∷
-      (text (32 ∷ 194 ∷ 160 ∷ 32 ∷ 226 ∷ 128 ∷ 131 ∷ 32 ∷ []) ∷ []) ∷ (a ∷ a ∷ []) ∷ []
+    (text (32 ∷ 9 ∷ 10 ∷ 97 ∷ 32 ∷ 98 ∷ 11 ∷ 12 ∷ 13 ∷ []) ∷ []) ∷ (text (codes "   ") ∷ []) ∷ (text [] ∷ []) ∷
+    (a ∷ []) ∷
+    (text (32 ∷ 194 ∷ 160 ∷ 32 ∷ 226 ∷ 128 ∷ 131 ∷ 32 ∷ []) ∷ []) ∷ (a ∷ a ∷ []) ∷ []
     )
     ≡ Ok (text (codes "a b")) ∷ Ok (text []) ∷ Ok (text []) ∷ Ok a ∷
     Ok (text (194 ∷ 160 ∷ 32 ∷ 226 ∷ 128 ∷ 131 ∷ [])) ∷ Err Arguments ∷ []
@@ -227,24 +232,25 @@ abbrev tree : Datum
 tree = hash ((a, list (one ∷ hash ((b, two) ∷ (three, a) ∷ []) ∷ [])) ∷ (b, d.undef) ∷ [])
 
 dug : answers f.Dig (
-      (tree ∷ a ∷ one ∷ b ∷ []) ∷ (tree ∷ a ∷ one ∷ three ∷ []) ∷ (tree ∷ a ∷ minus_two ∷ []) ∷ (tree ∷ []) ∷ (two ∷ []) ∷
-      (d.undef ∷ []) ∷ []
+    (tree ∷ a ∷ one ∷ b ∷ []) ∷ (tree ∷ a ∷ one ∷ three ∷ []) ∷ (tree ∷ a ∷ minus_two ∷ []) ∷ (tree ∷ []) ∷ (two ∷ []) ∷
+    (d.undef ∷ []) ∷ []
     )
     ≡ Ok two ∷ Ok a ∷ Ok one ∷ Ok tree ∷ Ok two ∷ Ok d.undef ∷ []
 unfolding in_turn
 dug = refl
 
 dug_to_nothing : answers f.Dig (
-      (tree ∷ a ∷ two ∷ []) ∷ (tree ∷ a ∷ int (negsuc 2) ∷ a ∷ []) ∷ (tree ∷ big_a ∷ b ∷ []) ∷ (tree ∷ b ∷ one ∷ two ∷ []) ∷
-      (d.undef ∷ list [] ∷ []) ∷ (tree ∷ list [] ∷ a ∷ []) ∷ (tree ∷ a ∷ one ∷ text (codes "3") ∷ []) ∷ []
+    (tree ∷ a ∷ two ∷ []) ∷ (tree ∷ a ∷ int (negsuc 2) ∷ a ∷ []) ∷ (tree ∷ big_a ∷ b ∷ []) ∷
+    (tree ∷ b ∷ one ∷ two ∷ []) ∷
+    (d.undef ∷ list [] ∷ []) ∷ (tree ∷ list [] ∷ a ∷ []) ∷ (tree ∷ a ∷ one ∷ text (codes "3") ∷ []) ∷ []
     )
     ≡ Ok d.undef ∷ Ok d.undef ∷ Ok d.undef ∷ Ok d.undef ∷ Ok d.undef ∷ Ok d.undef ∷ Ok d.undef ∷ []
 unfolding in_turn
 dug_to_nothing = refl
 
 not_dug : answers f.Dig (
-      (tree ∷ a ∷ b ∷ []) ∷ (tree ∷ a ∷ d.undef ∷ []) ∷ (tree ∷ a ∷ one ∷ three ∷ one ∷ []) ∷ (two ∷ one ∷ []) ∷
-      (a ∷ one ∷ []) ∷ (d.default ∷ a ∷ []) ∷ []
+    (tree ∷ a ∷ b ∷ []) ∷ (tree ∷ a ∷ d.undef ∷ []) ∷ (tree ∷ a ∷ one ∷ three ∷ one ∷ []) ∷ (two ∷ one ∷ []) ∷
+    (a ∷ one ∷ []) ∷ (d.default ∷ a ∷ []) ∷ []
     )
     ≡ Err Arguments ∷ Err Arguments ∷ Err Arguments ∷ Err Arguments ∷ Err Arguments ∷ Err Arguments ∷ []
 unfolding in_turn
@@ -252,23 +258,24 @@ not_dug = refl
 
 -- `min`, `max`: one or more integers
 leasts : answers f.Min (
-      (two ∷ []) ∷ (three ∷ minus_two ∷ three ∷ one ∷ []) ∷ (greatest ∷ least ∷ []) ∷ (one ∷ one ∷ []) ∷ (one ∷ a ∷ []) ∷
-      (a ∷ one ∷ []) ∷ (list (one ∷ two ∷ []) ∷ []) ∷ (one ∷ two ∷ d.undef ∷ []) ∷ []
+    (two ∷ []) ∷ (three ∷ minus_two ∷ three ∷ one ∷ []) ∷ (greatest ∷ least ∷ []) ∷ (one ∷ one ∷ []) ∷ (one ∷ a ∷ []) ∷
+    (a ∷ one ∷ []) ∷ (list (one ∷ two ∷ []) ∷ []) ∷ (one ∷ two ∷ d.undef ∷ []) ∷ []
     )
     ≡ Ok two ∷ Ok minus_two ∷ Ok least ∷ Ok one ∷ Err Arguments ∷ Err Arguments ∷ Err Arguments ∷ Err Arguments ∷ []
 leasts = refl
 
 greatests : answers f.Max (
-      (two ∷ []) ∷ (three ∷ minus_two ∷ three ∷ one ∷ []) ∷ (greatest ∷ least ∷ []) ∷ (minus_two ∷ least ∷ []) ∷
-      (one ∷ a ∷ []) ∷ (a ∷ one ∷ []) ∷ (list (one ∷ two ∷ []) ∷ []) ∷ (one ∷ two ∷ d.undef ∷ []) ∷ []
+    (two ∷ []) ∷ (three ∷ minus_two ∷ three ∷ one ∷ []) ∷ (greatest ∷ least ∷ []) ∷ (minus_two ∷ least ∷ []) ∷
+    (one ∷ a ∷ []) ∷ (a ∷ one ∷ []) ∷ (list (one ∷ two ∷ []) ∷ []) ∷ (one ∷ two ∷ d.undef ∷ []) ∷ []
     )
-    ≡ Ok two ∷ Ok three ∷ Ok greatest ∷ Ok minus_two ∷ Err Arguments ∷ Err Arguments ∷ Err Arguments ∷ Err Arguments ∷ []
+    ≡ Ok two ∷ Ok three ∷ Ok greatest ∷ Ok minus_two ∷ Err Arguments ∷ Err Arguments ∷ Err Arguments ∷
+    Err Arguments ∷ []
 greatests = refl
 
 -- `abs`: the least integer has no opposite of 64 bits
 absolutes : answers f.Abs (
-      (minus_two ∷ []) ∷ (two ∷ []) ∷ (int (pos 0) ∷ []) ∷ (int (negsuc 9223372036854775806) ∷ []) ∷ (least ∷ []) ∷
-      (text (codes "-2") ∷ []) ∷ (one ∷ one ∷ []) ∷ []
+    (minus_two ∷ []) ∷ (two ∷ []) ∷ (int (pos 0) ∷ []) ∷ (int (negsuc 9223372036854775806) ∷ []) ∷ (least ∷ []) ∷
+    (text (codes "-2") ∷ []) ∷ (one ∷ one ∷ []) ∷ []
     )
     ≡ Ok two ∷ Ok two ∷ Ok (int (pos 0)) ∷ Ok greatest ∷ Err Range ∷ Err Arguments ∷ Err Arguments ∷ []
 absolutes = refl
@@ -277,15 +284,20 @@ absolutes = refl
 place : Place
 place = record { file = codes "a.pp"; line = 3 }
 
-unknown : map (λ name. applied name (one ∷ []) place) (codes "foo" ∷ codes "Length" ∷ codes "::length" ∷ codes "len" ∷ [] ∷ [])
-    ≡ Err (fault place (what.UnknownFunction (codes "foo"))) ∷ Err (fault place (what.UnknownFunction (codes "Length"))) ∷
-    Err (fault place (what.UnknownFunction (codes "::length"))) ∷ Err (fault place (what.UnknownFunction (codes "len"))) ∷
-    Err (fault place (what.UnknownFunction [])) ∷ []
+unknown :
+    map (λ name. applied name (one ∷ []) place) (
+    codes "foo" ∷ codes "Length" ∷ codes "::length" ∷ codes "len" ∷ [] ∷ []
+    )
+    ≡ Err (fault place (what.UnknownFunction (codes "foo"))) ∷
+    Err (fault place (what.UnknownFunction (codes "Length"))) ∷
+    Err (fault place (what.UnknownFunction (codes "::length"))) ∷
+    Err (fault place (what.UnknownFunction (codes "len"))) ∷ Err (fault place (what.UnknownFunction [])) ∷ []
 unfolding function_of
 unknown = refl
 
 wrong_arguments : map (λ name. applied name (one ∷ []) place) (codes "length" ∷ codes "size" ∷ [])
-    ≡ Err (fault place (what.WrongArguments (codes "length"))) ∷ Err (fault place (what.WrongArguments (codes "size"))) ∷ []
+    ≡ Err (fault place (what.WrongArguments (codes "length"))) ∷
+    Err (fault place (what.WrongArguments (codes "size"))) ∷ []
 unfolding function_of
 wrong_arguments = refl
 
@@ -302,16 +314,20 @@ unfolding function_of
 size_of_ab = refl
 
 -- what `call_pure` is not asked, and what it is
-asked_of_the_evaluator : map needs_evaluator (
-      codes "include" ∷ codes "contain" ∷ codes "require" ∷ codes "realize" ∷ codes "lookup" ∷ codes "debug" ∷
-      codes "info" ∷ codes "notice" ∷ codes "warning" ∷ codes "err" ∷ codes "each" ∷ codes "map" ∷ codes "filter" ∷
-      codes "reduce" ∷ codes "any" ∷ codes "all" ∷ codes "with" ∷ []
+asked_of_the_evaluator :
+    list_all needs_evaluator (
+    codes "include" ∷ codes "contain" ∷ codes "require" ∷ codes "realize" ∷ codes "lookup" ∷ codes "debug" ∷
+    codes "info" ∷ codes "notice" ∷ codes "warning" ∷ codes "err" ∷ codes "each" ∷ codes "map" ∷ codes "filter" ∷
+    codes "reduce" ∷ codes "any" ∷ codes "all" ∷ codes "with" ∷ []
     )
-    ≡ true ∷ true ∷ true ∷ true ∷ true ∷ true ∷ true ∷ true ∷ true ∷ true ∷ true ∷ true ∷ true ∷ true ∷ true ∷ true ∷ true ∷ []
+    ≡ true
 unfolding needs_evaluator
 asked_of_the_evaluator = refl
 
-not_asked_of_it : map needs_evaluator (codes "fail" ∷ codes "size" ∷ codes "foo" ∷ codes "Include" ∷ codes "maps" ∷ [] ∷ [])
-    ≡ false ∷ false ∷ false ∷ false ∷ false ∷ false ∷ []
+not_asked_of_it :
+    list_any needs_evaluator (
+    codes "fail" ∷ codes "size" ∷ codes "foo" ∷ codes "Include" ∷ codes "maps" ∷ codes "war" ∷ [] ∷ []
+    )
+    ≡ false
 unfolding needs_evaluator
 not_asked_of_it = refl

@@ -21,7 +21,8 @@ one_reference r t h =
 
 one_name : (m n : Name) → same_name m n ≡ true → m ≡ n
 one_name m n h =
-    let numbers : name_number m ≡ name_number n = (unsigned_Decides (name_number m) (name_number n)).0 (first_so _ _ h) in
+    let numbers : name_number m ≡ name_number n =
+    (unsigned_Decides (name_number m) (name_number n)).0 (first_so _ _ h) in
     let kinds : named_kind m ≡ named_kind n = (bytes_eq-Decides (named_kind m) (named_kind n)).0 (second_so _ _ h) in
     sym (name_back m) ∙ (λ i. name_from (numbers i, kinds i)) ∙ name_back n
 

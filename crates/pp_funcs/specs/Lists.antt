@@ -1,12 +1,19 @@
 -- Functions of lists and hashes.
+use denote.Ref.{Bor}
 use Rattle.std.specs.Prelude.{if◌then◌else◌, Result, Ok, Err, List, [], ◌∷◌, ◌++◌, map}
 use Rattle.std.specs.List.{list_any, fold, join_by}
 use Rattle.pp_ops.specs.Lists.{as_list}
 use Rattle.pp_ops.specs.Same.{same}
+use Rattle.pp_values.specs.declared.value.Value.{Value}
 use Rattle.pp_values.specs.Datum.{Datum, text, list, hash, Data, no_data, datum, Pair, members_of, pairs_of}
 use Rattle.pp_values.specs.TextOf.{text_of}
+use Rattle.pp_values.specs.Views.{view}
 use Rattle.pp_funcs.specs.declared.refusal.Refusal.{Refusal}
 use Rattle.pp_funcs.specs.declared.refusal.Refusal.TheVariants.{Arguments}
+
+-- what the values behind references say
+abbrev pub behind : List (Bor Value) → List Datum
+behind vs = map (λ v. view v.now) vs
 
 abbrev pub keys : Datum → Result Datum Refusal
 keys (hash es) = Ok (as_list (map (λ p. p.0) (pairs_of es)))

@@ -1,11 +1,15 @@
 -- Functions of texts. Letters and white space are ASCII's; all other characters stay as they are.
-use Rattle.std.specs.Prelude.{ℕ, ◌==◌, nat_le, Bool, ◌||◌, ◌&&◌, if◌then◌else◌, Result, Ok, Err, List, [], ◌∷◌, codes}
-use Rattle.std.specs.List.{join_by}
+use Rattle.std.specs.Prelude.{ℕ, ◌==◌, nat_le, Bool, ◌||◌, ◌&&◌, if◌then◌else◌, Result, Ok, Err, List, [], ◌∷◌, ◌++◌, codes}
+use Rattle.std.specs.List.{flat_map, join_by}
 use Rattle.std.specs.Str.{str_to_ascii_uppercase, str_to_ascii_lowercase}
 use Rattle.pp_values.specs.Datum.{Datum, text}
 use Rattle.pp_values.specs.TextOf.{text_of}
 use Rattle.pp_funcs.specs.declared.refusal.Refusal.{Refusal}
 use Rattle.pp_funcs.specs.declared.refusal.Refusal.TheVariants.{Arguments, Failed}
+
+-- the texts of values, with another text before each
+abbrev pub led : List ℕ → List Datum → List ℕ
+led between ds = flat_map (λ d. between ++ text_of d) ds
 
 -- a failure, whose message is the texts of the arguments with one space between each two
 abbrev pub failure : List Datum → Result Datum Refusal

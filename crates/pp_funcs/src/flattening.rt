@@ -1,11 +1,12 @@
 //! Lists within lists made one list.
-ghost use Rattle.std.specs.Prelude.{◌≡◌, ◌++◌, IfOk, OnOk, string_bytes, map};
-ghost use Rattle.std.specs.List.{flat_map, join_by};
+ghost use Rattle.std.specs.Prelude.{◌≡◌, ◌++◌, IfOk, OnOk, string_bytes};
+ghost use Rattle.std.specs.List.{join_by};
 ghost use Rattle.pp_values.specs.Datum.{data_of};
 ghost use Rattle.pp_values.specs.TextOf.{text_of};
 ghost use Rattle.pp_values.specs.Views.{view, views};
-ghost use Rattle.pp_funcs.specs.Lists.{flat_members, flatten, join};
+ghost use Rattle.pp_funcs.specs.Lists.{behind, flat_members, flatten, join};
 ghost use Rattle.pp_funcs.specs.Refusals.{Gives, of_one};
+ghost use Rattle.pp_funcs.specs.Texts.{led};
 
 use crate::refusal::{Halt, Refusal};
 use crate::texting::write_separated;
@@ -58,7 +59,7 @@ fn flattened(alloc: Global, items: &[Value]) -> Result<Values, Memory>
 }
 
 fn copied(alloc: Global, items: &[&Value]) -> Result<Values, Memory>
-    ensures { IfOk result (λ l. l ≡ map (λ v. view v.now) items.now) }
+    ensures { IfOk result (λ l. l ≡ behind items.now) }
 {
     let mut out = Values::new(alloc);
     for item in items {
@@ -69,7 +70,7 @@ fn copied(alloc: Global, items: &[&Value]) -> Result<Values, Memory>
 
 /// Appends the members, with those of each list among them in its place.
 fn add_flat<'a>(out: &mut Vec<&'a Value>, items: &'a [Value]) -> Result<(), Memory>
-    ensures { OnOk result (map (λ v. view v.now) out.new.items ≡ map (λ v. view v.now) out.old.items ++ flat_members (data_of (views items.now))) }
+    ensures { OnOk result (behind out.new.items ≡ behind out.old.items ++ flat_members (data_of (views items.now))) }
 {
     for item in items {
         match item {
@@ -90,7 +91,7 @@ fn joined(alloc: Global, items: &[Value], between: &str) -> Result<Text, Memory>
 }
 
 fn join_found(alloc: Global, items: &[&Value], between: &str) -> Result<Text, Memory>
-    ensures { IfOk result (λ t. t ≡ join_by text_of between.now (map (λ v. view v.now) items.now)) }
+    ensures { IfOk result (λ t. t ≡ join_by text_of between.now (behind items.now)) }
 {
     let mut out = String::new(alloc);
     match items {
@@ -104,7 +105,7 @@ fn join_found(alloc: Global, items: &[&Value], between: &str) -> Result<Text, Me
 }
 
 fn write_rest(out: &mut String, rest: &[&Value], between: &str) -> Result<(), Memory>
-    ensures { OnOk result (string_bytes out.new ≡ string_bytes out.old ++ flat_map (λ d. between.now ++ text_of d) (map (λ v. view v.now) rest.now)) }
+    ensures { OnOk result (string_bytes out.new ≡ string_bytes out.old ++ led between.now (behind rest.now)) }
 {
     for value in rest {
         write_separated(out, between, value)?;

@@ -1,12 +1,11 @@
 //! Values by their texts, so that one that is exactly the same is found without going over all.
-ghost use Rattle.std.specs.Prelude.{◌≡◌, ◌++◌, ℕ, [], ◌∷◌, not, cond, List, IfOk, OnOk, map};
+ghost use Rattle.std.specs.Prelude.{◌≡◌, ℕ, [], cond, List, IfOk, OnOk};
 ghost use Rattle.std.specs.List.{list_any};
 ghost use Rattle.std.specs.Str.{bytes_eq};
 ghost use Rattle.pp_ops.specs.Same.{same};
-ghost use Rattle.pp_values.specs.Datum.{Datum};
 ghost use Rattle.pp_values.specs.Views.{view};
-ghost use Rattle.pp_funcs.specs.Lists.{with_new};
-ghost use Rattle.pp_funcs.specs.Seen.{under, Holds};
+ghost use Rattle.pp_funcs.specs.Lists.{behind};
+ghost use Rattle.pp_funcs.specs.Seen.{under, Adds, Looks};
 
 use pp_ops::sameness::is_same;
 use pp_values::interpolating::text_of;
@@ -21,7 +20,7 @@ pub type Seen<'a> = BTreeMap<Text, Vec<&'a Value>>;
 
 /// Whether no value that is exactly the same was seen yet; then it has been seen from now on.
 pub fn is_new<'a>(alloc: Global, seen: &mut Seen<'a>, value: &'a Value) -> Result<bool, Memory>
-    ensures { IfOk result (λ fresh. (had : List Datum) → Holds seen.old had → (fresh ≡ not (list_any (same (view value.now)) had)) × Holds seen.new (with_new had (view value.now))) }
+    ensures { IfOk result (λ is_new. Looks (view value.now) is_new seen.old seen.new) }
 {
     let text = text_of(alloc, value)?;
     if is_among(seen, &text, value) {
@@ -41,7 +40,7 @@ fn is_among(seen: &Seen<'_>, text: &Text, value: &Value) -> bool
 }
 
 fn has_same(alike: &[&Value], value: &Value) -> bool
-    ensures { result ≡ list_any (same (view value.now)) (map (λ v. view v.now) alike.now) }
+    ensures { result ≡ list_any (same (view value.now)) (behind alike.now) }
 {
     for other in alike {
         if is_same(value, other) {
@@ -51,13 +50,8 @@ fn has_same(alike: &[&Value], value: &Value) -> bool
     false
 }
 
-fn add<'a>(
-    alloc: Global,
-    seen: &mut Seen<'a>,
-    text: Text,
-    value: &'a Value,
-) -> Result<(), Memory>
-    ensures { OnOk result ((t : List ℕ) → under t seen.new ≡ under t seen.old ++ cond (bytes_eq text t) (view value.now ∷ []) []) }
+fn add<'a>(alloc: Global, seen: &mut Seen<'a>, text: Text, value: &'a Value) -> Result<(), Memory>
+    ensures { OnOk result (Adds text (view value.now) seen.old seen.new) }
 {
     let mut alike = taken(alloc, seen, &text);
     alike.push(value)?;
@@ -67,7 +61,7 @@ fn add<'a>(
 
 /// Takes out what was seen under a text.
 fn taken<'a>(alloc: Global, seen: &mut Seen<'a>, text: &Text) -> Vec<&'a Value>
-    ensures value { map (λ v. view v.now) result.items ≡ under text.now seen.old }
+    ensures value { behind result.items ≡ under text.now seen.old }
     ensures rest { (t : List ℕ) → under t seen.new ≡ cond (bytes_eq text.now t) [] (under t seen.old) }
 {
     match seen.remove(text) {

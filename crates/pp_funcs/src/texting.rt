@@ -1,10 +1,10 @@
 //! Functions of texts.
 ghost use Rattle.std.specs.Prelude.{◌≡◌, ◌++◌, IfOk, OnOk, string_bytes, codes};
-ghost use Rattle.std.specs.List.{flat_map, join_by};
+ghost use Rattle.std.specs.List.{join_by};
 ghost use Rattle.std.specs.Str.{str_to_ascii_uppercase, str_to_ascii_lowercase};
 ghost use Rattle.pp_values.specs.TextOf.{text_of};
 ghost use Rattle.pp_values.specs.Views.{view, views};
-ghost use Rattle.pp_funcs.specs.Texts.{failure, upcase, downcase, strip};
+ghost use Rattle.pp_funcs.specs.Texts.{led, failure, upcase, downcase, strip};
 ghost use Rattle.pp_funcs.specs.Refusals.{Gives, of_one};
 
 use crate::refusal::{Halt, Refusal};
@@ -37,7 +37,7 @@ fn joined(alloc: Global, values: &[Value]) -> Result<Text, Memory>
 }
 
 fn write_rest(out: &mut String, rest: &[Value]) -> Result<(), Memory>
-    ensures { OnOk result (string_bytes out.new ≡ string_bytes out.old ++ flat_map (λ d. codes " " ++ text_of d) (views rest.now)) }
+    ensures { OnOk result (string_bytes out.new ≡ string_bytes out.old ++ led (codes " ") (views rest.now)) }
 {
     for value in rest {
         write_separated(out, " ", value)?;

@@ -28,9 +28,9 @@ returns-in-Err c =
 pub loop-key-preserved : goal.loop-key-preserved
 loop-key-preserved c =
     sym (
-      goes_on (view c.loop-key.value.now) (view c.in-Ok-Some.next.now) c.args.keys.now c.loop-key.key-index
-      c.key-item.result c.loop-key-test.true c.key-item.is
-      (c.in-Ok-Some.ensures ∙ ap told c.in-Ok-Some.field-0-is)
+    goes_on (view c.loop-key.value.now) (view c.in-Ok-Some.next.now) c.args.keys.now c.loop-key.key-index
+    c.key-item.result c.loop-key-test.true c.key-item.is
+    (c.in-Ok-Some.ensures ∙ ap told c.in-Ok-Some.field-0-is)
     )
     ∙ c.loop-key.invariant
 

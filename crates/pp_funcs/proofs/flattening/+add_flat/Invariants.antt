@@ -1,4 +1,4 @@
--- The measure: the size of the list. The loop: what the rest from the index on adds to what is there is what all of it adds.
+-- The measure: the size of the list. The loop: what is there, and what the rest adds, is what all of it adds.
 use Rattle.std.proofs.Common.{◌≡◌, ◌++◌, drop, map}
 use Rattle.pp_values.specs.Datum.{data_of}
 use Rattle.pp_values.specs.Sizes.{data_size}

@@ -6,4 +6,6 @@ use Rattle.pp_funcs.specs.Numbers.{chosen}
 use Rattle.pp_funcs.proofs.numbers.greatest_of.Given as goal
 
 abbrev pub invariant-loop-value : goal.invariant-loop-value
-invariant-loop-value l = chosen int_max l.chosen (views (drop l.value-index l.rest)) ≡ chosen int_max l.initial.chosen (views l.rest)
+invariant-loop-value l =
+    chosen int_max l.chosen (views (drop l.value-index l.rest))
+    ≡ chosen int_max l.initial.chosen (views l.rest)

@@ -6,4 +6,6 @@ use Rattle.pp_funcs.specs.Numbers.{chosen}
 use Rattle.pp_funcs.proofs.numbers.least_of.Given as goal
 
 abbrev pub invariant-loop-value : goal.invariant-loop-value
-invariant-loop-value l = chosen int_min l.chosen (views (drop l.value-index l.rest)) ≡ chosen int_min l.initial.chosen (views l.rest)
+invariant-loop-value l =
+    chosen int_min l.chosen (views (drop l.value-index l.rest))
+    ≡ chosen int_min l.initial.chosen (views l.rest)

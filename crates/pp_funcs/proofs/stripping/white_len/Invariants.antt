@@ -4,4 +4,5 @@ use Rattle.pp_funcs.specs.Texts.{without_front}
 use Rattle.pp_funcs.proofs.stripping.white_len.Given as goal
 
 abbrev pub invariant-loop-i : goal.invariant-loop-i
-invariant-loop-i l = (without_front (drop l.i l.text) ≡ without_front l.text) × (0 < l.i → get_or l.text (l.i - 1) 0 < 128)
+invariant-loop-i l =
+    (without_front (drop l.i l.text) ≡ without_front l.text) × (0 < l.i → get_or l.text (l.i - 1) 0 < 128)

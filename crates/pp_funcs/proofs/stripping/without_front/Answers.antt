@@ -15,5 +15,5 @@ range_from-requires c some =
     let same : c.as_bytes.result.now ≡ c.args.text.now = c.as_bytes.ensures.value in (
       subst (λ bs. c.white_len.result ≤ length bs) same c.white_len.ensures.within,
       leads c.args.text.now c.white_len.result c.utf8.text some
-      (subst (λ bs. get_or bs (c.white_len.result - 1) 0 < 128) same (c.white_len.ensures.ascii some)),
+          (subst (λ bs. get_or bs (c.white_len.result - 1) 0 < 128) same (c.white_len.ensures.ascii some)),
     )

@@ -1,10 +1,10 @@
 -- Values under their texts hold what a list holds.
 use denote.Ref.{Bor}
-use Rattle.std.proofs.Common.{◌≡◌, ℕ, Bool, true, false, not, cond, List, [], ◌∷◌, ◌++◌, append-nil, map, refl, sym, ap, subst, ◌∙◌}
+use Rattle.std.proofs.Common.{◌≡◌, ℕ, Bool, true, false, not, cond, List, [], ◌∷◌, ◌++◌, append-nil, refl, sym, ap, subst, ◌∙◌}
 use Rattle.std.specs.BTreeMap.{get, is_at}
 use Rattle.std.specs.Cmp.Lexicographic.{slice_cmp}
 use Rattle.std.specs.Ordering.{nat_cmp, is_eq}
-use Rattle.std.specs.Prelude.{filter, Option, None, Some}
+use Rattle.std.specs.Prelude.{Option, Some}
 use Rattle.std.specs.declared.alloc.Global.{Global}
 use Rattle.std.specs.declared.vec.Vec.{Vec}
 use Rattle.std.specs.List.{list_any}
@@ -18,7 +18,7 @@ use Rattle.pp_values.specs.declared.value.Value.{Value}
 use Rattle.pp_values.specs.Datum.{Datum}
 use Rattle.pp_values.specs.TextOf.{text_of}
 use Rattle.pp_funcs.specs.Lists.{with_new}
-use Rattle.pp_funcs.specs.Seen.{Seen, told, under, with_text, Holds}
+use Rattle.pp_funcs.specs.Seen.{Seen, told, under, Holds}
 use Rattle.pp_funcs.proofs.SameOnes.{one_value}
 
 -- a value that is exactly the same has the same text

@@ -1,6 +1,6 @@
 -- Access step by step.
 use denote.Ref.{Bor}
-use Rattle.std.specs.Prelude.{◌≡◌, Option, None, Some, Result, Ok, Err, List, [], ◌∷◌, option_map}
+use Rattle.std.specs.Prelude.{◌≡◌, Option, Result, Ok, Err, List, [], ◌∷◌, option_map}
 use Rattle.pp_ops.specs.Accesses.{member_at}
 use Rattle.pp_ops.specs.Hashes.{or_else}
 use Rattle.pp_values.specs.declared.value.Value.{Value}

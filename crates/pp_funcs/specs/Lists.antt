@@ -5,7 +5,7 @@ use Rattle.std.specs.List.{list_any, fold, join_by}
 use Rattle.pp_ops.specs.Lists.{as_list}
 use Rattle.pp_ops.specs.Same.{same}
 use Rattle.pp_values.specs.declared.value.Value.{Value}
-use Rattle.pp_values.specs.Datum.{Datum, text, list, hash, Data, no_data, datum, Pair, members_of, pairs_of}
+use Rattle.pp_values.specs.Datum.{Datum, text, list, hash, Data, no_data, datum, members_of, pairs_of}
 use Rattle.pp_values.specs.TextOf.{text_of}
 use Rattle.pp_values.specs.Views.{view}
 use Rattle.pp_funcs.specs.declared.refusal.Refusal.{Refusal}

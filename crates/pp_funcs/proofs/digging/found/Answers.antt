@@ -1,6 +1,6 @@
 -- What the step of one key gives: a value to go on from, nothing, or a refusal.
 use denote.Ref.{Bor}
-use Rattle.std.proofs.Common.{◌≡◌, length, Option, Ok, Result, arith, ap, sym, ◌∙◌}
+use Rattle.std.proofs.Common.{Option, Ok, Result, arith, ap, sym, ◌∙◌}
 use Rattle.std.specs.Prelude.{option_map}
 use Rattle.pp_ops.specs.Hashes.{or_else}
 use Rattle.pp_values.specs.declared.value.Value.{Value}

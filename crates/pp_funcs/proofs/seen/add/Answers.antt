@@ -1,5 +1,5 @@
 -- The text's values with one more are put back.
-use Rattle.std.proofs.Common.{◌≡◌, ◌++◌, [], ◌∷◌, map, ap, ◌∙◌}
+use Rattle.std.proofs.Common.{◌++◌, [], ◌∷◌, map, ap, ◌∙◌}
 use Rattle.std.proofs.lemmas.List.{map-append}
 use Rattle.pp_values.specs.Views.{view}
 use Rattle.pp_funcs.proofs.Alike.{added}

@@ -1,5 +1,5 @@
 -- The last byte that is left is white space and goes, or it stays with all before it.
-use Rattle.std.proofs.Common.{◌≡◌, ◌≤◌, ◌<◌, ◌-◌, length, take, get_or, arith, sym, ◌∙◌}
+use Rattle.std.proofs.Common.{arith, sym, ◌∙◌}
 use Rattle.pp_funcs.proofs.Backs.{white_last, other_last, white_is_ascii}
 use Rattle.pp_funcs.proofs.stripping.front_len.Goals as goal
 

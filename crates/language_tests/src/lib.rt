@@ -1,4 +1,4 @@
-//! The tests of what the crates of the language offer to callers: values and data types, operators, tokens, and manifests with their trees.
+//! The tests of what the crates of the language offer to callers: values and data types, operators, functions, tokens, and manifests with their trees.
 #![tactic(auto)]
 
 #[cfg(test)]
@@ -11,6 +11,8 @@ mod declarations;
 mod definitions;
 #[cfg(test)]
 mod forms;
+#[cfg(test)]
+mod functions;
 #[cfg(test)]
 mod hashes;
 #[cfg(test)]

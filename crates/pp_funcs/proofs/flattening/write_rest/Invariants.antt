@@ -1,0 +1,11 @@
+-- What was written, and what the rest adds, is what all of it adds.
+use Rattle.std.proofs.Common.{◌≡◌, ◌++◌, drop, map, string_bytes}
+use Rattle.std.specs.List.{flat_map}
+use Rattle.pp_values.specs.TextOf.{text_of}
+use Rattle.pp_values.specs.Views.{view}
+use Rattle.pp_funcs.proofs.flattening.write_rest.Given as goal
+
+abbrev pub invariant-loop-value : goal.invariant-loop-value
+invariant-loop-value l =
+    string_bytes l.out ++ flat_map (λ d. l.between ++ text_of d) (map (λ v. view v.now) (drop l.value-index l.rest))
+    ≡ string_bytes l.initial.out ++ flat_map (λ d. l.between ++ text_of d) (map (λ v. view v.now) l.rest)

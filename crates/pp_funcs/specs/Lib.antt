@@ -1,0 +1,9 @@
+pub mod Refusals
+pub mod Names
+pub mod Numbers
+pub mod Counts
+pub mod Texts
+pub mod Lists
+pub mod Seen
+pub mod Digging
+pub mod Functions

@@ -4,3 +4,7 @@ pub mod Forms
 pub mod Layers
 pub mod Rules
 pub mod Includes
+pub mod Accepts
+pub mod Names
+pub mod Arguments
+pub mod Refusals

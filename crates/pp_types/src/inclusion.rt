@@ -1,5 +1,5 @@
 //! Whether a data type includes another.
-ghost use Rattle.std.specs.Prelude.{◌≡◌, ◌∷◌, [], ◌+◌, pos, length, option_map};
+ghost use Rattle.std.specs.Prelude.{◌≡◌, ◌||◌, option_map};
 ghost use Rattle.std.specs.Cmp.Lexicographic.{pointwise};
 ghost use Rattle.std.specs.List.{list_all, list_any};
 ghost use Rattle.pp_values.specs.PTypes.{sort};
@@ -7,7 +7,7 @@ ghost use Rattle.pp_types.specs.Forms as f;
 ghost use Rattle.pp_types.specs.Forms.{list_of, data_types};
 ghost use Rattle.pp_types.specs.Includes.{includes, type_includes};
 ghost use Rattle.pp_types.specs.Layers.{choice_forms, seen_form, layer_form, part_form};
-ghost use Rattle.pp_types.specs.Rules.{by_wide, by_narrow, covers, data_covers, entry_covers, title_covers};
+ghost use Rattle.pp_types.specs.Rules.{same, is_any, by_wide, by_narrow, covers, data_covers, entry_covers, title_covers};
 
 use crate::choices::{choice_at, choice_count};
 use crate::data::DataPart;
@@ -31,11 +31,17 @@ pub fn includes(wide: &PType, narrow: &PType) -> bool
 pub fn includes_seen(wide: Seen<'_>, narrow: Seen<'_>) -> bool
     ensures { result ≡ includes (seen_form wide.entry) (seen_form narrow.entry) }
 {
-    if same(wide, narrow) || is_any(wide) {
+    if is_first_case(wide, narrow) {
         true
     } else {
         by_narrow(wide, narrow)
     }
+}
+
+fn is_first_case(wide: Seen<'_>, narrow: Seen<'_>) -> bool
+    ensures { result ≡ (same (seen_form wide.entry) (seen_form narrow.entry) || is_any (seen_form wide.entry)) }
+{
+    same(wide, narrow) || is_any(wide)
 }
 
 /// Past the first case, by the second type where that is a `Variant` or a `NotUndef`.

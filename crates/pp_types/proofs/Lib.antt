@@ -1,7 +1,8 @@
-pub mod Acceptance
+pub mod Cases
+mod Examples
 pub mod Fuel
 pub mod Given
-pub mod Inclusion
-pub mod Kinds
+pub mod Members
 pub mod Places
 pub mod Turns
+pub mod TypeNames

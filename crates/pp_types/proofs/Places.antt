@@ -60,3 +60,13 @@ any_stops p xs i x e h = ap (list_any p) (from_place xs i x e) ∙ ap (λ b. b |
 pub some_accept_undef-list : (ts : Forms) → some_accept_undef ts ≡ list_any accepts_undef (list_of ts)
 some_accept_undef-list no_forms = refl
 some_accept_undef-list (and_form t ts) = ap (λ b. accepts_undef t || b) (some_accept_undef-list ts)
+
+and_false : (b : Bool) → (b && false) ≡ false
+and_false true = refl
+and_false false = refl
+
+pub lengths_differ : (p : Form → Form → Bool) (xs ys : List Form) → (length xs ≡ length ys → ⊥) → pointwise p xs ys ≡ false
+lengths_differ p [] [] h = absurd (h refl)
+lengths_differ p [] (y ∷ ys) h = refl
+lengths_differ p (x ∷ xs) [] h = refl
+lengths_differ p (x ∷ xs) (y ∷ ys) h = ap (λ b. p x y && b) (lengths_differ p xs ys (λ e. h (omega (arith, e)))) ∙ and_false (p x y)

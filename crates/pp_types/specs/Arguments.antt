@@ -1,5 +1,5 @@
 -- The arguments that a type takes; where there are others, it takes none.
-use Rattle.std.specs.Prelude.{ℕ, Bool, false, if◌then◌else◌, int_lt, List, [], ◌∷◌, Option, None, Some, option_map, Result, Ok, Err, codes}
+use Rattle.std.specs.Prelude.{ℕ, ℤ, pos, if◌then◌else◌, int_lt, List, [], ◌∷◌, Option, None, Some, option_map, Result, Ok, Err, codes}
 use Rattle.std.specs.Str.{bytes_eq}
 use Rattle.pp_values.specs.declared.bounds.Bound.{Bound}
 use Rattle.pp_values.specs.declared.bounds.Bound.TheVariants.{Default, Number}
@@ -16,6 +16,7 @@ use Rattle.pp_values.specs.PTypes.{bounds_arguments}
 use Rattle.pp_values.specs.Sort as n
 use Rattle.pp_values.specs.Sort.{Name, Sort, of, Arguments, none, kind, bound, text, texts_arguments, types_arguments}
 use Rattle.pp_values.specs.SortText.{name_text}
+use Rattle.pp_types.specs.Ranges.{lowest, range_from}
 use Rattle.pp_types.specs.Names.{normal_name, type_named}
 
 -- a bound is an integer or `default`
@@ -24,20 +25,27 @@ bound_of (d.int z) = Some (Number z)
 bound_of d.default = Some Default
 bound_of d = None
 
-abbrev pub is_above : Bound → Bound → Bool
-is_above (Number a) (Number b) = int_lt b a
-is_above a b = false
-
 abbrev pub both_bounds : Option Bound → Option Bound → Option Bounds
-both_bounds (Some a) (Some b) = if is_above a b then None else Some (bounds.Both a b)
+both_bounds (Some a) (Some b) = Some (bounds.Both a b)
 both_bounds a b = None
 
--- none, the least alone, or both, of which the least is not above the greatest
-abbrev pub bounds_of : List Datum → Option Bounds
-bounds_of [] = Some bounds.Omitted
-bounds_of (a ∷ []) = option_map bounds.Least (bound_of a)
-bounds_of (a ∷ b ∷ []) = both_bounds (bound_of a) (bound_of b)
-bounds_of ds = None
+-- none, the least alone, or both
+abbrev pub given_bounds : List Datum → Option Bounds
+given_bounds [] = Some bounds.Omitted
+given_bounds (a ∷ []) = option_map bounds.Least (bound_of a)
+given_bounds (a ∷ b ∷ []) = both_bounds (bound_of a) (bound_of b)
+given_bounds ds = None
+
+-- the least is not above the greatest, with what was left out filled in
+abbrev pub in_order : ℤ → Bounds → Option Bounds
+in_order z b = if int_lt (range_from z b).greatest (range_from z b).least then None else Some b
+
+abbrev pub ordered : ℤ → Option Bounds → Option Bounds
+ordered z None = None
+ordered z (Some b) = in_order z b
+
+abbrev pub bounds_of : ℤ → List Datum → Option Bounds
+bounds_of z ds = ordered z (given_bounds ds)
 
 -- the type of a reference's kind and title
 abbrev pub reference_type : Reference → Sort
@@ -83,7 +91,7 @@ before_arguments s xs = None
 -- a type, and bounds on the count
 abbrev pub members_of_type : List Datum → Option Arguments
 members_of_type [] = Some none
-members_of_type (x ∷ xs) = before_arguments (type_of x) (option_map bounds_arguments (bounds_of xs))
+members_of_type (x ∷ xs) = before_arguments (type_of x) (option_map bounds_arguments (bounds_of (pos 0) xs))
 
 -- a type of keys, a type of values, and bounds on the count
 abbrev pub entries_of_type : List Datum → Option Arguments
@@ -96,8 +104,8 @@ one_text normal (x ∷ []) = option_map (λ t. text (normal t) none) (text_of x)
 one_text normal ds = None
 
 abbrev pub arguments : Name → List Datum → Option Arguments
-arguments n.integer ds = option_map bounds_arguments (bounds_of ds)
-arguments n.string ds = option_map bounds_arguments (bounds_of ds)
+arguments n.integer ds = option_map bounds_arguments (bounds_of lowest ds)
+arguments n.string ds = option_map bounds_arguments (bounds_of (pos 0) ds)
 arguments n.enum ds = option_map texts_arguments (all_texts ds)
 arguments n.array ds = members_of_type ds
 arguments n.hash ds = entries_of_type ds

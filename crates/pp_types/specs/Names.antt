@@ -6,27 +6,22 @@ use Rattle.std.specs.Str.{bytes_eq, str_to_ascii_lowercase}
 use Rattle.pp_types.specs.declared.data_type.DataType.{DataType}
 use Rattle.pp_types.specs.declared.data_type.DataType.TheVariants as t
 use Rattle.pp_types.specs.declared.data_type.TheConstants.{DATA_TYPES}
+use Rattle.pp_types.specs.declared.naming.Read.{Read}
+use Rattle.pp_types.specs.declared.naming.Read.TheVariants as read
 use Rattle.pp_values.specs.Sort as n
 use Rattle.pp_values.specs.Sort.{Name}
-
--- what was read last: nothing of a segment, a byte of one, a `-`, or the first of two colons
-pub data Read : Type 0 where
-  nothing : Read
-  word : Read
-  dash : Read
-  colon : Read
 
 abbrev pub is_word : ℕ → Bool
 is_word b = is_ascii_alphanumeric b || b == 95
 
 abbrev pub read_next : Read → ℕ → Option Read
-read_next nothing b = if is_ascii_uppercase b then Some word else None
-read_next word b = if is_word b then Some word else (if b == 45 then Some dash else (if b == 58 then Some colon else None))
-read_next dash b = if is_word b then Some word else None
-read_next colon b = if b == 58 then Some nothing else None
+read_next read.Nothing b = if is_ascii_uppercase b then Some read.Word else None
+read_next read.Word b = if is_word b then Some read.Word else (if b == 45 then Some read.Dash else (if b == 58 then Some read.Colon else None))
+read_next read.Dash b = if is_word b then Some read.Word else None
+read_next read.Colon b = if b == 58 then Some read.Nothing else None
 
 abbrev pub may_end : Read → Bool
-may_end word = true
+may_end read.Word = true
 may_end r = false
 
 abbrev pub is_read : Option Read → List ℕ → Bool
@@ -39,7 +34,7 @@ abbrev pub bare_name : List ℕ → List ℕ
 bare_name t = if bytes_eq (take 2 t) (codes "::") then drop 2 t else t
 
 abbrev pub is_type_name : List ℕ → Bool
-is_type_name t = is_read (Some nothing) (bare_name t)
+is_type_name t = is_read (Some read.Nothing) (bare_name t)
 
 -- what the name is called where it names a kind of resource, or a class
 abbrev pub normal_name : List ℕ → List ℕ

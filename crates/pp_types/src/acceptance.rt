@@ -1,11 +1,12 @@
 //! Which values a data type accepts.
-ghost use Rattle.std.specs.Prelude.{◌≡◌, ◌&&◌};
+ghost use Rattle.std.specs.Prelude.{◌≡◌, ◌&&◌, length, pos};
 ghost use Rattle.std.specs.Cmp.Lexicographic.{pointwise};
 ghost use Rattle.std.specs.List.{list_all, list_any};
 ghost use Rattle.pp_values.specs.PTypes.{sort};
 ghost use Rattle.pp_values.specs.Views.{view, views, pair_views};
 ghost use Rattle.pp_types.specs.Accepts.{accepts, type_accepts, accept_members, is_list, is_integer_within, is_text_of_length, is_text_among, is_list_of, is_hash_of, is_type_within};
 ghost use Rattle.pp_types.specs.Forms.{list_of};
+ghost use Rattle.pp_types.specs.Ranges.{is_in_range};
 ghost use Rattle.pp_types.specs.Layers.{choice_forms, seen_form};
 
 use crate::choices::{choice_at, choice_count};
@@ -15,9 +16,11 @@ use crate::layer::{Choices, Layer, layer_of};
 use crate::lengths::{has_length, is_among};
 use crate::range::Range;
 use crate::seen::Seen;
+use pp_values::pairs::Pairs;
 use pp_values::ptype::PType;
 use pp_values::texts::Texts;
 use pp_values::value::Value;
+use pp_values::values::Values;
 
 /// Whether the data type accepts the value.
 pub fn accepts(kind: &PType, value: &Value) -> bool
@@ -92,9 +95,16 @@ fn is_list_of(of: Seen<'_>, count: Range, value: &Value) -> bool
     ensures { result ≡ is_list_of (accepts (seen_form of.entry)) count (view value.now) }
 {
     match value {
-        Value::List(items) => count.has_count(items.len()) && accepts_all(of, items.as_slice()),
+        Value::List(items) => accepts_items(of, count, items),
         _ => false,
     }
+}
+
+#[cycle(accepts)]
+fn accepts_items(of: Seen<'_>, count: Range, items: &Values) -> bool
+    ensures { result ≡ (is_in_range count (pos (length items.now)) && list_all (accepts (seen_form of.entry)) items.now) }
+{
+    count.has_count(items.len()) && accepts_all(of, items.as_slice())
 }
 
 #[cycle(accepts)]
@@ -114,11 +124,16 @@ fn is_hash_of(key: Seen<'_>, of: Seen<'_>, count: Range, value: &Value) -> bool
     ensures { result ≡ is_hash_of (λ p. accepts (seen_form key.entry) p.0 && accepts (seen_form of.entry) p.1) count (view value.now) }
 {
     match value {
-        Value::Hash(pairs) => {
-            count.has_count(pairs.len()) && accepts_pairs(key, of, pairs.as_slice())
-        }
+        Value::Hash(pairs) => accepts_entries(key, of, count, pairs),
         _ => false,
     }
+}
+
+#[cycle(accepts)]
+fn accepts_entries(key: Seen<'_>, of: Seen<'_>, count: Range, pairs: &Pairs) -> bool
+    ensures { result ≡ (is_in_range count (pos (length pairs.now)) && list_all (λ p. accepts (seen_form key.entry) p.0 && accepts (seen_form of.entry) p.1) pairs.now) }
+{
+    count.has_count(pairs.len()) && accepts_pairs(key, of, pairs.as_slice())
 }
 
 #[cycle(accepts)]

@@ -1,13 +1,14 @@
 //! The arguments that types take.
-ghost use Rattle.std.specs.Prelude.{◌≡◌, IfOk, Some};
+ghost use Rattle.std.specs.Prelude.{◌≡◌, IfOk};
 ghost use Rattle.pp_values.specs.PTypes.{sort, member_arguments, entry_arguments, text_argument, type_argument};
 ghost use Rattle.pp_values.specs.Views.{view, views};
-ghost use Rattle.pp_types.specs.Arguments.{bound_of, both_bounds, bounds_of, reference_type, type_of, text_of, all_types, all_texts, one_type, members_of_type, entries_of_type, one_text, no_arguments};
+ghost use Rattle.pp_types.specs.Arguments.{bound_of, given_bounds, in_order, bounds_of, reference_type, type_of, text_of, all_types, all_texts, one_type, members_of_type, entries_of_type, one_text, no_arguments};
 ghost use Rattle.pp_values.specs.Sort.{none};
 ghost use Rattle.pp_types.specs.Names as names;
 ghost use Rattle.pp_types.specs.Refusals.{Gives};
 
 use crate::naming::normal_name;
+use crate::range::from_bounds;
 use crate::refusal::Halt;
 use pp_values::bounds::{Bound, Bounds};
 use pp_values::memory::Memory;
@@ -30,23 +31,8 @@ fn bound_of(value: &Value) -> Option<Bound>
     }
 }
 
-fn both_bounds(least: Bound, greatest: Bound) -> Option<Bounds>
-    ensures { result ≡ both_bounds (Some least) (Some greatest) }
-{
-    match (least, greatest) {
-        (Bound::Number(a), Bound::Number(b)) => {
-            if a > b {
-                None
-            } else {
-                Some(Bounds::Both(least, greatest))
-            }
-        }
-        _ => Some(Bounds::Both(least, greatest)),
-    }
-}
-
 fn given_bounds(args: &[Value]) -> Option<Bounds>
-    ensures { result ≡ bounds_of (views args.now) }
+    ensures { result ≡ given_bounds (views args.now) }
 {
     match args {
         [] => Some(Bounds::Omitted),
@@ -54,18 +40,33 @@ fn given_bounds(args: &[Value]) -> Option<Bounds>
         [least, greatest] => {
             let least = bound_of(least)?;
             let greatest = bound_of(greatest)?;
-            both_bounds(least, greatest)
+            Some(Bounds::Both(least, greatest))
         }
         _ => None,
     }
 }
 
-/// The bounds: none, the least alone, or both, of which the least is not above the greatest.
-pub fn bounds(args: &[Value]) -> Result<Bounds, Halt>
-    ensures { Gives (λ b. b) result (bounds_of (views args.now)) }
+fn in_order(lowest: i64, bounds: Bounds) -> Option<Bounds>
+    ensures { result ≡ in_order lowest bounds }
+{
+    let range = from_bounds(lowest, bounds);
+    if range.greatest < range.least {
+        None
+    } else {
+        Some(bounds)
+    }
+}
+
+/// The bounds: none, the least alone, or both. Where the least is left out it is the lowest, and where it is above the
+/// greatest, the bounds are refused.
+pub fn bounds(lowest: i64, args: &[Value]) -> Result<Bounds, Halt>
+    ensures { Gives (λ b. b) result (bounds_of lowest (views args.now)) }
 {
     match given_bounds(args) {
-        Some(bounds) => Ok(bounds),
+        Some(bounds) => match in_order(lowest, bounds) {
+            Some(bounds) => Ok(bounds),
+            None => Err(Halt::Refused),
+        },
         None => Err(Halt::Refused),
     }
 }
@@ -148,7 +149,7 @@ pub fn members(alloc: Global, args: &[Value]) -> Result<Option<MemberType>, Halt
     match args {
         [] => Ok(None),
         [value, rest @ ..] => {
-            let count = bounds(rest)?;
+            let count = bounds(0, rest)?;
             let of = boxed_type(alloc, value)?;
             Ok(Some(MemberType { of, count }))
         }

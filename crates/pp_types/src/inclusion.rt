@@ -1,5 +1,5 @@
 //! Whether a data type includes another.
-ghost use Rattle.std.specs.Prelude.{◌≡◌, ◌||◌, option_map};
+ghost use Rattle.std.specs.Prelude.{◌≡◌, ◌||◌, ◌&&◌, length, option_map, pos};
 ghost use Rattle.std.specs.Cmp.Lexicographic.{pointwise};
 ghost use Rattle.std.specs.List.{list_all, list_any};
 ghost use Rattle.pp_values.specs.PTypes.{sort};
@@ -7,6 +7,7 @@ ghost use Rattle.pp_types.specs.Forms as f;
 ghost use Rattle.pp_types.specs.Forms.{list_of, data_types};
 ghost use Rattle.pp_types.specs.Includes.{includes, type_includes};
 ghost use Rattle.pp_types.specs.Layers.{choice_forms, seen_form, layer_form, part_form};
+ghost use Rattle.pp_types.specs.Ranges.{any_count, is_in_range, is_within};
 ghost use Rattle.pp_types.specs.Rules.{same, is_any, by_wide, by_narrow, covers, data_covers, entry_covers, title_covers};
 
 use crate::choices::{choice_at, choice_count};
@@ -62,11 +63,12 @@ fn by_narrow(wide: Seen<'_>, narrow: Seen<'_>) -> bool
 fn by_wide(wide: Seen<'_>, narrow: Seen<'_>) -> bool
     ensures { result ≡ by_wide includes (seen_form wide.entry) (seen_form narrow.entry) }
 {
-    match layer_of(wide) {
+    let layer = layer_of(wide);
+    match layer {
         Layer::Variant(choices) => some_includes(choices, narrow),
         Layer::NotUndef(inner) => includes_seen(inner, narrow) && !accepts_undef(narrow),
         Layer::Data => data_covers(narrow),
-        layer => covers(layer, layer_of(narrow)),
+        _ => covers(layer, layer_of(narrow)),
     }
 }
 
@@ -141,11 +143,17 @@ fn array_covers(of: Seen<'_>, count: Range, narrow: Layer<'_>) -> bool
 {
     match narrow {
         Layer::Array(other, range) => count.covers(range) && includes_seen(of, other),
-        Layer::Tuple(types) => {
-            count.has_count(types.len()) && includes_each(of, Choices::Given(types))
-        }
+        Layer::Tuple(types) => tuple_is_within(of, count, Choices::Given(types)),
         _ => false,
     }
+}
+
+/// As many types as the counts allow, each included in the type of members.
+#[cycle(includes)]
+fn tuple_is_within(of: Seen<'_>, count: Range, types: Choices<'_>) -> bool
+    ensures { result ≡ (is_in_range count (pos (length (list_of (choice_forms types.entry)))) && list_all (includes (seen_form of.entry)) (list_of (choice_forms types.entry))) }
+{
+    count.has_count(choice_count(types)) && includes_each(of, types)
 }
 
 /// As many types on both sides, each included in its place.
@@ -239,19 +247,31 @@ fn includes_part(wide: Seen<'_>, part: DataPart) -> bool
         Layer::Variant(choices) => some_includes_part(choices, part),
         Layer::NotUndef(inner) => includes_part(inner, part),
         Layer::Array(of, count) => match part {
-            DataPart::Array => count.covers(Range::COUNTS) && includes_seen(of, Seen::Data),
+            DataPart::Array => has_arrays_of_data(of, count),
             DataPart::Hash => false,
         },
         Layer::Hash(key, value, count) => match part {
             DataPart::Array => false,
-            DataPart::Hash => {
-                count.covers(Range::COUNTS)
-                    && includes_seen(key, Seen::String)
-                    && includes_seen(value, Seen::Data)
-            }
+            DataPart::Hash => has_hashes_of_data(key, value, count),
         },
         _ => false,
     }
+}
+
+#[cycle(includes)]
+fn has_arrays_of_data(of: Seen<'_>, count: Range) -> bool
+    ensures { result ≡ (is_within count any_count && includes (seen_form of.entry) f.data_) }
+{
+    count.covers(Range::COUNTS) && includes_seen(of, Seen::Data)
+}
+
+#[cycle(includes)]
+fn has_hashes_of_data(key: Seen<'_>, value: Seen<'_>, count: Range) -> bool
+    ensures { result ≡ (is_within count any_count && (includes (seen_form key.entry) (f.string any_count) && includes (seen_form value.entry) f.data_)) }
+{
+    count.covers(Range::COUNTS)
+        && includes_seen(key, Seen::String)
+        && includes_seen(value, Seen::Data)
 }
 
 /// Whether some type as which `Data` counts is of this kind and includes the type.
@@ -271,10 +291,7 @@ fn data_covers(narrow: Seen<'_>) -> bool
                 && includes_seen(Seen::String, key)
                 && includes_seen(Seen::Data, value)
         }
-        Layer::Tuple(types) => {
-            Range::COUNTS.has_count(types.len())
-                && includes_each(Seen::Data, Choices::Given(types))
-        }
+        Layer::Tuple(types) => tuple_is_within(Seen::Data, Range::COUNTS, Choices::Given(types)),
         _ => false,
     }
 }

@@ -21,3 +21,4 @@ pub mod undef;
 pub use acceptance::accepts;
 pub use inclusion::includes;
 pub use making::kind_of;
+pub use naming::is_type_name;

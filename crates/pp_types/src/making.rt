@@ -80,8 +80,8 @@ fn made(alloc: Global, data_type: DataType, args: &[Value]) -> Result<PType, Hal
     ensures { Gives sort result (made (name_of data_type) (views args.now)) }
 {
     match data_type {
-        DataType::Integer => Ok(PType::Integer(bounds(args)?)),
-        DataType::String => Ok(PType::String(bounds(args)?)),
+        DataType::Integer => Ok(PType::Integer(bounds(i64::MIN, args)?)),
+        DataType::String => Ok(PType::String(bounds(0, args)?)),
         DataType::Enum => Ok(PType::Enum(texts(alloc, args)?)),
         DataType::Array => Ok(PType::Array(members(alloc, args)?)),
         DataType::Hash => Ok(PType::Hash(entries(alloc, args)?)),

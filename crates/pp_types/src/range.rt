@@ -66,7 +66,8 @@ impl Range {
     }
 }
 
-fn from_bounds(lowest: i64, bounds: Bounds) -> Range
+/// The bounds with what was left out filled in: the lowest, and the greatest integer of 64 bits.
+pub fn from_bounds(lowest: i64, bounds: Bounds) -> Range
     ensures { result ≡ range_from lowest bounds }
 {
     match bounds {

@@ -1,10 +1,11 @@
 -- Lists of types and values, gone through by place.
 use Rattle.std.proofs.Common.{◌≡◌, arith, sym, ◌∙◌, ap, subst}
 use Rattle.pp_values.specs.Views.{view}
+use Rattle.pp_values.proofs.Lists.{members_of-data_of, pairs_of-entries_of}
 use Rattle.pp_types.specs.Accepts.{accepts}
 use Rattle.pp_types.specs.Forms.{list_of}
 use Rattle.pp_types.specs.Layers.{choice_forms}
-use Rattle.pp_types.proofs.Acceptance.{some_accept-list, accept_members-lists, member_goes_on, member_stops}
+use Rattle.pp_types.proofs.Members.{some_accept-list, accept_members-lists, member_goes_on, member_stops}
 use Rattle.pp_types.proofs.Places.{size_at, any_goes_on, any_stops}
 use Rattle.pp_types.proofs.acceptance.+accepts.Goals as goal
 
@@ -37,3 +38,18 @@ pub accepts_members-loop-place-preserved : goal.accepts_members-loop-place-prese
 accepts_members-loop-place-preserved t c =
     c.loop-place.invariant ∙ member_goes_on (list_of (choice_forms c.args.types)) c.args.items.now c.loop-place.place _ _
     c.choice_at.ensures (omega (arith, c.loop-place-test.true)) c.index-items-place.is (sym c.accepts_seen.ensures ∙ c.if-not-accepts_seen.false)
+
+pub accepts_list-returns-in-List : goal.accepts_list-returns-in-List
+accepts_list-returns-in-List t c =
+    rw (
+      c.in-List.is,
+      members_of-data_of c.in-List.items,
+      accept_members-lists (choice_forms c.args.types) c.in-List.items,
+      ← c.as_slice.ensures,
+    ) c.accepts_members.ensures
+
+pub is_list_of-returns-in-List : goal.is_list_of-returns-in-List
+is_list_of-returns-in-List t c = rw (c.in-List.is, members_of-data_of c.in-List.items) c.accepts_items.ensures
+
+pub is_hash_of-returns-in-Hash : goal.is_hash_of-returns-in-Hash
+is_hash_of-returns-in-Hash t c = rw (c.in-Hash.is, pairs_of-entries_of c.in-Hash.pairs) c.accepts_entries.ensures

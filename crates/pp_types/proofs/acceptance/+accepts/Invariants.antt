@@ -13,13 +13,19 @@ abbrev pub decreases-accepts_seen : goal.decreases-accepts_seen
 decreases-accepts_seen l = 4 * form_size (seen_form l.seen)
 
 abbrev pub decreases-is_list_of : goal.decreases-is_list_of
-decreases-is_list_of l = 4 * form_size (seen_form l.of) + 2
+decreases-is_list_of l = 4 * form_size (seen_form l.of) + 3
+
+abbrev pub decreases-accepts_items : goal.decreases-accepts_items
+decreases-accepts_items l = 4 * form_size (seen_form l.of) + 2
 
 abbrev pub decreases-accepts_all : goal.decreases-accepts_all
 decreases-accepts_all l = 4 * form_size (seen_form l.of) + 1
 
 abbrev pub decreases-is_hash_of : goal.decreases-is_hash_of
-decreases-is_hash_of l = 4 * (form_size (seen_form l.key) + form_size (seen_form l.of)) + 2
+decreases-is_hash_of l = 4 * (form_size (seen_form l.key) + form_size (seen_form l.of)) + 3
+
+abbrev pub decreases-accepts_entries : goal.decreases-accepts_entries
+decreases-accepts_entries l = 4 * (form_size (seen_form l.key) + form_size (seen_form l.of)) + 2
 
 abbrev pub decreases-accepts_pairs : goal.decreases-accepts_pairs
 decreases-accepts_pairs l = 4 * (form_size (seen_form l.key) + form_size (seen_form l.of)) + 1

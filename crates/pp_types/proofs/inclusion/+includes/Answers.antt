@@ -2,9 +2,10 @@
 use Rattle.std.proofs.Common.{◌≡◌, arith, sym, ◌∙◌, ap}
 use Rattle.pp_types.specs.Forms.{list_of}
 use Rattle.pp_types.specs.Includes.{includes}
-use Rattle.pp_types.specs.Layers.{seen_form, choice_forms, part_form}
-use Rattle.pp_types.proofs.Inclusion.{includes-first, includes-past}
-use Rattle.pp_types.proofs.Places.{size_at, pair_goes_on, pair_stops, all_goes_on, all_stops, any_goes_on, any_stops}
+use Rattle.pp_types.specs.Layers.{seen_form, layer_form, choice_forms, part_form}
+use Rattle.pp_types.specs.Rules.{covers, by_wide}
+use Rattle.pp_types.proofs.Cases.{includes-first, includes-past, wide_other, data_data, part_any, part_data, part_variant, part_not_undef, part_array, part_hash, part_array_hash, part_hash_array, part_other}
+use Rattle.pp_types.proofs.Places.{size_at, pair_goes_on, pair_stops, all_goes_on, all_stops, any_goes_on, any_stops, lengths_differ}
 use Rattle.pp_types.proofs.inclusion.+includes.Goals as goal
 
 pub includes_seen-returns-then-is_first_case : goal.includes_seen-returns-then-is_first_case
@@ -68,3 +69,56 @@ pub in_places-loop-place-preserved : goal.in_places-loop-place-preserved
 in_places-loop-place-preserved t c =
     c.loop-place.invariant ∙ pair_goes_on includes (list_of (choice_forms c.args.wide)) (list_of (choice_forms c.args.narrow)) c.loop-place.place _ _
     c.choice_at.ensures c.choice_at-in-loop-place.ensures (sym c.includes_seen.ensures ∙ c.if-not-includes_seen.false)
+
+pub in_places-returns-then-choice_count-count : goal.in_places-returns-then-choice_count-count
+in_places-returns-then-choice_count-count t c =
+    sym (lengths_differ includes (list_of (choice_forms c.args.wide)) (list_of (choice_forms c.args.narrow))
+    (λ e. omega (arith, e, c.if-choice_count-count.true, c.choice_count.ensures, c.choice_count-count.ensures)))
+
+pub by_wide-returns-in_default : goal.by_wide-returns-in_default
+by_wide-returns-in_default t c =
+    c.covers.ensures
+    ∙ (λ i. covers includes (layer_form c.layer_of-layer.result) (c.layer_of.ensures i))
+    ∙ wide_other c.layer_of-layer.result (seen_form c.args.narrow) c.in_default.not-Variant c.in_default.not-NotUndef c.in_default.not-Data
+    ∙ (λ i. by_wide includes (c.layer_of-layer.ensures i) (seen_form c.args.narrow))
+
+pub includes_data-returns-in-Data : goal.includes_data-returns-in-Data
+includes_data-returns-in-Data t c = rw (← c.in-Data.ensures) (sym data_data)
+
+pub includes_part-returns-in-Any : goal.includes_part-returns-in-Any
+includes_part-returns-in-Any t c = rw (← c.in-Any.ensures) (sym (part_any c.args.part))
+
+pub includes_part-returns-in-Data : goal.includes_part-returns-in-Data
+includes_part-returns-in-Data t c = rw (← c.in-Data.ensures) (sym (part_data c.args.part))
+
+pub includes_part-returns-in-Variant : goal.includes_part-returns-in-Variant
+includes_part-returns-in-Variant t c =
+    rw (← c.in-Variant.ensures) (c.some_includes_part.ensures ∙ sym (part_variant c.args.part (choice_forms c.in-Variant.choices)))
+
+pub includes_part-returns-in-NotUndef : goal.includes_part-returns-in-NotUndef
+includes_part-returns-in-NotUndef t c =
+    rw (← c.in-NotUndef.ensures) (c.includes_part.ensures ∙ sym (part_not_undef c.args.part (seen_form c.in-NotUndef.inner)))
+
+pub includes_part-returns-in-Array-part : goal.includes_part-returns-in-Array-part
+includes_part-returns-in-Array-part t c =
+    rw (← c.in-Array.ensures, c.in-Array-part.is)
+    (c.has_arrays_of_data.ensures ∙ sym (part_array (seen_form c.in-Array.of) c.in-Array.count))
+
+pub includes_part-returns-in-Hash-part : goal.includes_part-returns-in-Hash-part
+includes_part-returns-in-Hash-part t c =
+    rw (← c.in-Array.ensures, c.in-Hash-part.is) (sym (part_array_hash (seen_form c.in-Array.of) c.in-Array.count))
+
+pub includes_part-returns-in-Array-part-2 : goal.includes_part-returns-in-Array-part-2
+includes_part-returns-in-Array-part-2 t c =
+    rw (← c.in-Hash.ensures, c.in-Array-part-2.is)
+    (sym (part_hash_array (seen_form c.in-Hash.key) (seen_form c.in-Hash.value) c.in-Hash.count))
+
+pub includes_part-returns-in-Hash-part-2 : goal.includes_part-returns-in-Hash-part-2
+includes_part-returns-in-Hash-part-2 t c =
+    rw (← c.in-Hash.ensures, c.in-Hash-part-2.is)
+    (c.has_hashes_of_data.ensures ∙ sym (part_hash (seen_form c.in-Hash.key) (seen_form c.in-Hash.value) c.in-Hash.count))
+
+pub includes_part-returns-in_default : goal.includes_part-returns-in_default
+includes_part-returns-in_default t c =
+    sym (part_other c.args.part c.layer_of.result c.in_default.not-Any c.in_default.not-Data c.in_default.not-Variant c.in_default.not-NotUndef
+    c.in_default.not-Array c.in_default.not-Hash) ∙ (λ i. includes (c.layer_of.ensures i) (part_form c.args.part))

@@ -32,6 +32,15 @@ decreases-includes_data l = 8 * (4 * form_size (seen_form l.wide) + 1) + 4
 abbrev pub decreases-includes_part : goal.decreases-includes_part
 decreases-includes_part l = 8 * (4 * form_size (seen_form l.wide) + 3)
 
+abbrev pub decreases-has_arrays_of_data : goal.decreases-has_arrays_of_data
+decreases-has_arrays_of_data l = 8 * (4 * (form_size (seen_form l.of) + 1) + 2) + 7
+
+abbrev pub decreases-has_hashes_of_data : goal.decreases-has_hashes_of_data
+decreases-has_hashes_of_data l = 8 * (4 * (form_size (seen_form l.key) + form_size (seen_form l.value) + 1) + 2) + 7
+
+abbrev pub decreases-tuple_is_within : goal.decreases-tuple_is_within
+decreases-tuple_is_within l = 8 * (4 * form_size (seen_form l.of) + forms_size (choice_forms l.types) + 1)
+
 abbrev pub decreases-includes_each : goal.decreases-includes_each
 decreases-includes_each l = 8 * (4 * form_size (seen_form l.wide) + forms_size (choice_forms l.choices)) + 7
 

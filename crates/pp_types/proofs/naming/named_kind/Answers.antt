@@ -1,7 +1,7 @@
 -- The name in lower case is that of a kind.
 use Rattle.std.proofs.Common.{IsTrue, subst, sym}
 use Rattle.pp_values.specs.Kinds.{is_kind}
-use Rattle.pp_types.proofs.Kinds.{type_names_kind}
+use Rattle.pp_types.proofs.TypeNames.{type_names_kind}
 use Rattle.pp_types.proofs.naming.named_kind.Goals as goal
 
 pub new-requires : goal.new-requires

@@ -2,7 +2,7 @@
 use Rattle.std.proofs.Common.{◌≡◌, Bool, true, false, ◌&&◌, ◌||◌, not, List, [], ◌∷◌, refl, ap, sym, ◌∙◌, subst, arith, pos, int_lt}
 use Rattle.std.specs.List.{list_all, list_any}
 use Rattle.std.specs.Ordering.{int_eq}
-use Rattle.std.proofs.lemmas.Bool.Decides.{Decides-int_eq, when_true}
+use Rattle.std.proofs.lemmas.Bool.Decides.{Decides-int_eq}
 use Rattle.pp_types.specs.declared.data.DataPart.{DataPart}
 use Rattle.pp_types.specs.declared.data.DataPart.TheVariants as part
 use Rattle.pp_types.specs.declared.layer.Choices.{Choices}
@@ -97,8 +97,10 @@ joined a b h k = λ i. h i && k i
 same_within : (r : Range) → same_range r any_count ≡ true → is_within r any_count ≡ true
 same_within r h =
     let parts = both (int_eq r.least (pos 0)) (int_eq r.greatest highest) h in
-    let least : r.least ≡ pos 0 = when_true (r.least ≡ pos 0) (r.least ≡ pos 0 → ⊥) parts.0 (Decides-int_eq r.least (pos 0)) in
-    let greatest : r.greatest ≡ highest = when_true (r.greatest ≡ highest) (r.greatest ≡ highest → ⊥) parts.1 (Decides-int_eq r.greatest highest) in
+    let tells_least = Decides-int_eq r.least (pos 0) in
+    let tells_greatest = Decides-int_eq r.greatest highest in
+    let least : r.least ≡ pos 0 = tells_least.0 parts.0 in
+    let greatest : r.greatest ≡ highest = tells_greatest.0 parts.1 in
     let whole : is_within r any_count ≡ is_within any_count any_count =
     λ i. not (int_lt (pos 0) (least i)) && not (int_lt (greatest i) highest) in
     whole

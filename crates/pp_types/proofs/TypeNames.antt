@@ -4,13 +4,15 @@ use Rattle.std.specs.Prelude.{is_some}
 use Rattle.std.specs.Char.{to_ascii_lowercase, is_ascii_uppercase}
 use Rattle.std.specs.List.{list_all}
 use Rattle.pp_values.specs.Kinds.{is_kind, is_kind_byte}
-use Rattle.pp_types.specs.Names.{Read, nothing, word, dash, colon, read_next, is_read, is_word, may_end, bare_name, is_type_name, normal_name}
+use Rattle.pp_types.specs.declared.naming.Read.{Read}
+use Rattle.pp_types.specs.declared.naming.Read.TheVariants as read
+use Rattle.pp_types.specs.Names.{read_next, is_read, is_word, may_end, bare_name, is_type_name, normal_name}
 
 bracket : (r : Read) → is_some (read_next r 91) ≡ false
-bracket nothing = refl
-bracket word = refl
-bracket dash = refl
-bracket colon = refl
+bracket read.Nothing = refl
+bracket read.Word = refl
+bracket read.Dash = refl
+bracket read.Colon = refl
 
 no_bracket : (r : Read) (b : ℕ) → is_some (read_next r b) ≡ true → (b ≡ 91 → ⊥)
 no_bracket r b h e = let no : is_some (read_next r b) ≡ false = ap (λ x. is_some (read_next r x)) e ∙ bracket r in let yes = h in absurd (grind (arith, no, yes))
@@ -32,9 +34,9 @@ kind_bytes (Some r) (b ∷ bs) h =
     joined (is_kind_byte (to_ascii_lowercase b)) (list_all is_kind_byte (map to_ascii_lowercase bs))
     (lower_ok b (no_bracket r b (taken (read_next r b) bs h))) (kind_bytes (read_next r b) bs h)
 
-named : (t : List ℕ) → is_read (Some nothing) t ≡ true → is_kind (map to_ascii_lowercase t) ≡ true
+named : (t : List ℕ) → is_read (Some read.Nothing) t ≡ true → is_kind (map to_ascii_lowercase t) ≡ true
 named [] h = absurd cc
-named (b ∷ bs) h = kind_bytes (Some nothing) (b ∷ bs) h
+named (b ∷ bs) h = kind_bytes (Some read.Nothing) (b ∷ bs) h
 
 pub type_names_kind : (t : List ℕ) → IsTrue (is_type_name t) → IsTrue (is_kind (normal_name t))
 type_names_kind t h = named (bare_name t) h

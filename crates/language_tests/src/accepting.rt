@@ -101,7 +101,7 @@ fn makes(alloc: Global, name: &str, args: &[Given], want: &str) -> Result<bool, 
     match made(alloc, name, &args)? {
         Ok(ptype) => prints_as(alloc, type_value(alloc, ptype)?, want),
         Err(Stop::Memory) => Err(Memory),
-        Err(Stop::Fault(fault)) => Ok(is_wrong(fault.what.as_ref(), want) && fault.at.line == 3),
+        Err(Stop::Fault(fault)) => Ok(is_wrong(fault.what.get(), want) && fault.at.line == 3),
     }
 }
 

@@ -102,8 +102,10 @@ is_data t = inr (λ e. cc)
 rules_agree : (f g : Test) (w n : Form) → ((v m : Form) → weight v m < weight w n → f v m ≡ g v m) → by_rules f w n ≡ by_rules g w n
 rules_agree f g data_ data_ h = refl
 rules_agree f g data_ n h =
-    elim (is_data n) [ inl e ↦ subst (λ m. by_rules f data_ m ≡ by_rules g data_ m) (sym e) refl
-    | inr other ↦ past_first_agree (same data_ n || is_any data_) f g data_ n (data_narrow_agree f g n other h) ]
+    elim (is_data n) [
+      | inl e ↦ subst (λ m. by_rules f data_ m ≡ by_rules g data_ m) (sym e) refl
+      | inr other ↦ past_first_agree (same data_ n || is_any data_) f g data_ n (data_narrow_agree f g n other h)
+    ]
 rules_agree f g w n h = past_first_agree (same w n || is_any w) f g w n (narrow_agree f g w n (λ e. cc) h)
 
 enough : (j k : ℕ) (w n : Form) → weight w n < j → weight w n < k → includes_within j w n ≡ includes_within k w n

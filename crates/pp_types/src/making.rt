@@ -10,7 +10,9 @@ ghost use Rattle.pp_types.specs.Arguments.{kind_of, made, or_wrong};
 ghost use Rattle.pp_types.specs.Names.{is_type_name, name_of, normal_name};
 ghost use Rattle.pp_types.specs.Refusals.{Gives, said};
 
-use crate::arguments::{bounds, class_name, entries, members, nothing, one_type, texts, title, types};
+use crate::arguments::{
+    bounds, class_name, entries, members, nothing, one_type, texts, title, types,
+};
 use crate::data_type::{DataType, data_type_named};
 use crate::naming::{bare_name, named_kind};
 use crate::refusal::Halt;
@@ -37,7 +39,12 @@ pub fn kind_of(alloc: Global, name: &Text, args: &Values, at: &Place) -> Result<
     }
 }
 
-fn data_type_of(alloc: Global, data_type: DataType, args: &[Value], at: &Place) -> Result<PType, Stop>
+fn data_type_of(
+    alloc: Global,
+    data_type: DataType,
+    args: &[Value],
+    at: &Place,
+) -> Result<PType, Stop>
     ensures { Answers (said result) (or_wrong (name_of data_type) at.now (made (name_of data_type) (views args.now))) }
 {
     match made(alloc, data_type, args) {

@@ -21,8 +21,8 @@ same-returns-in-Tuple-other t c =
       ← c.in-Tuple.ensures,
       ← c.in-Tuple-other.ensures,
       same_forms-lists
-      (choice_forms (choices.Given c.in-Tuple.types))
-      (choice_forms (choices.Given c.in-Tuple-other.other)),
+          (choice_forms (choices.Given c.in-Tuple.types))
+          (choice_forms (choices.Given c.in-Tuple-other.other)),
     ) c.same_choices-in-Tuple-other.ensures
 
 pub same_choices-same-requires : goal.same_choices-same-requires

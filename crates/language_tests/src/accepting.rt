@@ -114,26 +114,51 @@ fn is_wrong(what: &What, want: &str) -> bool {
 
 const MADE: [(&str, &[Given], &str); 24] = [
     ("Integer", &[Given::Int(1), Given::Int(2)], "Integer[1, 2]"),
-    ("::Integer", &[Given::Default, Given::Int(2)], "Integer[default, 2]"),
+    (
+        "::Integer",
+        &[Given::Default, Given::Int(2)],
+        "Integer[default, 2]",
+    ),
     ("Integer", &[Given::Int(2), Given::Int(1)], "F7 Integer"),
     ("Integer", &[Given::Text("a")], "F7 Integer"),
     ("String", &[Given::Int(-1)], "String[-1]"),
     ("String", &[Given::Type("String")], "F7 String"),
-    ("Enum", &[Given::Text("a"), Given::Text("b")], "Enum['a', 'b']"),
+    (
+        "Enum",
+        &[Given::Text("a"), Given::Text("b")],
+        "Enum['a', 'b']",
+    ),
     ("Any", &[], "Any"),
     ("Data", &[Given::Int(1)], "F7 Data"),
-    ("Array", &[Given::Type("Data"), Given::Int(1)], "Array[Data, 1]"),
+    (
+        "Array",
+        &[Given::Type("Data"), Given::Int(1)],
+        "Array[Data, 1]",
+    ),
     ("Array", &[Given::Int(1)], "F7 Array"),
     ("Hash", &[Given::Type("String")], "Hash[String]"),
     (
         "Hash",
-        &[Given::Type("String"), Given::Type("Any"), Given::Int(0), Given::Int(9)],
+        &[
+            Given::Type("String"),
+            Given::Type("Any"),
+            Given::Int(0),
+            Given::Int(9),
+        ],
         "Hash[String, Any, 0, 9]",
     ),
     ("Optional", &[Given::Type("Integer")], "Optional[Integer]"),
-    ("Variant", &[Given::Type("Integer"), Given::File("/x")], "Variant[Integer, File['/x']]"),
+    (
+        "Variant",
+        &[Given::Type("Integer"), Given::File("/x")],
+        "Variant[Integer, File['/x']]",
+    ),
     ("NotUndef", &[Given::Undef], "F7 NotUndef"),
-    ("Tuple", &[Given::Type("Integer"), Given::Type("Any")], "Tuple[Integer, Any]"),
+    (
+        "Tuple",
+        &[Given::Type("Integer"), Given::Type("Any")],
+        "Tuple[Integer, Any]",
+    ),
     ("Type", &[Given::File("/x")], "Type[File['/x']]"),
     ("Class", &[Given::Text("::Foo")], "Class['foo']"),
     ("Resource", &[Given::Text("a")], "F7 Resource"),
@@ -161,9 +186,24 @@ fn takes(alloc: Global, name: &str, args: &[Given], given: Given) -> Result<bool
 const TAKEN: [(&str, &[Given], Given, bool); 21] = [
     ("Any", &[], Given::Undef, true),
     ("Undef", &[], Given::Flag, false),
-    ("Integer", &[Given::Int(1), Given::Int(5)], Given::Int(5), true),
-    ("Integer", &[Given::Int(1), Given::Int(5)], Given::Int(6), false),
-    ("String", &[Given::Int(1), Given::Int(1)], Given::Text("\u{e9}"), true),
+    (
+        "Integer",
+        &[Given::Int(1), Given::Int(5)],
+        Given::Int(5),
+        true,
+    ),
+    (
+        "Integer",
+        &[Given::Int(1), Given::Int(5)],
+        Given::Int(6),
+        false,
+    ),
+    (
+        "String",
+        &[Given::Int(1), Given::Int(1)],
+        Given::Text("\u{e9}"),
+        true,
+    ),
     ("String", &[Given::Int(2)], Given::Text("\u{e9}"), false),
     ("Enum", &[Given::Text("a")], Given::Text("a"), true),
     ("Enum", &[Given::Text("a")], Given::Text("A"), false),
@@ -171,12 +211,32 @@ const TAKEN: [(&str, &[Given], Given, bool); 21] = [
     ("Data", &[], Given::List("a"), true),
     ("Data", &[], Given::Default, false),
     ("Array", &[Given::Type("Integer")], Given::List("a"), false),
-    ("Array", &[Given::Type("Scalar"), Given::Int(1), Given::Int(2)], Given::List("a"), true),
-    ("Hash", &[Given::Type("String"), Given::Type("Integer")], Given::Hash("a"), true),
+    (
+        "Array",
+        &[Given::Type("Scalar"), Given::Int(1), Given::Int(2)],
+        Given::List("a"),
+        true,
+    ),
+    (
+        "Hash",
+        &[Given::Type("String"), Given::Type("Integer")],
+        Given::Hash("a"),
+        true,
+    ),
     ("Optional", &[Given::Type("Integer")], Given::Undef, true),
     ("NotUndef", &[], Given::Undef, false),
-    ("Variant", &[Given::Type("Integer"), Given::Type("Undef")], Given::Text("a"), false),
-    ("Tuple", &[Given::Type("Integer"), Given::Type("String")], Given::List("a"), true),
+    (
+        "Variant",
+        &[Given::Type("Integer"), Given::Type("Undef")],
+        Given::Text("a"),
+        false,
+    ),
+    (
+        "Tuple",
+        &[Given::Type("Integer"), Given::Type("String")],
+        Given::List("a"),
+        true,
+    ),
     ("Type", &[Given::Type("Resource")], Given::File("/x"), true),
     ("Type", &[Given::Type("Class")], Given::File("/x"), false),
     ("File", &[], Given::File("/x"), false),
@@ -210,13 +270,43 @@ const COVERED: [(&str, &[Given], &str, &[Given], bool); 17] = [
     ("Data", &[], "Array", &[], false),
     ("Data", &[], "Data", &[], true),
     ("Integer", &[], "NotUndef", &[Given::Type("Integer")], true),
-    ("NotUndef", &[Given::Type("Integer")], "Optional", &[Given::Type("Integer")], false),
+    (
+        "NotUndef",
+        &[Given::Type("Integer")],
+        "Optional",
+        &[Given::Type("Integer")],
+        false,
+    ),
     ("Optional", &[Given::Type("Data")], "Data", &[], true),
-    ("Integer", &[Given::Int(1)], "Integer", &[Given::Int(2), Given::Int(3)], true),
-    ("String", &[Given::Int(1), Given::Int(1)], "Enum", &[Given::Text("a"), Given::Text("bb")], false),
+    (
+        "Integer",
+        &[Given::Int(1)],
+        "Integer",
+        &[Given::Int(2), Given::Int(3)],
+        true,
+    ),
+    (
+        "String",
+        &[Given::Int(1), Given::Int(1)],
+        "Enum",
+        &[Given::Text("a"), Given::Text("bb")],
+        false,
+    ),
     ("Collection", &[], "Tuple", &[Given::Type("Integer")], true),
-    ("Hash", &[Given::Type("String")], "Hash", &[Given::Type("String"), Given::Type("Any")], true),
-    ("Type", &[Given::Type("Scalar")], "Type", &[Given::Type("Integer")], true),
+    (
+        "Hash",
+        &[Given::Type("String")],
+        "Hash",
+        &[Given::Type("String"), Given::Type("Any")],
+        true,
+    ),
+    (
+        "Type",
+        &[Given::Type("Scalar")],
+        "Type",
+        &[Given::Type("Integer")],
+        true,
+    ),
     ("Resource", &[], "File", &[Given::Text("/x")], true),
     ("Resource", &[], "Class", &[], false),
     ("Class", &[], "Class", &[Given::Text("a")], true),
@@ -226,7 +316,10 @@ const COVERED: [(&str, &[Given], &str, &[Given], bool); 17] = [
 #[test]
 fn types_are_included(rt: HostRuntime) -> Result<(), Fail> {
     for (wide, args, narrow, others, want) in COVERED.iter() {
-        assert!(rt; covers(rt.alloc(), wide, args, narrow, others)? == *want, "{wide}, {narrow}");
+        assert!(rt;
+            covers(rt.alloc(), wide, args, narrow, others)? == *want,
+            "{wide}, {narrow}"
+        );
     }
     Ok(())
 }

@@ -1,5 +1,5 @@
 -- What `includes` tells, case by case.
-use Rattle.std.proofs.Common.{◌≡◌, Bool, true, false, ◌&&◌, ◌||◌, not, List, [], ◌∷◌, refl, ap, sym, ◌∙◌, subst, arith, pos, int_lt}
+use Rattle.std.proofs.Common.{◌≡◌, Bool, true, false, ◌&&◌, ◌||◌, not, [], ◌∷◌, refl, ap, sym, ◌∙◌, pos, int_lt}
 use Rattle.std.specs.List.{list_all, list_any}
 use Rattle.std.specs.Ordering.{int_eq}
 use Rattle.std.proofs.lemmas.Bool.Decides.{Decides-int_eq}
@@ -10,11 +10,11 @@ use Rattle.pp_types.specs.declared.layer.Layer.{Layer}
 use Rattle.pp_types.specs.declared.layer.Layer.TheVariants as layer
 use Rattle.pp_types.specs.declared.range.Range.{Range}
 use Rattle.pp_types.specs.declared.seen.Seen.{Seen}
-use Rattle.pp_types.specs.Forms.{Form, any, undef, default, boolean, integer, string, enum, data_, array, hash, variant, not_undef, tuple, type_, catalog_entry, class, resource, kind_of_resource, Forms, list_of, data_types, array_of_data, hash_of_data}
+use Rattle.pp_types.specs.Forms.{Form, any, undef, boolean, integer, string, data_, array, hash, variant, not_undef, Forms, list_of, data_types, array_of_data, hash_of_data}
 use Rattle.pp_types.specs.Includes.{includes}
 use Rattle.pp_types.specs.Layers.{layer_form, seen_form, part_form}
 use Rattle.pp_types.specs.Ranges.{is_within, same_range, any_count, all_integers, highest}
-use Rattle.pp_types.specs.Rules.{same, is_any, accepts_undef, covers, data_covers, by_wide, by_narrow, past_first, by_rules}
+use Rattle.pp_types.specs.Rules.{same, is_any, covers, by_wide, by_narrow, past_first}
 use Rattle.pp_types.proofs.Fuel.{includes-rules}
 
 pub or_false : (b : Bool) → (b || false) ≡ b

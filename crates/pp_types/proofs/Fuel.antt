@@ -1,8 +1,8 @@
 -- The rules hold of `includes` itself, since each pair that they ask of weighs less than the one before it.
-use Rattle.std.proofs.Common.{◌≡◌, ℕ, zero, suc, ◌+◌, ◌*◌, ◌<◌, ◌≤◌, Bool, true, false, ◌&&◌, ◌||◌, not, List, [], ◌∷◌, length, refl, ap, sym, subst, inl, inr, ◌⊎◌, arith, pos}
+use Rattle.std.proofs.Common.{◌≡◌, ℕ, zero, suc, ◌<◌, ◌≤◌, Bool, true, false, ◌&&◌, ◌||◌, not, length, refl, ap, sym, subst, inl, inr, ◌⊎◌, arith, pos}
 use Rattle.std.specs.Cmp.Lexicographic.{pointwise}
 use Rattle.std.specs.List.{list_all, list_any}
-use Rattle.pp_types.specs.Forms.{Form, any, undef, default, boolean, integer, string, enum, data_, array, hash, variant, not_undef, tuple, type_, catalog_entry, class, resource, kind_of_resource, Forms, no_forms, and_form, list_of, optional, data_types, array_of_data, hash_of_data, form_size, forms_size}
+use Rattle.pp_types.specs.Forms.{Form, undef, boolean, integer, string, data_, array, hash, variant, not_undef, tuple, type_, Forms, no_forms, and_form, list_of, optional, data_types, array_of_data, hash_of_data, form_size, forms_size}
 use Rattle.pp_types.specs.Ranges.{is_in_range, is_within, any_count, all_integers}
 use Rattle.pp_types.specs.Rules.{same, is_any, accepts_undef, covers, by_wide, by_narrow, past_first, by_rules}
 use Rattle.pp_types.specs.Includes.{includes_within, weight, includes}

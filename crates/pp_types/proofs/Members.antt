@@ -1,12 +1,13 @@
 -- Lists of types and of values, gone through together.
-use Rattle.std.proofs.Common.{◌≡◌, ◌<◌, ◌+◌, ℕ, List, [], ◌∷◌, Some, slice_get, drop, length, get_or, refl, ap, ◌∙◌, Bool, true, false, ◌&&◌, ◌||◌}
+use Rattle.std.proofs.Common.{◌≡◌, ◌<◌, ◌+◌, ℕ, List, [], ◌∷◌, Some, slice_get, drop, length, get_or, refl, ap, ◌∙◌, true, false, ◌&&◌, ◌||◌}
 use Rattle.std.specs.Cmp.Lexicographic.{pointwise}
 use Rattle.std.specs.List.{list_any}
 use Rattle.pp_values.specs.declared.value.Value.{Value}
-use Rattle.pp_values.specs.Datum.{Datum}
+use Rattle.pp_values.specs.Datum.{Datum, undef}
 use Rattle.pp_values.specs.Views.{view, views}
 use Rattle.pp_types.specs.Accepts.{accepts, some_accept, accept_members}
-use Rattle.pp_types.specs.Forms.{Form, Forms, no_forms, and_form, list_of}
+use Rattle.pp_types.specs.Forms.{Form, variant, Forms, no_forms, and_form, list_of}
+use Rattle.pp_types.specs.Rules.{accepts_undef, some_accept_undef}
 use Rattle.pp_types.proofs.Places.{from_place}
 use Rattle.pp_types.proofs.Turns.{from_index}
 
@@ -31,3 +32,13 @@ pub member_stops : (ts : List Form) (xs : List Value) (i : ℕ) (t : Form) (x : 
 member_stops ts xs i t x d lt e h =
     (λ j. pointwise accepts (from_place ts i t d j) (views (from_index xs i x lt e j)))
     ∙ ap (λ b. b && pointwise accepts (drop (i + 1) ts) (views (drop (i + 1) xs))) h
+
+-- a type accepts Undef where the rules of inclusion say so
+mutual
+  pub accepts-undef : (t : Form) → accepts t undef ≡ accepts_undef t
+  accepts-undef (variant ts) = some_accept-undef ts
+  accepts-undef t = refl
+
+  pub some_accept-undef : (ts : Forms) → some_accept ts undef ≡ some_accept_undef ts
+  some_accept-undef no_forms = refl
+  some_accept-undef (and_form t ts) = λ i. accepts-undef t i || some_accept-undef ts i

@@ -1,5 +1,5 @@
 -- Lists of types, gone through by place.
-use Rattle.std.proofs.Common.{◌≡◌, ◌<◌, ◌≤◌, ◌+◌, ℕ, zero, suc, List, [], ◌∷◌, Option, None, Some, drop, length, slice_get, refl, ap, sym, ◌∙◌, subst, add-one, arith, Bool, true, false, ◌&&◌, ◌||◌}
+use Rattle.std.proofs.Common.{◌≡◌, ◌<◌, ◌+◌, ℕ, zero, suc, List, [], ◌∷◌, Option, None, Some, drop, length, slice_get, refl, ap, ◌∙◌, add-one, arith, Bool, true, false, ◌&&◌, ◌||◌}
 use Rattle.std.specs.Cmp.Lexicographic.{pointwise}
 use Rattle.std.specs.List.{list_all, list_any}
 use Rattle.pp_types.specs.Forms.{Form, any, Forms, no_forms, and_form, list_of, form_size, forms_size}

@@ -7,7 +7,8 @@ pub none_before : {A : Type 0} (o : Option (List A)) → o ≡ option_map (λ r.
 none_before None = refl
 none_before (Some r) = refl
 
-pub one_more : {A : Type 0} (xs : List A) (x : A) (o : Option (List A)) → option_map (λ r. xs ++ r) (followed (Some x) o) ≡ option_map (λ r. (xs ++ x ∷ []) ++ r) o
+pub one_more : {A : Type 0} (xs : List A) (x : A) (o : Option (List A)) → option_map
+    (λ r. xs ++ r) (followed (Some x) o) ≡ option_map (λ r. (xs ++ x ∷ []) ++ r) o
 one_more xs x None = refl
 one_more {A} xs x (Some r) = ap (λ l. let some : Option (List A) = Some l in some) (sym (append_assoc xs (x ∷ []) r))
 
@@ -16,5 +17,6 @@ value_at [] i d h = absurd (omega arith)
 value_at (x ∷ xs) zero d h = refl
 value_at (x ∷ xs) (suc i) d h = let h' : i < length xs = omega arith in value_at xs i d h'
 
-pub from_index : (xs : List Value) (i : ℕ) (x : Value) → i < length xs → x ≡ get_or xs i x → drop i xs ≡ x ∷ drop (i + 1) xs
+pub from_index : (xs : List Value) (i : ℕ) (x : Value) → i < length xs → x ≡ get_or xs i x → drop i xs ≡ x
+    ∷ drop (i + 1) xs
 from_index xs i x h e = rw add-one (value_at xs i x h ∙ ap (λ y. y ∷ drop (suc i) xs) (sym e))

@@ -1,12 +1,12 @@
 -- The name of a type, in lower case, is the name of a kind of resource.
-use Rattle.std.proofs.Common.{◌≡◌, ℕ, ◌==◌, Bool, true, false, ◌&&◌, not, IsTrue, if◌then◌else◌, Option, None, Some, List, [], ◌∷◌, map, refl, ap, sym, ◌∙◌, subst, arith}
+use Rattle.std.proofs.Common.{◌≡◌, ℕ, Bool, true, false, ◌&&◌, IsTrue, Option, None, Some, List, [], ◌∷◌, map, refl, ap, ◌∙◌, arith}
 use Rattle.std.specs.Prelude.{is_some}
-use Rattle.std.specs.Char.{to_ascii_lowercase, is_ascii_uppercase}
+use Rattle.std.specs.Char.{to_ascii_lowercase}
 use Rattle.std.specs.List.{list_all}
 use Rattle.pp_values.specs.Kinds.{is_kind, is_kind_byte}
 use Rattle.pp_types.specs.declared.naming.Read.{Read}
 use Rattle.pp_types.specs.declared.naming.Read.TheVariants as read
-use Rattle.pp_types.specs.Names.{read_next, is_read, is_word, may_end, bare_name, is_type_name, normal_name}
+use Rattle.pp_types.specs.Names.{read_next, is_read, bare_name, is_type_name, normal_name}
 
 bracket : (r : Read) → is_some (read_next r 91) ≡ false
 bracket read.Nothing = refl

@@ -1,9 +1,9 @@
 -- Whether a data type includes another, told by the first case that fits. `inc` tells it of the types within.
-use Rattle.std.specs.Prelude.{ℕ, ◌+◌, ◌*◌, suc, zero, Bool, true, false, not, ◌&&◌, ◌||◌, nat_eq, Option, None, Some, List, [], ◌∷◌, length, pos}
+use Rattle.std.specs.Prelude.{ℕ, Bool, true, false, not, ◌&&◌, ◌||◌, Option, None, Some, List, length, pos}
 use Rattle.std.specs.Cmp.Lexicographic.{pointwise}
 use Rattle.std.specs.List.{list_all, list_any}
 use Rattle.std.specs.Str.{bytes_eq}
-use Rattle.pp_types.specs.Forms.{Form, any, undef, default, boolean, integer, string, enum, data_, array, hash, variant, not_undef, tuple, type_, catalog_entry, class, resource, kind_of_resource, Forms, no_forms, and_form, list_of, optional, data_types, form_size}
+use Rattle.pp_types.specs.Forms.{Form, any, undef, default, boolean, integer, string, enum, data_, array, hash, variant, not_undef, tuple, type_, catalog_entry, class, resource, kind_of_resource, Forms, no_forms, and_form, list_of, optional, data_types}
 use Rattle.pp_types.specs.Ranges.{is_in_range, is_within, same_range}
 use Rattle.pp_types.specs.Lengths.{has_length}
 

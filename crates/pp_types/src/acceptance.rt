@@ -102,7 +102,8 @@ fn is_list_of(of: Seen<'_>, count: Range, value: &Value) -> bool
 
 #[cycle(accepts)]
 fn accepts_items(of: Seen<'_>, count: Range, items: &Values) -> bool
-    ensures { result ≡ (is_in_range count (pos (length items.now)) && list_all (accepts (seen_form of.entry)) items.now) }
+    ensures { result
+        ≡ (is_in_range count (pos (length items.now)) && list_all (accepts (seen_form of.entry)) items.now) }
 {
     count.has_count(items.len()) && accepts_all(of, items.as_slice())
 }
@@ -121,7 +122,8 @@ fn accepts_all(of: Seen<'_>, items: &[Value]) -> bool
 
 #[cycle(accepts)]
 fn is_hash_of(key: Seen<'_>, of: Seen<'_>, count: Range, value: &Value) -> bool
-    ensures { result ≡ is_hash_of (λ p. accepts (seen_form key.entry) p.0 && accepts (seen_form of.entry) p.1) count (view value.now) }
+    ensures { result
+        ≡ is_hash_of (λ p. accepts (seen_form key.entry) p.0 && accepts (seen_form of.entry) p.1) count (view value.now) }
 {
     match value {
         Value::Hash(pairs) => accepts_entries(key, of, count, pairs),
@@ -131,14 +133,17 @@ fn is_hash_of(key: Seen<'_>, of: Seen<'_>, count: Range, value: &Value) -> bool
 
 #[cycle(accepts)]
 fn accepts_entries(key: Seen<'_>, of: Seen<'_>, count: Range, pairs: &Pairs) -> bool
-    ensures { result ≡ (is_in_range count (pos (length pairs.now)) && list_all (λ p. accepts (seen_form key.entry) p.0 && accepts (seen_form of.entry) p.1) pairs.now) }
+    ensures { result
+        ≡ (is_in_range count (pos (length pairs.now))
+        && list_all (λ p. accepts (seen_form key.entry) p.0 && accepts (seen_form of.entry) p.1) pairs.now) }
 {
     count.has_count(pairs.len()) && accepts_pairs(key, of, pairs.as_slice())
 }
 
 #[cycle(accepts)]
 fn accepts_pairs(key: Seen<'_>, of: Seen<'_>, pairs: &[(Value, Value)]) -> bool
-    ensures { result ≡ list_all (λ p. accepts (seen_form key.entry) p.0 && accepts (seen_form of.entry) p.1) (pair_views pairs.now) }
+    ensures { result
+        ≡ list_all (λ p. accepts (seen_form key.entry) p.0 && accepts (seen_form of.entry) p.1) (pair_views pairs.now) }
 {
     for (name, item) in pairs {
         if !accepts_seen(key, name) || !accepts_seen(of, item) {

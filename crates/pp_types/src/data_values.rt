@@ -6,7 +6,8 @@ ghost use Rattle.pp_types.specs.Accepts.{is_data, are_data, are_data_by_texts};
 
 use pp_values::value::Value;
 
-/// Whether the value is Undef, a truth value, an integer, a text, a list of data, or a hash of data whose keys are texts.
+/// Whether the value is Undef, a truth value, an integer, a text, a list of data, or a hash of data whose keys are
+/// texts.
 #[cycle(is_data)]
 pub fn is_data(value: &Value) -> bool
     ensures { result ≡ is_data (view value.now) }

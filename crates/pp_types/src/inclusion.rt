@@ -86,7 +86,8 @@ fn includes_each(wide: Seen<'_>, choices: Choices<'_>) -> bool
 
 #[cycle(includes)]
 fn some_includes(choices: Choices<'_>, narrow: Seen<'_>) -> bool
-    ensures { result ≡ list_any (λ t. includes t (seen_form narrow.entry)) (list_of (choice_forms choices.entry)) }
+    ensures { result
+        ≡ list_any (λ t. includes t (seen_form narrow.entry)) (list_of (choice_forms choices.entry)) }
 {
     for place in 0..choice_count(choices) {
         if includes_seen(choice_at(choices, place), narrow) {
@@ -151,7 +152,9 @@ fn array_covers(of: Seen<'_>, count: Range, narrow: Layer<'_>) -> bool
 /// As many types as the counts allow, each included in the type of members.
 #[cycle(includes)]
 fn tuple_is_within(of: Seen<'_>, count: Range, types: Choices<'_>) -> bool
-    ensures { result ≡ (is_in_range count (pos (length (list_of (choice_forms types.entry)))) && list_all (includes (seen_form of.entry)) (list_of (choice_forms types.entry))) }
+    ensures { result
+        ≡ (is_in_range count (pos (length (list_of (choice_forms types.entry))))
+        && list_all (includes (seen_form of.entry)) (list_of (choice_forms types.entry))) }
 {
     count.has_count(choice_count(types)) && includes_each(of, types)
 }
@@ -159,7 +162,8 @@ fn tuple_is_within(of: Seen<'_>, count: Range, types: Choices<'_>) -> bool
 /// As many types on both sides, each included in its place.
 #[cycle(includes)]
 fn in_places(wide: Choices<'_>, narrow: Choices<'_>) -> bool
-    ensures { result ≡ pointwise includes (list_of (choice_forms wide.entry)) (list_of (choice_forms narrow.entry)) }
+    ensures { result
+        ≡ pointwise includes (list_of (choice_forms wide.entry)) (list_of (choice_forms narrow.entry)) }
 {
     let count = choice_count(wide);
     if choice_count(narrow) != count {
@@ -197,7 +201,8 @@ fn entry_covers(wide: Layer<'_>, narrow: Layer<'_>) -> bool
 
 /// A title left out stands for each title.
 fn title_covers(title: Option<&Text>, other: Option<&Text>) -> bool
-    ensures { result ≡ title_covers (option_map (λ t. t.now) title.entry) (option_map (λ t. t.now) other.entry) }
+    ensures { result
+        ≡ title_covers (option_map (λ t. t.now) title.entry) (option_map (λ t. t.now) other.entry) }
 {
     match (title, other) {
         (None, _) => true,
@@ -267,7 +272,9 @@ fn has_arrays_of_data(of: Seen<'_>, count: Range) -> bool
 
 #[cycle(includes)]
 fn has_hashes_of_data(key: Seen<'_>, value: Seen<'_>, count: Range) -> bool
-    ensures { result ≡ (is_within count any_count && (includes (seen_form key.entry) (f.string any_count) && includes (seen_form value.entry) f.data_)) }
+    ensures { result
+        ≡ (is_within count any_count
+        && (includes (seen_form key.entry) (f.string any_count) && includes (seen_form value.entry) f.data_)) }
 {
     count.covers(Range::COUNTS)
         && includes_seen(key, Seen::String)

@@ -125,7 +125,8 @@ fn tuple_layer<'a>(types: &'a Types) -> Layer<'a>
 }
 
 fn array_layer<'a>(members: &'a Option<MemberType>) -> Layer<'a>
-    ensures { layer_form result ≡ f.array (first_form (member_arguments members.now)) (counts (behind (member_arguments members.now))) }
+    ensures { layer_form result
+        ≡ f.array (first_form (member_arguments members.now)) (counts (behind (member_arguments members.now))) }
 {
     match members {
         Some(members) => Layer::Array(
@@ -137,7 +138,9 @@ fn array_layer<'a>(members: &'a Option<MemberType>) -> Layer<'a>
 }
 
 fn hash_layer<'a>(entries: &'a Option<EntryType>) -> Layer<'a>
-    ensures { layer_form result ≡ f.hash (first_form (entry_arguments entries.now)) (second_form (entry_arguments entries.now)) (counts (behind (behind (entry_arguments entries.now)))) }
+    ensures { layer_form result
+        ≡ f.hash (first_form (entry_arguments entries.now)) (second_form (entry_arguments entries.now))
+        (counts (behind (behind (entry_arguments entries.now)))) }
 {
     match entries {
         Some(entries) => keyed_layer(entries.key.as_type(), &entries.value),
@@ -146,7 +149,9 @@ fn hash_layer<'a>(entries: &'a Option<EntryType>) -> Layer<'a>
 }
 
 fn keyed_layer<'a>(key: &'a PType, value: &'a Option<MemberType>) -> Layer<'a>
-    ensures { layer_form result ≡ f.hash (form (sort key.now)) (first_form (member_arguments value.now)) (counts (behind (member_arguments value.now))) }
+    ensures { layer_form result
+        ≡ f.hash (form (sort key.now)) (first_form (member_arguments value.now))
+        (counts (behind (member_arguments value.now))) }
 {
     match value {
         Some(value) => Layer::Hash(

@@ -45,7 +45,8 @@ fn data_type_of(
     args: &[Value],
     at: &Place,
 ) -> Result<PType, Stop>
-    ensures { Answers (said result) (or_wrong (name_of data_type) at.now (made (name_of data_type) (views args.now))) }
+    ensures { Answers (said result) (or_wrong (name_of data_type) at.now
+        (made (name_of data_type) (views args.now))) }
 {
     match made(alloc, data_type, args) {
         Ok(ptype) => Ok(ptype),
@@ -59,7 +60,8 @@ fn data_type_of(
 
 fn resource_type_of(alloc: Global, name: &str, args: &[Value], at: &Place) -> Result<PType, Stop>
     requires { IsTrue (is_type_name name.now) }
-    ensures { Answers (said result) (or_wrong (n.kind_of_resource (normal_name name.now)) at.now (made (n.kind_of_resource (normal_name name.now)) (views args.now))) }
+    ensures { Answers (said result) (or_wrong (n.kind_of_resource (normal_name name.now)) at.now
+        (made (n.kind_of_resource (normal_name name.now)) (views args.now))) }
 {
     let kind = named_kind(alloc, name)?;
     match title(alloc, args) {

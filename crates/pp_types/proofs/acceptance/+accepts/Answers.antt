@@ -1,5 +1,5 @@
 -- Lists of types and values, gone through by place.
-use Rattle.std.proofs.Common.{◌≡◌, arith, sym, ◌∙◌, ap, subst}
+use Rattle.std.proofs.Common.{arith, sym, ◌∙◌}
 use Rattle.pp_values.specs.Views.{view}
 use Rattle.pp_values.proofs.Lists.{members_of-data_of, pairs_of-entries_of}
 use Rattle.pp_types.specs.Accepts.{accepts}

@@ -41,12 +41,14 @@ decreases-accepts_members l = 4 * forms_size (choice_forms l.types) + 1
 
 abbrev pub invariant-accepts_all-loop-item : goal.invariant-accepts_all-loop-item
 invariant-accepts_all-loop-item l =
-    list_all (accepts (seen_form l.of)) (views l.items) ≡ list_all (accepts (seen_form l.of)) (views (drop l.item-index l.items))
+    list_all (accepts (seen_form l.of)) (views l.items)
+    ≡ list_all (accepts (seen_form l.of)) (views (drop l.item-index l.items))
 
 abbrev pub invariant-accepts_pairs-loop-name : goal.invariant-accepts_pairs-loop-name
 invariant-accepts_pairs-loop-name l =
     list_all (λ p. accepts (seen_form l.key) p.0 && accepts (seen_form l.of) p.1) (pair_views l.pairs)
-    ≡ list_all (λ p. accepts (seen_form l.key) p.0 && accepts (seen_form l.of) p.1) (pair_views (drop l.name-index l.pairs))
+    ≡ list_all (λ p. accepts (seen_form l.key) p.0
+    && accepts (seen_form l.of) p.1) (pair_views (drop l.name-index l.pairs))
 
 abbrev pub invariant-some_accepts-loop-place : goal.invariant-some_accepts-loop-place
 invariant-some_accepts-loop-place l =

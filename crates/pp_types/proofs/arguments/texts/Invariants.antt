@@ -5,4 +5,5 @@ use Rattle.pp_types.specs.Arguments.{all_texts}
 use Rattle.pp_types.proofs.arguments.texts.Given as goal
 
 abbrev pub invariant-loop-value : goal.invariant-loop-value
-invariant-loop-value l = all_texts (views l.args) ≡ option_map (λ r. l.texts ++ r) (all_texts (views (drop l.value-index l.args)))
+invariant-loop-value l = all_texts (views l.args) ≡ option_map
+    (λ r. l.texts ++ r) (all_texts (views (drop l.value-index l.args)))

@@ -1,5 +1,5 @@
 -- The types of a `Variant` as they were given.
-use Rattle.std.proofs.Common.{◌≡◌, ◌<◌, length, ap, subst, sym}
+use Rattle.std.proofs.Common.{◌<◌, length, subst}
 use Rattle.pp_types.specs.Forms.{list_of}
 use Rattle.pp_types.specs.Layers.{choice_forms}
 use Rattle.pp_types.proofs.Given.{given_place, list_of-given_forms}

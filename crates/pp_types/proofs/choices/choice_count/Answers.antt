@@ -1,5 +1,5 @@
 -- The types of a `Variant` as they were given.
-use Rattle.std.proofs.Common.{ap, sym, ◌∙◌}
+use Rattle.std.proofs.Common.{sym, ◌∙◌}
 use Rattle.pp_types.proofs.Given.{given_count}
 use Rattle.pp_types.proofs.choices.choice_count.Goals as goal
 

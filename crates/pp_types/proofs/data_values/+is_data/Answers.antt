@@ -7,12 +7,30 @@ use Rattle.pp_values.proofs.Inner.{item_falls, pair_falls}
 use Rattle.pp_types.proofs.data_values.+is_data.Goals as goal
 
 pub is_data-are_data-requires : goal.is_data-are_data-requires
-is_data-are_data-requires t c =
-    (omega (arith, c.decreases, ap data_size c.as_slice.ensures, ap (λ x. datum_size (view x)) c.in-List.is, inner_size-data_of c.in-List.items), tt)
+is_data-are_data-requires t c = (
+  omega (
+    arith,
+    c.decreases,
+    ap data_size c.as_slice.ensures,
+    ap
+        (λ x. datum_size (view x)) c.in-List.is,
+    inner_size-data_of c.in-List.items,
+  ),
+  tt,
+)
 
 pub is_data-are_data_by_texts-requires : goal.is_data-are_data_by_texts-requires
-is_data-are_data_by_texts-requires t c =
-    (omega (arith, c.decreases, ap pairs_size c.as_slice-in-Hash.ensures.pairs, ap (λ x. datum_size (view x)) c.in-Hash.is, entries_size-entries_of c.in-Hash.pairs), tt)
+is_data-are_data_by_texts-requires t c = (
+  omega (
+    arith,
+    c.decreases,
+    ap pairs_size c.as_slice-in-Hash.ensures.pairs,
+    ap
+        (λ x. datum_size (view x)) c.in-Hash.is,
+    entries_size-entries_of c.in-Hash.pairs,
+  ),
+  tt,
+)
 
 pub are_data-is_data-requires : goal.are_data-is_data-requires
 are_data-is_data-requires t c =

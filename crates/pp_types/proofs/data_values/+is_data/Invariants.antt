@@ -16,8 +16,10 @@ abbrev pub decreases-are_data_by_texts : goal.decreases-are_data_by_texts
 decreases-are_data_by_texts l = pairs_size (pair_views l.pairs.now)
 
 abbrev pub invariant-are_data-loop-item : goal.invariant-are_data-loop-item
-invariant-are_data-loop-item l = are_data (data_of (views l.items)) ≡ are_data (data_of (views (drop l.item-index l.items)))
+invariant-are_data-loop-item l = are_data (data_of (views l.items))
+    ≡ are_data (data_of (views (drop l.item-index l.items)))
 
 abbrev pub invariant-are_data_by_texts-loop-key : goal.invariant-are_data_by_texts-loop-key
 invariant-are_data_by_texts-loop-key l =
-    are_data_by_texts (entries_of (pair_views l.pairs)) ≡ are_data_by_texts (entries_of (pair_views (drop l.key-index l.pairs)))
+    are_data_by_texts (entries_of (pair_views l.pairs))
+    ≡ are_data_by_texts (entries_of (pair_views (drop l.key-index l.pairs)))

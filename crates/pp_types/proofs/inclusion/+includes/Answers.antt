@@ -1,5 +1,5 @@
 -- The rules hold of `includes`, and the types of a list are smaller than the list.
-use Rattle.std.proofs.Common.{◌≡◌, arith, sym, ◌∙◌, ap}
+use Rattle.std.proofs.Common.{arith, sym, ◌∙◌}
 use Rattle.pp_types.specs.Forms.{list_of}
 use Rattle.pp_types.specs.Includes.{includes}
 use Rattle.pp_types.specs.Layers.{seen_form, layer_form, choice_forms, part_form}

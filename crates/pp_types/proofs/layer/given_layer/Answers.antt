@@ -1,5 +1,4 @@
 -- The texts of an `Enum` as they were given.
-use Rattle.pp_types.specs.Forms.{enum_form}
 use Rattle.pp_types.proofs.Given.{given_texts-texts_arguments}
 use Rattle.pp_types.proofs.layer.given_layer.Goals as goal
 

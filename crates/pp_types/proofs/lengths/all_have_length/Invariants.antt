@@ -5,4 +5,5 @@ use Rattle.pp_types.specs.Lengths.{has_length}
 use Rattle.pp_types.proofs.lengths.all_have_length.Given as goal
 
 abbrev pub invariant-loop-text : goal.invariant-loop-text
-invariant-loop-text l = list_all (has_length l.range) l.texts ≡ list_all (has_length l.range) (drop l.text-index l.texts)
+invariant-loop-text l = list_all (has_length l.range) l.texts
+    ≡ list_all (has_length l.range) (drop l.text-index l.texts)

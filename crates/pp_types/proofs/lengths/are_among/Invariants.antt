@@ -6,4 +6,5 @@ use Rattle.pp_types.proofs.lengths.are_among.Given as goal
 
 abbrev pub invariant-loop-text : goal.invariant-loop-text
 invariant-loop-text l =
-    list_all (λ u. list_any (bytes_eq u) l.texts) l.others ≡ list_all (λ u. list_any (bytes_eq u) l.texts) (drop l.text-index l.others)
+    list_all (λ u. list_any (bytes_eq u) l.texts) l.others ≡ list_all
+    (λ u. list_any (bytes_eq u) l.texts) (drop l.text-index l.others)

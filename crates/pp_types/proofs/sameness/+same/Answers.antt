@@ -1,5 +1,5 @@
 -- The lists of types, and each pair of types that is compared within others is smaller.
-use Rattle.std.proofs.Common.{◌≡◌, arith, sym, ◌∙◌, ap}
+use Rattle.std.proofs.Common.{arith, sym, ◌∙◌}
 use Rattle.pp_types.specs.declared.layer.Choices.TheVariants as choices
 use Rattle.pp_types.specs.Forms.{list_of}
 use Rattle.pp_types.specs.Layers.{choice_forms}

@@ -1,5 +1,5 @@
 -- The measures: the size of the first type. The loop: the types are the same where they are so from the place on.
-use Rattle.std.proofs.Common.{◌≡◌, drop, length}
+use Rattle.std.proofs.Common.{◌≡◌, drop}
 use Rattle.std.specs.Cmp.Lexicographic.{pointwise}
 use Rattle.pp_types.specs.Forms.{form_size, forms_size, list_of}
 use Rattle.pp_types.specs.Layers.{seen_form, choice_forms}

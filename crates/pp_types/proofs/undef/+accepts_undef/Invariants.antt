@@ -14,4 +14,5 @@ decreases-some_accepts_undef l = forms_size (choice_forms l.choices)
 
 abbrev pub invariant-some_accepts_undef-loop-place : goal.invariant-some_accepts_undef-loop-place
 invariant-some_accepts_undef-loop-place l =
-    list_any accepts_undef (list_of (choice_forms l.choices)) ≡ list_any accepts_undef (drop l.place (list_of (choice_forms l.choices)))
+    list_any accepts_undef (list_of (choice_forms l.choices))
+    ≡ list_any accepts_undef (drop l.place (list_of (choice_forms l.choices)))

@@ -1,0 +1,10 @@
+pub mod Ranges
+pub mod Lengths
+pub mod Forms
+pub mod Layers
+pub mod Rules
+pub mod Includes
+pub mod Accepts
+pub mod Names
+pub mod Arguments
+pub mod Refusals

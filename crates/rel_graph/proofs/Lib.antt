@@ -1,0 +1,11 @@
+pub mod Chains
+pub mod Marking
+pub mod Spreads
+pub mod Flips
+pub mod Crossings
+pub mod Steps
+pub mod Levels
+pub mod Best
+pub mod Below
+pub mod Ordering
+pub mod Plain

@@ -9,3 +9,5 @@ pub mod Best
 pub mod Below
 pub mod Ordering
 pub mod Plain
+pub mod Uniqueness
+pub mod Contained

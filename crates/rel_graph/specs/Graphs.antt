@@ -29,3 +29,7 @@ pub record AreRelations (count : ℕ) (containers edges : List (ℕ × ℕ)) (cy
   pub contains : NoneInsideItself containers
   pub no : cyclic ≡ false → (r : ℕ) → ¬ (Before containers edges r r)
   pub yes : cyclic ≡ true → SomeBeforeItself containers edges
+
+-- the graph of these, in which nothing stands inside itself
+abbrev pub IsBuilt : ℕ → List (ℕ × ℕ) → List (ℕ × ℕ) → Relations → Type 0
+IsBuilt count containers edges g = (g ≡ record { count = count; containers = containers; edges = edges }) × NoneInsideItself containers

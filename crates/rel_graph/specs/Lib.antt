@@ -8,3 +8,4 @@ pub mod Distances
 pub mod Listing
 pub mod Stops
 pub mod Graphs
+pub mod Laws

@@ -5,6 +5,8 @@ mod containment;
 mod cycles;
 mod direct;
 mod distances;
+mod graph;
+mod laws;
 mod listed;
 mod listing;
 mod marks;
@@ -12,4 +14,6 @@ mod sorting;
 mod stops;
 
 pub use containment::{Containers, Containment};
+pub use graph::{Edges, Graph, Order, build};
+pub use laws::{an_order_has_no_cycle, there_is_one_cycle, there_is_one_order};
 pub use stops::{GraphStop, OrderStop};

@@ -1,4 +1,3 @@
-use pp_values::Memory;
 use res_core::Indexes;
 use std::alloc::AllocError;
 
@@ -19,19 +18,23 @@ pub enum OrderStop {
 }
 
 impl From<AllocError> for OrderStop {
+    ghost use Rattle.std.specs.Prelude.{◌≡◌};
+    ghost use Rattle.rel_graph.specs.declared.stops.OrderStop.TheVariants as stop;
+
+    ghost from_gives = { λ _ e. e ≡ stop.Memory };
+
     fn from(_refused: AllocError) -> OrderStop {
         OrderStop::Memory
     }
 }
 
 impl From<AllocError> for GraphStop {
-    fn from(_refused: AllocError) -> GraphStop {
-        GraphStop::Memory
-    }
-}
+    ghost use Rattle.std.specs.Prelude.{◌≡◌};
+    ghost use Rattle.rel_graph.specs.declared.stops.GraphStop.TheVariants as stop;
 
-impl From<Memory> for GraphStop {
-    fn from(_refused: Memory) -> GraphStop {
+    ghost from_gives = { λ _ e. e ≡ stop.Memory };
+
+    fn from(_refused: AllocError) -> GraphStop {
         GraphStop::Memory
     }
 }

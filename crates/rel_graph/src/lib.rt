@@ -10,10 +10,12 @@ mod laws;
 mod listed;
 mod listing;
 mod marks;
+mod ranges;
 mod sorting;
 mod stops;
 
 pub use containment::{Containers, Containment};
 pub use graph::{Edges, Graph, Order, build};
 pub use laws::{an_order_has_no_cycle, there_is_one_cycle, there_is_one_order};
+pub use ranges::are_below;
 pub use stops::{GraphStop, OrderStop};

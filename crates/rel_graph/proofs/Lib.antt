@@ -1,3 +1,4 @@
+mod Examples
 pub mod Chains
 pub mod Marking
 pub mod Spreads
@@ -11,3 +12,4 @@ pub mod Ordering
 pub mod Plain
 pub mod Uniqueness
 pub mod Contained
+pub mod Within

@@ -1,7 +1,7 @@
 -- Whatever stands before something is one of the resources.
-use Rattle.std.proofs.Common.{◌≡◌, ◌⊎◌, ℕ, ◌<◌, List, [], ◌∷◌, inl, inr, refl, sym, subst, ap, ◌∙◌}
+use Rattle.std.proofs.Common.{ℕ, ◌<◌, List, [], ◌∷◌}
 use Rattle.std.proofs.lemmas.List.Elements.{All-contains}
-use Rattle.rel_graph.specs.Chains.{Paired, Chain, Closure}
+use Rattle.rel_graph.specs.Chains.{Paired, Chain}
 use Rattle.rel_graph.specs.Before.{Belongs, Direct, Before}
 use Rattle.rel_graph.specs.Pairs.{AllBelow}
 use Rattle.rel_graph.proofs.Chains.{belongs_carries}

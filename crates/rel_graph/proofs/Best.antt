@@ -1,5 +1,5 @@
 -- The least of the shortest chains, from its front on.
-use Rattle.std.proofs.Common.{◌≡◌, ◌⊎◌, ℕ, zero, suc, ◌+◌, ◌<◌, ◌≤◌, List, [], ◌∷◌, ◌++◌, length, Option, Some, None, append_assoc, append-nil, inl, inr, refl, sym, subst, ap, ◌∙◌, arith}
+use Rattle.std.proofs.Common.{◌≡◌, ℕ, suc, ◌<◌, List, [], ◌∷◌, ◌++◌, length, Option, Some, None, append_assoc, append-nil, inl, inr, refl, sym, subst, ap, ◌∙◌, arith}
 use Rattle.std.proofs.lemmas.Bool.{cases_lt}
 use Rattle.rel_graph.specs.Chains.{Chain, Closure}
 use Rattle.rel_graph.specs.Cycles.{IsCycle, NoLater}
@@ -48,10 +48,10 @@ module _ (R : ℕ → ℕ → Type 0) (goal : ℕ) (numbers : List (Option ℕ))
       let e = suc_same (length ys) left long in
       let le = step.least y h.0 (nearer a y left ys far h.0 h.1 e) in
       elim (cases_lt x y) [
-        inl less ↦ inl less
-      | inr more ↦
-        let same : x ≡ y = omega (arith, le, more) in
-        inr (same, best.least ys (subst (λ z. Chain R z ys goal) (sym same) h.1) e)
+        | inl less ↦ inl less
+        | inr more ↦
+            let same : x ≡ y = omega (arith, le, more) in
+            inr (same, best.least ys (subst (λ z. Chain R z ys goal) (sym same) h.1) e)
       ]
 
   pub best_more : (a x left : ℕ) (rest : List ℕ) → distance numbers a ≡ Some (suc left) → IsStep R numbers a left x → IsBest R goal x left rest →
@@ -101,15 +101,15 @@ module _ (R : ℕ → ℕ → Type 0) (goal : ℕ) (numbers : List (Option ℕ))
     is = e;
     closes = b.chain;
     first = λ q h. elim (cases_lt q goal) [
-        inl less ↦ absurd (none q less h)
+      | inl less ↦ absurd (none q less h)
       | inr more ↦ more
-      ];
+    ];
     shortest = λ other h.
-      let k = d.least goal other h in
-      let same = some_same (distance numbers goal) k.0 total k.1 far in
-      let le = k.2 in
-      let long = b.long in
-      omega (arith, same, le, long);
+        let k = d.least goal other h in
+        let same = some_same (distance numbers goal) k.0 total k.1 far in
+        let le = k.2 in
+        let long = b.long in
+        omega (arith, same, le, long);
     least = λ other h l. b.least other h (l ∙ b.long);
   }
 

@@ -1,5 +1,5 @@
 -- Chains joined, and what stands inside what.
-use Rattle.std.proofs.Common.{◌≡◌, ◌⊎◌, ℕ, List, [], ◌∷◌, ◌++◌, Contains, inl, inr, refl, subst, sym}
+use Rattle.std.proofs.Common.{ℕ, List, [], ◌∷◌, ◌++◌, inl, inr, subst, sym}
 use Rattle.rel_graph.specs.Chains.{Paired, Chain, Closure}
 use Rattle.rel_graph.specs.Before.{Inside, Belongs}
 

@@ -1,7 +1,7 @@
 -- Containment alone, as relationships of resources that contain nothing.
-use Rattle.std.proofs.Common.{◌≡◌, ◌⊎◌, ℕ, ◌<◌, ◌≤◌, List, [], ◌∷◌, length, inl, inr, refl, sym, subst, subst₂, arith}
+use Rattle.std.proofs.Common.{◌≡◌, ℕ, List, [], ◌∷◌, inl, inr, refl, subst₂, arith}
 use Rattle.rel_graph.specs.Chains.{Paired, Chain, Closure}
-use Rattle.rel_graph.specs.Before.{Inside, Belongs, Direct, Before}
+use Rattle.rel_graph.specs.Before.{Belongs, Direct, Before}
 use Rattle.rel_graph.specs.Cycles.{IsCycle}
 use Rattle.rel_graph.specs.Orders.{IsOrder}
 use Rattle.rel_graph.specs.Pairs.{AllBelow}

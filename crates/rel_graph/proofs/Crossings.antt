@@ -1,5 +1,5 @@
 -- Edges crossed one at a time.
-use Rattle.std.proofs.Common.{◌≡◌, ◌⊎◌, ℕ, Bool, true, false, ◌+◌, ◌<◌, ◌≤◌, List, length, get_or, set, Contains, inl, inr, refl, sym, subst, ◌∙◌, arith, true≢false}
+use Rattle.std.proofs.Common.{◌≡◌, ℕ, Bool, true, false, ◌+◌, ◌<◌, ◌≤◌, List, length, get_or, set, inl, inr, sym, subst, ◌∙◌, arith, true≢false}
 use Rattle.std.proofs.lemmas.Bool.Decides.{eqb_tells}
 use Rattle.std.proofs.lemmas.List.{get_or_default}
 use Rattle.std.proofs.lemmas.List.Elements.{Contains-get_or}
@@ -23,9 +23,9 @@ pub crossing_skip : (edges : List (ℕ × ℕ)) (marks after : List Bool) (i : �
 crossing_skip edges marks after i c off = record {
   sound = c.sound;
   complete = λ k h m. elim (eqb_tells k i) [
-      inl same ↦ absurd (true≢false (sym m ∙ subst (λ z. get_or marks (get_or edges z (0, 0)).0 false ≡ false) (sym same.1) off))
+    | inl same ↦ absurd (true≢false (sym m ∙ subst (λ z. get_or marks (get_or edges z (0, 0)).0 false ≡ false) (sym same.1) off))
     | inr other ↦ c.complete k (omega (arith, other.1)) m
-    ];
+  ];
 }
 
 pub crossing_mark : (edges : List (ℕ × ℕ)) (marks after : List Bool) (i : ℕ) → Crossing edges marks after i → i < length edges →
@@ -35,17 +35,17 @@ crossing_mark edges marks after i c here within from =
     let y : ℕ = (get_or edges i (0, 0)).1 in
     record {
       sound = λ x m. elim (marked_set_cases after y x m) [
-          inl e ↦ record {
-            from = (get_or edges i (0, 0)).0;
-            marked = from;
-            edge = subst (λ z. Paired edges (get_or edges i (0, 0)).0 z) e (Contains-get_or edges i (0, 0) here);
-          }
+        | inl e ↦ record {
+          from = (get_or edges i (0, 0)).0;
+          marked = from;
+          edge = subst (λ z. Paired edges (get_or edges i (0, 0)).0 z) e (Contains-get_or edges i (0, 0) here);
+        }
         | inr k ↦ c.sound x k
-        ];
+      ];
       complete = λ k h m. elim (eqb_tells k i) [
-          inl same ↦ subst (λ z. Marked (set after y true) (get_or edges z (0, 0)).1) (sym same.1) (marked_set_here after y within)
+        | inl same ↦ subst (λ z. Marked (set after y true) (get_or edges z (0, 0)).1) (sym same.1) (marked_set_here after y within)
         | inr other ↦ marked_set_keeps after y (get_or edges k (0, 0)).1 within (c.complete k (omega (arith, other.1)) m)
-        ];
+      ];
     }
 
 pub crossing_end : (edges : List (ℕ × ℕ)) (marks after : List Bool) (i : ℕ) → Crossing edges marks after i → length edges ≤ i →

@@ -1,7 +1,6 @@
 -- Who comes directly before whom, at worked examples. Each fact is shown by the pair that makes it, which is found by computing.
-use Rattle.std.proofs.Common.{◌≡◌, ◌⊎◌, ℕ, ◌<◌, ◌≤◌, List, [], ◌∷◌, inl, inr, refl, arith}
-use Rattle.rel_graph.specs.Chains.{Paired, Chain, Closure}
-use Rattle.rel_graph.specs.Before.{Inside, Belongs, Direct, Before}
+use Rattle.std.proofs.Common.{ℕ, List, [], ◌∷◌, inl, inr, refl, arith}
+use Rattle.rel_graph.specs.Before.{Inside, Direct, Before}
 use Rattle.rel_graph.specs.Cycles.{NoLater}
 
 abbrev zero_one : List (ℕ × ℕ)

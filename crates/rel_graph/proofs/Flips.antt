@@ -1,10 +1,9 @@
 -- Pairs the other way round.
-use Rattle.std.proofs.Common.{◌≡◌, ◌⊎◌, ℕ, Bool, ◌<◌, List, [], ◌∷◌, ◌++◌, map, length, get_or, Contains, inl, inr, refl, sym, subst, ap, ◌∙◌}
-use Rattle.std.proofs.lemmas.List.{get_or_default}
+use Rattle.std.proofs.Common.{◌≡◌, ℕ, Bool, ◌<◌, List, [], ◌∷◌, map, inl, inr, refl, sym, subst, ap, ◌∙◌}
 use Rattle.std.proofs.lemmas.List.Elements.{All-map}
 use lib.ListN.{get_or-map, length-map}
 use Rattle.rel_graph.specs.Chains.{Paired, Chain, Closure}
-use Rattle.rel_graph.specs.Before.{Inside, Belongs, Direct}
+use Rattle.rel_graph.specs.Before.{Belongs, Direct}
 use Rattle.rel_graph.specs.Marks.{Marked, Reached, Crossed, Followed, Preceded}
 use Rattle.rel_graph.specs.Pairs.{AllBelow, flip}
 use Rattle.rel_graph.proofs.Chains.{closure_join}

@@ -7,7 +7,7 @@ use Rattle.rel_graph.proofs.Marking.{marked_set_cases, marked_set_here}
 use Rattle.rel_graph.specs.Chains.{Chain}
 use Rattle.rel_graph.specs.Marks.{Marked, Preceded}
 use Rattle.rel_graph.specs.Before.{Direct}
-use Rattle.rel_graph.specs.Distances.{distance, AreDistances, StepsTo, IsAdvance}
+use Rattle.rel_graph.specs.Distances.{distance, AreDistances, IsAdvance}
 
 -- c is so many steps from the goal
 abbrev pub At : List (Option ℕ) → ℕ → ℕ → ℕ → Type 0
@@ -44,22 +44,22 @@ module _ (R : ℕ → ℕ → Type 0) (numbers after : List (Option ℕ)) (marks
     (l : Levels R numbers marks goal level) (leads : (x : ℕ) → Marked before x ↔ Leads R marks x) (steps : IsAdvance level numbers after before left) where
   after_old : (x k : ℕ) → distance numbers x ≡ Some k → distance after x ≡ Some k
   after_old x k e = elim (bool_cases (get_or left x false)) [
-      inl on ↦ absurd (none≢some (distance numbers x) k ((steps x).was_none on) e)
+    | inl on ↦ absurd (none≢some (distance numbers x) k ((steps x).was_none on) e)
     | inr off ↦ (steps x).kept off ∙ e
-    ]
+  ]
 
   after_cases : (x k : ℕ) → distance after x ≡ Some k → (distance numbers x ≡ Some k) ⊎ ((k ≡ level) × Marked left x)
   after_cases x k e = elim (bool_cases (get_or left x false)) [
-      inl on ↦ inr (some_same (distance after x) k level e ((steps x).given on), on)
+    | inl on ↦ inr (some_same (distance after x) k level e ((steps x).given on), on)
     | inr off ↦ inl (sym ((steps x).kept off) ∙ e)
-    ]
+  ]
 
   at_old : (c j : ℕ) → j ≤ level → At after goal c j → At numbers goal c j
   at_old c zero h a = a
   at_old c (suc i) h a = elim (after_cases c i a) [
-      inl old ↦ old
+    | inl old ↦ old
     | inr new ↦ absurd (let e = new.0 in omega (arith, e, h))
-    ]
+  ]
 
   chain_new : (x c n : ℕ) → At numbers goal c n → R x c → (between : List ℕ) × (length between ≡ n) × Chain R x between goal
   chain_new x c zero a r = ([], refl, subst (λ z. R x z) a r)
@@ -67,42 +67,42 @@ module _ (R : ℕ → ℕ → Type 0) (numbers after : List (Option ℕ)) (marks
 
   sound_after : (x k : ℕ) → distance after x ≡ Some k → (between : List ℕ) × (length between ≡ k) × Chain R x between goal
   sound_after x k e = elim (after_cases x k e) [
-      inl old ↦ l.sound x k old
+    | inl old ↦ l.sound x k old
     | inr new ↦
-      let to = (leads x).0 ((steps x).was_marked new.1) in
-      subst (λ n. (between : List ℕ) × (length between ≡ n) × Chain R x between goal) (sym new.0) (chain_new x to.0 level (l.front to.0 to.1) to.2)
-    ]
+        let to = (leads x).0 ((steps x).was_marked new.1) in
+        subst (λ n. (between : List ℕ) × (length between ≡ n) × Chain R x between goal) (sym new.0) (chain_new x to.0 level (l.front to.0 to.1) to.2)
+  ]
 
   low_after : (x k : ℕ) → distance after x ≡ Some k → k < suc level
   low_after x k e = elim (after_cases x k e) [
-      inl old ↦ let h = l.low x k old in omega (arith, h)
+    | inl old ↦ let h = l.low x k old in omega (arith, h)
     | inr new ↦ let h = new.0 in omega (arith, h)
-    ]
+  ]
 
   closed_at : (c x : ℕ) → At numbers goal c level → R x c → (k : ℕ) × (distance after x ≡ Some k) × (k ≤ level)
   closed_at c x a r =
       let m : Marked before x = (leads x).1 (c, l.back c a, r) in
       elim (option_cases (distance numbers x)) [
-        inl none ↦ (level, (steps x).given ((steps x).stays m none), omega arith)
-      | inr some ↦ (some.0, after_old x some.0 some.1, let h = l.low x some.0 some.1 in omega (arith, h))
+        | inl none ↦ (level, (steps x).given ((steps x).stays m none), omega arith)
+        | inr some ↦ (some.0, after_old x some.0 some.1, let h = l.low x some.0 some.1 in omega (arith, h))
       ]
 
   closed_after : (c j x : ℕ) → At after goal c j → j < suc level → R x c → (k : ℕ) × (distance after x ≡ Some k) × (k ≤ j)
   closed_after c j x a h r =
       let o : At numbers goal c j = at_old c j (omega (arith, h)) a in
       elim (cases_lt j level) [
-        inl less ↦ let k = l.closed c j x o less r in (k.0, after_old x k.0 k.1, k.2)
-      | inr more ↦
-        let e : j ≡ level = omega (arith, h, more) in
-        let k = closed_at c x (subst (λ n. At numbers goal c n) e o) r in
-        (k.0, k.1, let le = k.2 in omega (arith, e, le))
+        | inl less ↦ let k = l.closed c j x o less r in (k.0, after_old x k.0 k.1, k.2)
+        | inr more ↦
+            let e : j ≡ level = omega (arith, h, more) in
+            let k = closed_at c x (subst (λ n. At numbers goal c n) e o) r in
+            (k.0, k.1, let le = k.2 in omega (arith, e, le))
       ]
 
   back_after : (c : ℕ) → distance after c ≡ Some level → Marked left c
   back_after c e = elim (after_cases c level e) [
-      inl old ↦ absurd (let h = l.low c level old in omega (arith, h))
+    | inl old ↦ absurd (let h = l.low c level old in omega (arith, h))
     | inr new ↦ new.1
-    ]
+  ]
 
   pub levels_step : Levels R after left goal (suc level)
   levels_step = record {
@@ -117,11 +117,11 @@ module _ (R : ℕ → ℕ → Type 0) (numbers : List (Option ℕ)) (marks : Lis
     (l : Levels R numbers marks goal level) (off : (x : ℕ) → get_or marks x false ≡ false) where
   at_below : (c j : ℕ) → j ≤ level → At numbers goal c j → j < level
   at_below c j h a = elim (cases_lt j level) [
-      inl less ↦ less
+    | inl less ↦ less
     | inr more ↦
-      let e : j ≡ level = omega (arith, h, more) in
-      absurd (true≢false (sym (l.back c (subst (λ n. At numbers goal c n) e a)) ∙ off c))
-    ]
+        let e : j ≡ level = omega (arith, h, more) in
+        absurd (true≢false (sym (l.back c (subst (λ n. At numbers goal c n) e a)) ∙ off c))
+  ]
 
   least_at : (x : ℕ) (between : List ℕ) → Chain R x between goal → (k : ℕ) × (distance numbers x ≡ Some k) × (k ≤ length between)
   least_at x [] r = l.closed goal 0 x refl (at_below goal 0 (omega arith) refl) r
@@ -137,9 +137,9 @@ module _ (R : ℕ → ℕ → Type 0) (numbers : List (Option ℕ)) (marks : Lis
 
 same_everywhere : {A : Type 0} (n x : ℕ) (a : A) → get_or (replicate n a) x a ≡ a
 same_everywhere n x a = elim (cases_lt x n) [
-    inl less ↦ get_or-replicate n x a a less
+  | inl less ↦ get_or-replicate n x a a less
   | inr more ↦ get_or_past (replicate n a) x a (subst (λ m. m ≤ x) (sym (length-replicate n a)) more)
-  ]
+]
 
 pub unmarked : (n x : ℕ) → ¬ (Marked (replicate n false) x)
 unmarked n x m = true≢false (sym m ∙ same_everywhere n x false)
@@ -150,9 +150,9 @@ levels_start R n goal within = record {
   low = λ x k e. absurd (none≢some (get_or (replicate n None) x None) k (same_everywhere n x None) e);
   closed = λ c j x a h. absurd (omega arith);
   front = λ c m. elim (marked_set_cases (replicate n false) goal c m) [
-      inl e ↦ sym e
+    | inl e ↦ sym e
     | inr k ↦ absurd (unmarked n c k)
-    ];
+  ];
   back = λ c a. subst (λ z. Marked (set (replicate n false) goal true) z) (sym a) (marked_set_here (replicate n false) goal (subst (λ m. goal < m) (sym (length-replicate n false)) within));
 }
 
@@ -173,7 +173,7 @@ distances_step containers edges numbers numbers' after marks marks' before befor
     let steps' : IsAdvance level numbers after before left = subst (λ n. IsAdvance level n after before left) en (subst (λ m. IsAdvance level numbers' after m left) eb steps) in
     let leads : (x : ℕ) → Marked before x ↔ Leads (Direct containers edges) marks x = λ x. (
       λ m. let p = (marked' x).0 m in (p.to, p.marked, p.direct),
-      λ p. (marked' x).1 (record { to = p.0; marked = p.1; direct = p.2 })
+      λ p. (marked' x).1 (record { to = p.0; marked = p.1; direct = p.2 }),
     ) in
     subst (λ n. Levels (Direct containers edges) after left goal n) (sym (add-one level))
     (levels_step (Direct containers edges) numbers after marks before left goal level l leads steps')
@@ -187,6 +187,6 @@ room_more level count numbers numbers' after any room e fewer on =
 
 pub number_within : (numbers : List (Option ℕ)) (x k : ℕ) → distance numbers x ≡ Some k → x < length numbers
 number_within numbers x k e = elim (cases_lt x (length numbers)) [
-    inl less ↦ less
+  | inl less ↦ less
   | inr more ↦ absurd (none≢some (distance numbers x) k (get_or_past numbers x None more) e)
-  ]
+]

@@ -1,10 +1,9 @@
 -- Marks as they are set, and one go over the pairs.
-use Rattle.std.proofs.Common.{◌≡◌, ◌≢◌, ◌⊎◌, ℕ, ◌+◌, ◌<◌, ◌≤◌, Bool, true, false, not, cond, List, length, get_or, set, Contains, count_by, inl, inr, refl, sym, subst, arith, get_or-set_same, get_or-set_other, true≢false, length-set, ◌∙◌, ap, lt_of_not-le}
+use Rattle.std.proofs.Common.{◌≡◌, ◌≢◌, ◌⊎◌, ℕ, ◌+◌, ◌<◌, ◌≤◌, Bool, true, false, not, cond, List, length, get_or, set, Contains, count_by, inl, inr, refl, sym, subst, arith, get_or-set_same, get_or-set_other, true≢false, ◌∙◌, ap, lt_of_not-le}
 use lib.ListN.{get_or-eq_default}
 use Rattle.std.proofs.lemmas.Bool.Decides.{eqb_tells}
 use Rattle.std.proofs.lemmas.List.Sums.{sum_by-set}
 use Rattle.std.proofs.lemmas.List.{get_or_default}
-use Rattle.rel_graph.specs.Chains.{Paired}
 use Rattle.rel_graph.specs.Before.{Belongs}
 use Rattle.rel_graph.specs.Marks.{Marked, Reached}
 use Rattle.rel_graph.proofs.Chains.{belongs_more, belongs_carries}
@@ -21,15 +20,15 @@ marked_set_other marks y x b ne = get_or-set_other marks y x b false ne
 
 pub marked_set_keeps : (marks : List Bool) (y x : ℕ) → y < length marks → Marked marks x → Marked (set marks y true) x
 marked_set_keeps marks y x h m = elim (eqb_tells x y) [
-    inl e ↦ subst (λ z. Marked (set marks y true) z) (sym e.1) (marked_set_here marks y h)
+  | inl e ↦ subst (λ z. Marked (set marks y true) z) (sym e.1) (marked_set_here marks y h)
   | inr e ↦ marked_set_other marks y x true e.1 ∙ m
-  ]
+]
 
 pub marked_set_cases : (marks : List Bool) (y x : ℕ) → Marked (set marks y true) x → (y ≡ x) ⊎ Marked marks x
 marked_set_cases marks y x m = elim (eqb_tells x y) [
-    inl e ↦ inl (sym e.1)
+  | inl e ↦ inl (sym e.1)
   | inr e ↦ inr (sym (marked_set_other marks y x true e.1) ∙ m)
-  ]
+]
 
 -- one mark more is one less that is not marked
 pub fewer_unmarked : (marks : List Bool) (y : ℕ) → y < length marks → get_or marks y false ≡ false →
@@ -61,9 +60,9 @@ passing_skip pairs old marks moved i p here = record {
   keeps = p.keeps;
   sound = p.sound;
   closed = λ e k h. elim (eqb_tells k i) [
-      inl same ↦ subst (λ z. Marked marks (get_or pairs z (0, 0)).0 → Marked marks (get_or pairs z (0, 0)).1) (sym same.1) here
+    | inl same ↦ subst (λ z. Marked marks (get_or pairs z (0, 0)).0 → Marked marks (get_or pairs z (0, 0)).1) (sym same.1) here
     | inr other ↦ p.closed e k (omega (arith, other.1))
-    ];
+  ];
   fewer = p.fewer;
 }
 
@@ -78,7 +77,7 @@ passing_mark pairs old marks moved i p here within from to =
     record {
       keeps = λ x m. marked_set_keeps marks y x within (p.keeps x m);
       sound = λ x m. elim (marked_set_cases marks y x m) [
-          inl e ↦
+        | inl e ↦
             let r = p.sound (get_or pairs i (0, 0)).0 from in
             record {
               from = r.from;
@@ -86,7 +85,7 @@ passing_mark pairs old marks moved i p here within from to =
               leads = subst (λ z. Belongs pairs z r.from) e (belongs_more pairs (get_or pairs i (0, 0)).0 y r.from r.leads here);
             }
         | inr k ↦ p.sound x k
-        ];
+      ];
       closed = λ e. absurd (true≢false e);
       fewer = let f = p.fewer in omega (arith, less, f);
     }

@@ -1,5 +1,5 @@
 -- Listing what is ready, one after another.
-use Rattle.std.proofs.Common.{◌≡◌, ◌≢◌, ◌⊎◌, ◌↔◌, ℕ, zero, suc, Bool, true, false, not, ◌||◌, ◌+◌, ◌<◌, ◌≤◌, List, [], ◌∷◌, ◌++◌, length, get_or, set, take, slice_index, eqb, Contains, inl, inr, refl, sym, subst, ap, ◌∙◌, arith, true≢false, length-append, replicate, count_by, cond, get_or-set_same}
+use Rattle.std.proofs.Common.{◌≡◌, ◌⊎◌, ℕ, zero, suc, Bool, true, false, ◌||◌, ◌+◌, ◌<◌, ◌≤◌, List, [], ◌∷◌, ◌++◌, length, get_or, set, take, slice_index, eqb, Contains, inl, inr, refl, sym, subst, ap, ◌∙◌, arith, true≢false, length-append, replicate, count_by, cond, get_or-set_same}
 use lib.ListN.{length-replicate, get_or-replicate}
 use Rattle.std.proofs.lemmas.List.Sums.{sum_by-set}
 use Rattle.std.proofs.lemmas.List.{take-append-le, get_or_append_left, get_or_push, take_all}
@@ -27,9 +27,9 @@ none_equal y (x ∷ xs) e = let h = or_false (eqb y x) (list_any (eqb y) xs) e i
 
 any_cases : (y x : ℕ) (xs : List ℕ) → list_any (eqb y) (x ∷ xs) ≡ true → (y ≡ x) ⊎ (list_any (eqb y) xs ≡ true)
 any_cases y x xs e = elim (eqb_tells y x) [
-    inl same ↦ inl same.1
+  | inl same ↦ inl same.1
   | inr other ↦ inr (subst (λ b. (b || list_any (eqb y) xs) ≡ true) other.0 e)
-  ]
+]
 
 bool_cases : (b : Bool) → (b ≡ true) ⊎ (b ≡ false)
 bool_cases true = inl refl
@@ -45,18 +45,18 @@ module _ (R : ℕ → ℕ → Type 0) (n : ℕ) (P : ℕ → Type 0) (acyclic : 
 
   from_head : (head : ℕ) (tail : List ℕ) → Trail head tail → (y q : ℕ) → R y head → list_any (eqb q) (head ∷ tail) ≡ true → Closure R y q
   from_head head tail t y q r e = elim (any_cases q head tail e) [
-      inl same ↦ ([], subst (λ z. R y z) (sym same) r)
+    | inl same ↦ ([], subst (λ z. R y z) (sym same) r)
     | inr later ↦ closure_join R y head q ([], r) (t.leads q later)
-    ]
+  ]
 
   longer : (head : ℕ) (tail : List ℕ) → Trail head tail → (y : ℕ) → P y → R y head → list_any (eqb y) (head ∷ tail) ≡ false → Trail y (head ∷ tail)
   unfolding IsDistinct
   longer head tail t y p r new = record {
     distinct = (none_equal y (head ∷ tail) new, t.distinct);
     within = λ q e. elim (any_cases q y (head ∷ tail) e) [
-        inl same ↦ subst (λ z. z < n) (sym same) (below y p)
+      | inl same ↦ subst (λ z. z < n) (sym same) (below y p)
       | inr later ↦ t.within q later
-      ];
+    ];
     leads = λ q e. from_head head tail t y q r e;
   }
 
@@ -65,18 +65,18 @@ module _ (R : ℕ → ℕ → Type 0) (n : ℕ) (P : ℕ → Type 0) (acyclic : 
       let h = length-le_from_distinct_below (head ∷ tail) n t.distinct t.within in
       absurd (omega (arith, h, room))
   walk (suc left) head tail t p room = back head p (λ y py r. elim (bool_cases (list_any (eqb y) (head ∷ tail))) [
-      inl again ↦ acyclic y (from_head head tail t y y r again)
+    | inl again ↦ acyclic y (from_head head tail t y y r again)
     | inr new ↦ walk left y (head ∷ tail) (longer head tail t y py r new) py (omega (arith, room))
-    ])
+  ])
 
   pub no_trail : (x : ℕ) → ¬ (P x)
   unfolding IsDistinct
   no_trail x p = walk n x [] (record {
     distinct = (tt, tt);
     within = λ q e. elim (any_cases q x [] e) [
-        inl same ↦ subst (λ z. z < n) (sym same) (below x p)
+      | inl same ↦ subst (λ z. z < n) (sym same) (below x p)
       | inr later ↦ absurd (true≢false (sym later))
-      ];
+    ];
     leads = λ q e. absurd (true≢false (sym e));
   }) p (omega arith)
 
@@ -115,51 +115,51 @@ module _ (R : ℕ → ℕ → Type 0) (count : ℕ) (left : List Bool) (order : 
     unlisted = l.apart x m;
     ready = ready_from R order l.closed x direct;
     least = λ y h u r. elim (l.all y h) [
-        inl k ↦ least y k r
+      | inl k ↦ least y k r
       | inr k ↦ absurd (u k)
-      ];
+    ];
   }
 
   each_more : (k : ℕ) → k < length (order ++ x ∷ []) → IsNext R count (take k (order ++ x ∷ [])) (slice_index (order ++ x ∷ []) k)
   each_more k h = elim (cases_lt k (length order)) [
-      inl less ↦
+    | inl less ↦
         subst (λ t. IsNext R count t (slice_index (order ++ x ∷ []) k)) (sym (take-append-le k order (x ∷ []) (omega arith)))
         (subst (λ y. IsNext R count (take k order) y) (sym (get_or_append_left order (x ∷ []) 0 k less)) (l.each k less))
     | inr more ↦
-      let e : length order ≡ k = (let n = length-append order (x ∷ []) in omega (arith, n, h, more)) in
-      let front : take k (order ++ x ∷ []) ≡ order = take-append-le k order (x ∷ []) (omega (arith, e)) ∙ take_all k order (omega (arith, e)) in
-      subst (λ t. IsNext R count t (slice_index (order ++ x ∷ []) k)) (sym front)
-      (subst (λ y. IsNext R count order y) (sym (get_or_push order x 0 k e)) next)
-    ]
+        let e : length order ≡ k = (let n = length-append order (x ∷ []) in omega (arith, n, h, more)) in
+        let front : take k (order ++ x ∷ []) ≡ order = take-append-le k order (x ∷ []) (omega (arith, e)) ∙ take_all k order (omega (arith, e)) in
+        subst (λ t. IsNext R count t (slice_index (order ++ x ∷ []) k)) (sym front)
+        (subst (λ y. IsNext R count order y) (sym (get_or_push order x 0 k e)) next)
+  ]
 
   gone : (y : ℕ) → x ≡ y → ¬ (Marked (set left x false) y)
   gone y same k = true≢false (sym (subst (λ z. Marked (set left x false) z) (sym same) k) ∙ get_or-set_same left x false false (marked_within left x m))
 
   unset : (y : ℕ) → Marked (set left x false) y → Marked left y
   unset y k = elim (eqb_tells y x) [
-      inl same ↦ absurd (gone y (sym same.1) k)
+    | inl same ↦ absurd (gone y (sym same.1) k)
     | inr other ↦ sym (marked_set_other left x y false other.1) ∙ k
-    ]
+  ]
 
   -- the next one is listed
   pub listing_more : Listing R count (set left x false) (order ++ x ∷ [])
   listing_more = record {
     within = λ y k. l.within y (unset y k);
     apart = λ y k c. elim (Contains-push_cases order x y c) [
-        inl old ↦ l.apart y (unset y k) old
+      | inl old ↦ l.apart y (unset y k) old
       | inr same ↦ gone y same k
-      ];
+    ];
     all = λ y h. elim (eqb_tells y x) [
-        inl same ↦ inr (subst (λ z. Contains (order ++ x ∷ []) z) (sym same.1) (Contains-push order x))
+      | inl same ↦ inr (subst (λ z. Contains (order ++ x ∷ []) z) (sym same.1) (Contains-push order x))
       | inr other ↦ elim (l.all y h) [
-          inl k ↦ inl (marked_set_other left x y false other.1 ∙ k)
+        | inl k ↦ inl (marked_set_other left x y false other.1 ∙ k)
         | inr c ↦ inr (Contains-append_left order (x ∷ []) y c)
-        ]
-      ];
+      ]
+    ];
     closed = λ y z c r. Contains-append_left order (x ∷ []) z (elim (Contains-push_cases order x y c) [
-        inl old ↦ l.closed y z old r
+      | inl old ↦ l.closed y z old r
       | inr same ↦ direct z (subst (λ w. R z w) (sym same) r)
-      ]);
+    ]);
     each = each_more;
   }
 
@@ -173,9 +173,9 @@ pub order_from : (R : ℕ → ℕ → Type 0) (count : ℕ) (left : List Bool) (
 order_from R count left order l none = record {
   each = l.each;
   all = λ x h. elim (l.all x h) [
-      inl k ↦ absurd (none x k)
+    | inl k ↦ absurd (none x k)
     | inr c ↦ c
-    ];
+  ];
 }
 
 -- one mark less
@@ -193,6 +193,6 @@ ready_free R count left order l y z ready m r = l.apart z m (ready z ([], r))
 pub free_listed : (R : ℕ → ℕ → Type 0) (count : ℕ) (left : List Bool) (order : List ℕ) → Listing R count left order → (x : ℕ) →
     ((y : ℕ) → R y x → y < count) → ((y : ℕ) → Marked left y → ¬ (R y x)) → (y : ℕ) → R y x → Contains order y
 free_listed R count left order l x within free y r = elim (l.all y (within y r)) [
-    inl m ↦ absurd (free y m r)
+  | inl m ↦ absurd (free y m r)
   | inr c ↦ c
-  ]
+]

@@ -1,7 +1,6 @@
 -- The next one, where all that is left is marked and what it blocks.
-use Rattle.std.proofs.Common.{◌≡◌, ◌↔◌, ℕ, Bool, ◌<◌, ◌≤◌, List, [], ◌∷◌, ◌++◌, set, false, Contains, subst}
+use Rattle.std.proofs.Common.{◌↔◌, ℕ, Bool, List, [], ◌∷◌, ◌++◌, set, false}
 use Rattle.rel_graph.specs.Before.{Direct}
-use Rattle.rel_graph.specs.Orders.{Ready}
 use Rattle.rel_graph.specs.Listing.{Listing, IsStuck}
 use Rattle.rel_graph.specs.Marks.{Marked, Followed, IsLeastFree}
 use Rattle.rel_graph.specs.Pairs.{AllBelow}
@@ -14,7 +13,7 @@ pub plain_more : (containers edges : List (ℕ × ℕ)) (count : ℕ) (left bloc
 plain_more containers edges count left blocked order x below edges_below l blocks free =
     listing_more (Direct containers edges) count left order l x free.marked
     (free_listed (Direct containers edges) count left order l x (λ y r. direct_below containers edges count y x below edges_below r)
-     (λ y m r. free.free ((blocks x).1 (record { from = y; marked = m; direct = r }))))
+    (λ y m r. free.free ((blocks x).1 (record { from = y; marked = m; direct = r }))))
     (λ y m ready. free.least y m (λ b. let f = (blocks y).0 b in ready_free (Direct containers edges) count left order l y f.from ready f.marked f.direct))
 
 pub plain_stuck : (containers edges : List (ℕ × ℕ)) (left blocked : List Bool) → ((y : ℕ) → Marked blocked y ↔ Followed containers edges left y) →

@@ -1,7 +1,6 @@
 -- Pass after pass.
-use Rattle.std.proofs.Common.{◌≡◌, ℕ, Bool, false, List, Contains, inl, inr, refl}
+use Rattle.std.proofs.Common.{◌≡◌, ℕ, Bool, false, List, Contains}
 use Rattle.rel_graph.specs.Marks.{Marked, Reached}
-use Rattle.rel_graph.specs.Before.{Belongs}
 use Rattle.rel_graph.proofs.Chains.{belongs_join}
 
 pub record Spreading (pairs : List (ℕ × ℕ)) (old marks : List Bool) (moving : Bool) : Type 0 where

@@ -1,5 +1,5 @@
 -- One index after another is given its number.
-use Rattle.std.proofs.Common.{◌≡◌, ◌≢◌, ◌⊎◌, ℕ, Bool, true, false, cond, ◌+◌, ◌<◌, ◌≤◌, List, length, get_or, set, Option, Some, None, is_none, is_some, count_by, inl, inr, refl, sym, subst, ap, ◌∙◌, arith, true≢false, get_or-set_same, get_or-set_other}
+use Rattle.std.proofs.Common.{◌≡◌, ◌≢◌, ℕ, Bool, true, false, cond, ◌+◌, ◌<◌, ◌≤◌, List, length, get_or, set, Option, Some, None, is_none, is_some, count_by, inl, inr, refl, sym, subst, ap, ◌∙◌, arith, true≢false, get_or-set_same, get_or-set_other}
 use Rattle.std.proofs.lemmas.Bool.{cases_lt}
 use Rattle.std.proofs.lemmas.Bool.Decides.{eqb_tells}
 use Rattle.std.proofs.lemmas.List.{get_or_past}
@@ -63,22 +63,22 @@ pub advancing_more : (level : ℕ) (numbers after after' : List (Option ℕ)) (m
     Advancing level numbers after' marks left' any' (i + 1)
 advancing_more level numbers after after' marks left left' any any' i a others other_marks step fewer last = record {
   done = λ x h. elim (eqb_tells x i) [
-      inl same ↦
+    | inl same ↦
         let here : StepsTo level (distance numbers i) (distance after' i) (mark marks i) (mark left' i) =
-          subst (λ n. StepsTo level n (distance after' i) (mark marks i) (mark left' i)) (a.rest_numbers i (omega arith))
-          (subst (λ m. StepsTo level (distance after i) (distance after' i) m (mark left' i)) (a.rest_marks i (omega arith)) step) in
+        subst (λ n. StepsTo level n (distance after' i) (mark marks i) (mark left' i)) (a.rest_numbers i (omega arith))
+        (subst (λ m. StepsTo level (distance after i) (distance after' i) m (mark left' i)) (a.rest_marks i (omega arith)) step) in
         subst (λ z. StepsTo level (distance numbers z) (distance after' z) (mark marks z) (mark left' z)) (sym same.1) here
     | inr other ↦
-      subst (λ n. StepsTo level (distance numbers x) n (mark marks x) (mark left' x)) (sym (others x other.1))
-      (subst (λ m. StepsTo level (distance numbers x) (distance after x) (mark marks x) m) (sym (other_marks x other.1)) (a.done x (omega (arith, other.1))))
-    ];
+        subst (λ n. StepsTo level (distance numbers x) n (mark marks x) (mark left' x)) (sym (others x other.1))
+        (subst (λ m. StepsTo level (distance numbers x) (distance after x) (mark marks x) m) (sym (other_marks x other.1)) (a.done x (omega (arith, other.1))))
+  ];
   rest_numbers = λ x h. others x (omega arith) ∙ a.rest_numbers x (omega arith);
   rest_marks = λ x h. other_marks x (omega arith) ∙ a.rest_marks x (omega arith);
   fewer = fewer;
   last = λ none x h. elim (eqb_tells x i) [
-      inl same ↦ subst (λ z. mark left' z ≡ false) (sym same.1) (last none).1
+    | inl same ↦ subst (λ z. mark left' z ≡ false) (sym same.1) (last none).1
     | inr other ↦ other_marks x other.1 ∙ a.last (last none).0 x (omega (arith, other.1))
-    ];
+  ];
 }
 
 pub advancing_skip : (level : ℕ) (numbers after : List (Option ℕ)) (marks left : List Bool) (any : Bool) (i : ℕ) →
@@ -124,16 +124,16 @@ advancing_drop level numbers after marks left any i a within some =
 pub advancing_end : (level : ℕ) (numbers after : List (Option ℕ)) (marks left : List Bool) (any : Bool) (i : ℕ) →
     Advancing level numbers after marks left any i → length marks ≤ i → IsAdvance level numbers after marks left
 advancing_end level numbers after marks left any i a end x = elim (cases_lt x i) [
-    inl below ↦ a.done x (omega arith)
+  | inl below ↦ a.done x (omega arith)
   | inr above ↦
-    let off : mark left x ≡ false = a.rest_marks x (omega arith) ∙ get_or_past marks x false (omega arith) in
-    subst (λ n. StepsTo level (distance numbers x) n (mark marks x) (mark left x)) (sym (a.rest_numbers x (omega arith)))
-    (subst (λ m. StepsTo level (distance numbers x) (distance numbers x) m (mark left x)) (a.rest_marks x (omega arith)) (step_off level (distance numbers x) (mark left x) off))
-  ]
+      let off : mark left x ≡ false = a.rest_marks x (omega arith) ∙ get_or_past marks x false (omega arith) in
+      subst (λ n. StepsTo level (distance numbers x) n (mark marks x) (mark left x)) (sym (a.rest_numbers x (omega arith)))
+      (subst (λ m. StepsTo level (distance numbers x) (distance numbers x) m (mark left x)) (a.rest_marks x (omega arith)) (step_off level (distance numbers x) (mark left x) off))
+]
 
 pub advancing_last : (level : ℕ) (numbers after : List (Option ℕ)) (marks left : List Bool) (i : ℕ) →
     Advancing level numbers after marks left false i → length marks ≤ i → (x : ℕ) → mark left x ≡ false
 advancing_last level numbers after marks left i a end x = elim (cases_lt x i) [
-    inl below ↦ a.last refl x (omega arith)
+  | inl below ↦ a.last refl x (omega arith)
   | inr above ↦ a.rest_marks x (omega arith) ∙ get_or_past marks x false (omega arith)
-  ]
+]

@@ -1,8 +1,8 @@
 -- There is one order, and one cycle that is told.
-use Rattle.std.proofs.Common.{◌≡◌, ◌⊎◌, ℕ, zero, suc, ◌+◌, ◌<◌, ◌≤◌, List, [], ◌∷◌, ◌++◌, length, take, get_or, slice_index, Contains, inl, inr, refl, sym, subst, ap, ap₂, ◌∙◌, arith, le_antisymm, take-suc, take_all}
+use Rattle.std.proofs.Common.{◌≡◌, ℕ, zero, suc, ◌≤◌, List, [], ◌∷◌, ◌++◌, length, take, slice_index, Contains, inl, inr, refl, sym, subst, ap₂, ◌∙◌, arith, le_antisymm, take-suc, take_all}
 use Rattle.std.proofs.lemmas.Bool.{cases_lt}
-use Rattle.rel_graph.specs.Before.{Direct, Before}
-use Rattle.rel_graph.specs.Chains.{Chain, Closure}
+use Rattle.rel_graph.specs.Before.{Direct}
+use Rattle.rel_graph.specs.Chains.{Chain}
 use Rattle.rel_graph.specs.Cycles.{IsCycle, NoLater}
 use Rattle.rel_graph.specs.Orders.{IsNext, IsOrder}
 use Rattle.rel_graph.specs.Laws.{OneOrder, OneCycle, OrderHasNoCycle}
@@ -22,12 +22,12 @@ module _ (R : ℕ → ℕ → Type 0) (count : ℕ) where
 
   not_longer : (xs ys : List ℕ) → IsOrder R count xs → IsOrder R count ys → length ys ≤ length xs
   not_longer xs ys o p = elim (cases_lt (length xs) (length ys)) [
-      inl less ↦
+    | inl less ↦
         let next = p.each (length xs) less in
         let front : take (length xs) ys ≡ xs = sym (same_front xs ys o p (length xs) (omega arith) (omega arith)) ∙ take_all (length xs) xs (omega arith) in
         absurd (next.unlisted (subst (λ t. Contains t (slice_index ys (length xs))) (sym front) (o.all (slice_index ys (length xs)) next.below)))
     | inr more ↦ more
-    ]
+  ]
 
   one_order : (xs ys : List ℕ) → IsOrder R count xs → IsOrder R count ys → xs ≡ ys
   one_order xs ys o p =

@@ -1,5 +1,5 @@
 -- Pairs of indexes below a count, one after another.
-use Rattle.std.proofs.Common.{◌≡◌, ◌⊎◌, ℕ, ◌+◌, ◌<◌, ◌≤◌, List, length, map, get_or, sym, subst, arith, below_more}
+use Rattle.std.proofs.Common.{ℕ, ◌+◌, ◌<◌, ◌≤◌, List, length, map, get_or, sym, subst, arith, below_more}
 use Rattle.std.proofs.lemmas.List.{get_or_default}
 use lib.ListN.{get_or-map, length-map}
 use Rattle.rel_graph.specs.Pairs.{AllBelow}

@@ -1,5 +1,5 @@
 -- What a graph holds.
-use Rattle.std.specs.Prelude.{◌≡◌, ℕ, Bool, true, false, ◌<◌, List, map}
+use Rattle.std.specs.Prelude.{◌≡◌, ℕ, Bool, true, false, List}
 use Rattle.res_core.specs.declared.edge.Edge.{Edge}
 use Rattle.rel_graph.specs.declared.containment.Containment.{Containment}
 use Rattle.rel_graph.specs.Chains.{Paired, Closure}

@@ -1,5 +1,5 @@
 -- Laws of orders and cycles.
-use Rattle.std.specs.Prelude.{◌≡◌, ℕ, ◌<◌, List}
+use Rattle.std.specs.Prelude.{◌≡◌, ℕ, List}
 use Rattle.rel_graph.specs.Before.{Direct, Before}
 use Rattle.rel_graph.specs.Orders.{IsOrder}
 use Rattle.rel_graph.specs.Cycles.{IsCycle}

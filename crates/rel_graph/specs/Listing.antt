@@ -1,5 +1,5 @@
 -- What is listed when nothing more is ready.
-use Rattle.std.specs.Prelude.{◌≡◌, ◌⊎◌, ℕ, ◌<◌, Bool, List, length, take, slice_index}
+use Rattle.std.specs.Prelude.{◌⊎◌, ℕ, ◌<◌, Bool, List, length, take, slice_index}
 use Rattle.std.specs.List.{Contains}
 use Rattle.rel_graph.specs.Marks.{Marked}
 use Rattle.rel_graph.specs.Orders.{IsNext}

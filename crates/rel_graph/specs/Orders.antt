@@ -1,5 +1,5 @@
 -- The order in which resources are listed, where `R a b` says that a stands directly before b.
-use Rattle.std.specs.Prelude.{◌≡◌, ℕ, ◌<◌, ◌≤◌, List, length, take, slice_index}
+use Rattle.std.specs.Prelude.{ℕ, ◌<◌, ◌≤◌, List, length, take, slice_index}
 use Rattle.std.specs.List.{Contains}
 use Rattle.rel_graph.specs.Chains.{Closure}
 

@@ -103,7 +103,15 @@ pub fn first_cycle(
     for start in 0..count {
         let numbers = distances(alloc, containers, edges, count, start)?;
         if let Some(between) = numbers[start as usize] {
-            let cycle = trace(alloc, containers, edges, count, numbers.as_slice(), start, between)?;
+            let cycle = trace(
+                alloc,
+                containers,
+                edges,
+                count,
+                numbers.as_slice(),
+                start,
+                between,
+            )?;
             return Ok(Some(cycle));
         }
     }

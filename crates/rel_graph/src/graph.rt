@@ -38,10 +38,16 @@ impl Model for Graph {
     ghost invariant = { λ g. AreRelations g.count g.containers.items g.edges.items g.cyclic };
 }
 
-fn containment_pairs(alloc: Global, containers: &[Containment]) -> Result<Vec<(u32, u32)>, AllocError>
+fn containment_pairs(
+    alloc: Global,
+    containers: &[Containment],
+) -> Result<Vec<(u32, u32)>, AllocError>
     ensures { IfOk result (λ v. v.items ≡ map containment_pair containers.now) }
 {
-    containers.iter().map(|it| (it.container, it.member)).collect(alloc)
+    containers
+        .iter()
+        .map(|it| (it.container, it.member))
+        .collect(alloc)
 }
 
 fn edge_pairs(alloc: Global, edges: &[Edge]) -> Result<Vec<(u32, u32)>, AllocError>
@@ -119,6 +125,11 @@ impl Graph {
     pub fn order(&self, alloc: Global) -> Result<Order, OrderStop>
         ensures { MatchResult result (IsOrder (Direct self.now.containers self.now.edges) self.now.count) (IsOrderStop (Direct self.now.containers self.now.edges)) }
     {
-        sort(alloc, self.containers.as_slice(), self.edges.as_slice(), self.count)
+        sort(
+            alloc,
+            self.containers.as_slice(),
+            self.edges.as_slice(),
+            self.count,
+        )
     }
 }

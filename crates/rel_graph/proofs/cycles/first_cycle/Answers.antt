@@ -1,6 +1,5 @@
-use Rattle.std.proofs.Common.{◌≡◌, ◌∙◌, ℕ, ◌<◌, sym, subst, List, Option, Some, None, length, arith, get_or, below_more}
+use Rattle.std.proofs.Common.{◌≡◌, ◌∙◌, ◌<◌, sym, Some, None, length, arith, below_more}
 use Rattle.std.proofs.lemmas.List.{get_or_read}
-use Rattle.rel_graph.specs.Before.{Direct}
 use Rattle.rel_graph.specs.Distances.{distance}
 use Rattle.rel_graph.proofs.Best.{is_cycle, no_cycle_here}
 use Rattle.rel_graph.proofs.Below.{before_below}

@@ -1,4 +1,4 @@
-use Rattle.std.proofs.Common.{◌≡◌, ◌↔◌, ◌∙◌, ℕ, Bool, List, map, subst}
+use Rattle.std.proofs.Common.{◌↔◌, ◌∙◌, ℕ, Bool, List, map, subst}
 use Rattle.rel_graph.specs.Marks.{Marked, Reached, Crossed}
 use Rattle.rel_graph.specs.Pairs.{flip}
 use Rattle.rel_graph.proofs.Flips.{below_flip, followed_from, followed_to}
@@ -19,5 +19,5 @@ returns-clause-marked c =
     let down : (y : ℕ) → Marked c.in_ok-after.after.items y ↔ Reached containers targets y = subst (λ ms. (y : ℕ) → Marked c.in_ok-after.after.items y ↔ Reached containers ms y) c.as_slice-3.ensures.value c.in_ok-after.ensures.marked in
     λ x. (
       λ m. followed_from containers edges marks sources targets x (λ y. (up y).0) (λ y. (across y).0) ((down x).0 m),
-      λ f. (down x).1 (followed_to containers edges marks sources targets x (λ y. (up y).1) (λ y. (across y).1) f)
+      λ f. (down x).1 (followed_to containers edges marks sources targets x (λ y. (up y).1) (λ y. (across y).1) f),
     )

@@ -1,4 +1,4 @@
-use Rattle.std.proofs.Common.{◌≡◌, ◌↔◌, ◌∙◌, ℕ, Bool, List, map, subst}
+use Rattle.std.proofs.Common.{◌↔◌, ◌∙◌, ℕ, Bool, List, map, subst}
 use Rattle.rel_graph.specs.Marks.{Marked, Followed}
 use Rattle.rel_graph.specs.Pairs.{flip}
 use Rattle.rel_graph.proofs.Flips.{below_flip, preceded_from, preceded_to}
@@ -16,5 +16,5 @@ returns-clause-marked c =
     let back : (y : ℕ) → Marked before y ↔ Followed containers (map flip edges) marks y = subst (λ es. (y : ℕ) → Marked before y ↔ Followed containers es marks y) (c.as_slice.ensures.value ∙ c.in_ok-back.ensures) c.in_ok-before.ensures.marked in
     λ x. (
       λ m. preceded_from containers edges marks x ((back x).0 m),
-      λ p. (back x).1 (preceded_to containers edges marks x p)
+      λ p. (back x).1 (preceded_to containers edges marks x p),
     )

@@ -1,14 +1,13 @@
-use Rattle.std.proofs.Common.{◌≡◌, ◌∙◌, ap, ℕ, Bool, List, Option, length, arith, false}
+use Rattle.std.proofs.Common.{ap, length, arith}
 use Rattle.rel_graph.proofs.Levels.{levels_end, room_more, distances_step, written_back}
-use Rattle.rel_graph.specs.Before.{Direct}
 use Rattle.rel_graph.proofs.distances.distances.Goals as goal
 
 pub returns-then-not-advance-clause-distances : goal.returns-then-not-advance-clause-distances
 returns-then-not-advance-clause-distances c = rw (written_back c.loop-marks.numbers.len c.loop-marks.numbers.items c.advance.new.numbers (omega arith)) (
-  levels_end _ _ _ _ _
-  (distances_step _ _ _ _ _ _ _ _ _ _ _ _ c.loop-marks.invariant.levels c.deref_mut.ensures.value c.as_slice.ensures.value c.deref_mut-in-loop-marks.ensures.value c.in_ok-before.ensures.marked c.advance.ensures.advance)
-  (c.advance.ensures.last c.if-not-advance.true)
-)
+    levels_end _ _ _ _ _
+    (distances_step _ _ _ _ _ _ _ _ _ _ _ _ c.loop-marks.invariant.levels c.deref_mut.ensures.value c.as_slice.ensures.value c.deref_mut-in-loop-marks.ensures.value c.in_ok-before.ensures.marked c.advance.ensures.advance)
+    (c.advance.ensures.last c.if-not-advance.true)
+    )
 
 pub loop-marks-preserved : goal.loop-marks-preserved
 loop-marks-preserved c =

@@ -1,4 +1,4 @@
-use Rattle.std.proofs.Common.{◌≡◌, ℕ, ◌+◌, ◌≤◌, is_none, length, count_by}
+use Rattle.std.proofs.Common.{◌≡◌, ◌+◌, ◌≤◌, is_none, length, count_by}
 use Rattle.rel_graph.specs.Before.{Direct}
 use Rattle.rel_graph.proofs.Levels.{Levels}
 use Rattle.rel_graph.proofs.distances.distances.Given as goal

@@ -19,9 +19,9 @@ invariant_of-result c =
       edges_below = subst (λ ps. AllBelow ps c.args.count) (sym (edges_are c)) c.requires.edges_below;
       contains = subst NoneInsideItself c.as_slice-3.ensures.value c.in_ok-check_containment.ensures;
       no = subst (λ es. b ≡ false → (r : ℕ) → ¬ (Before containers es r r)) c.as_slice-5.ensures.value
-        (subst (λ cs. b ≡ false → (r : ℕ) → ¬ (Before cs c.as_slice-5.result.now r r)) c.as_slice-4.ensures.value c.in_ok-cyclic.ensures.no);
+          (subst (λ cs. b ≡ false → (r : ℕ) → ¬ (Before cs c.as_slice-5.result.now r r)) c.as_slice-4.ensures.value c.in_ok-cyclic.ensures.no);
       yes = subst (λ es. b ≡ true → SomeBeforeItself containers es) c.as_slice-5.ensures.value
-        (subst (λ cs. b ≡ true → SomeBeforeItself cs c.as_slice-5.result.now) c.as_slice-4.ensures.value c.in_ok-cyclic.ensures.yes);
+          (subst (λ cs. b ≡ true → SomeBeforeItself cs c.as_slice-5.result.now) c.as_slice-4.ensures.value c.in_ok-cyclic.ensures.yes);
     }
 
 pub returns : goal.returns

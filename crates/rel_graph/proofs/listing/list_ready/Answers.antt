@@ -1,7 +1,5 @@
-use Rattle.std.proofs.Common.{◌≡◌, ◌∙◌, ◌↔◌, ℕ, Bool, List, subst, sym, length-set, false}
-use Rattle.rel_graph.specs.Before.{Direct}
+use Rattle.std.proofs.Common.{◌∙◌, ◌↔◌, ℕ, Bool, List, subst, length-set, false}
 use Rattle.rel_graph.specs.Marks.{Marked, Followed, IsLeastFree}
-use Rattle.rel_graph.proofs.Ordering.{listing_start, fewer_left}
 use Rattle.rel_graph.proofs.Plain.{plain_more, plain_stuck}
 use Rattle.rel_graph.proofs.listing.list_ready.Goals as goal
 
@@ -12,7 +10,7 @@ returns-in-None-clause-stuck c =
     let blocks : (y : ℕ) → Marked blocked y ↔ Followed c.args.containers.now c.args.edges.now left y = subst (λ m. (y : ℕ) → Marked blocked y ↔ Followed c.args.containers.now c.args.edges.now m y) c.as_slice.ensures.value c.in_ok-blocked.ensures.marked in
     plain_stuck c.args.containers.now c.args.edges.now left blocked blocks
     (subst (λ m. (x : ℕ) → Marked m x → Marked blocked x) c.as_slice-in-loop-order.ensures.value
-     (subst (λ b. (x : ℕ) → Marked c.as_slice-in-loop-order.result.now x → Marked b x) c.as_slice-in-loop-order-2.ensures.value c.in-None.ensures))
+    (subst (λ b. (x : ℕ) → Marked c.as_slice-in-loop-order.result.now x → Marked b x) c.as_slice-in-loop-order-2.ensures.value c.in-None.ensures))
 
 pub loop-order-preserved : goal.loop-order-preserved
 loop-order-preserved c =

@@ -1,4 +1,3 @@
-use Rattle.std.proofs.Common.{◌≡◌, false}
 use Rattle.rel_graph.proofs.Spreads.{reached_again}
 use Rattle.rel_graph.proofs.Marking.{reached_closed}
 use Rattle.rel_graph.proofs.marks.spread.Goals as goal

@@ -1,5 +1,4 @@
-use Rattle.std.proofs.Common.{◌≡◌, ℕ, ◌+◌, true, false, not, cond, Contains, count_by}
-use Rattle.rel_graph.specs.Marks.{Marked, Reached}
+use Rattle.std.proofs.Common.{◌+◌, not, cond, count_by}
 use Rattle.rel_graph.proofs.Spreads.{Spreading}
 use Rattle.rel_graph.proofs.marks.spread.Given as goal
 

@@ -18,6 +18,8 @@ mod manifests;
 #[cfg(test)]
 mod operators;
 #[cfg(test)]
+mod orders;
+#[cfg(test)]
 mod reading;
 #[cfg(test)]
 mod samples;

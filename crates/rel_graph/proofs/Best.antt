@@ -15,7 +15,8 @@ suc_same : (j k : ℕ) → suc j ≡ suc k → j ≡ k
 suc_same j k e = omega arith
 
 -- the cycle so far, which whatever is best from here on makes the best
-pub record Tracing (R : ℕ → ℕ → Type 0) (goal : ℕ) (numbers : List (Option ℕ)) (total at left : ℕ) (cycle : List ℕ) : Type 0 where
+pub record Tracing (R : ℕ → ℕ → Type 0) (goal : ℕ) (numbers : List (Option ℕ)) (total at left : ℕ) (cycle : List ℕ)
+    : Type 0 where
   pub between : List ℕ
   pub is : cycle ≡ goal ∷ between
   pub far : distance numbers at ≡ Some left
@@ -23,7 +24,8 @@ pub record Tracing (R : ℕ → ℕ → Type 0) (goal : ℕ) (numbers : List (Op
 
 module _ (R : ℕ → ℕ → Type 0) (goal : ℕ) (numbers : List (Option ℕ)) (d : AreDistances R goal numbers) where
   -- what follows on a shortest chain is one nearer
-  nearer : (a y left : ℕ) (rest : List ℕ) → distance numbers a ≡ Some (suc left) → R a y → Chain R y rest goal → length rest ≡ left →
+  nearer : (a y left : ℕ) (rest : List ℕ) → distance numbers a ≡ Some (suc left) → R a y → Chain R y rest goal →
+      length rest ≡ left →
       distance numbers y ≡ Some left
   nearer a y left rest far r h long =
       let k = d.least y rest h in
@@ -33,15 +35,18 @@ module _ (R : ℕ → ℕ → Type 0) (goal : ℕ) (numbers : List (Option ℕ))
       let same : k.0 ≡ left = (let p = k.2 in let q = b.2 in let z = s.1 in omega (arith, e, p, q, z, long)) in
       k.1 ∙ ap (λ n. Some n) same
 
-  step_from : (a left : ℕ) (between : List ℕ) → distance numbers a ≡ Some (suc left) → length between ≡ suc left → Chain R a between goal →
+  step_from : (a left : ℕ) (between : List ℕ) → distance numbers a ≡ Some (suc left) → length between ≡ suc left →
+      Chain R a between goal →
       (x : ℕ) × R a x × (distance numbers x ≡ Some left)
   step_from a left [] far long h = absurd (omega arith)
   step_from a left (x ∷ rest) far long h = (x, h.0, nearer a x left rest far h.0 h.1 (suc_same (length rest) left long))
 
-  pub step_exists : (a left : ℕ) → distance numbers a ≡ Some (suc left) → (x : ℕ) × R a x × (distance numbers x ≡ Some left)
+  pub step_exists : (a left : ℕ) → distance numbers a ≡ Some (suc left) →
+      (x : ℕ) × R a x × (distance numbers x ≡ Some left)
   step_exists a left far = let s = d.sound a (suc left) far in step_from a left s.0 far s.1 s.2
 
-  least_more : (a x left : ℕ) (rest : List ℕ) → distance numbers a ≡ Some (suc left) → IsStep R numbers a left x → IsBest R goal x left rest →
+  least_more : (a x left : ℕ) (rest : List ℕ) → distance numbers a ≡ Some (suc left) → IsStep R numbers a left x →
+      IsBest R goal x left rest →
       (other : List ℕ) → Chain R a other goal → length other ≡ suc left → NoLater (x ∷ rest) other
   least_more a x left rest far step best [] h long = absurd (omega arith)
   least_more a x left rest far step best (y ∷ ys) h long =
@@ -54,7 +59,8 @@ module _ (R : ℕ → ℕ → Type 0) (goal : ℕ) (numbers : List (Option ℕ))
             inr (same, best.least ys (subst (λ z. Chain R z ys goal) (sym same) h.1) e)
       ]
 
-  pub best_more : (a x left : ℕ) (rest : List ℕ) → distance numbers a ≡ Some (suc left) → IsStep R numbers a left x → IsBest R goal x left rest →
+  pub best_more : (a x left : ℕ) (rest : List ℕ) → distance numbers a ≡ Some (suc left) → IsStep R numbers a left x →
+      IsBest R goal x left rest →
       IsBest R goal a (suc left) (x ∷ rest)
   best_more a x left rest far step best = record {
     chain = (step.direct, best.chain);
@@ -77,23 +83,28 @@ module _ (R : ℕ → ℕ → Type 0) (goal : ℕ) (numbers : List (Option ℕ))
     least = λ other _ _. no_later_none other;
   }
 
-  pub tracing_start : (total : ℕ) → distance numbers goal ≡ Some total → Tracing R goal numbers total goal total (goal ∷ [])
+  pub tracing_start : (total : ℕ) → distance numbers goal ≡ Some total →
+      Tracing R goal numbers total goal total (goal ∷ [])
   tracing_start total far = record { between = []; is = refl; far = far; best = λ rest b. b }
 
-  pub tracing_more : (total at left x : ℕ) (cycle : List ℕ) → Tracing R goal numbers total at (suc left) cycle → IsStep R numbers at left x →
+  pub tracing_more : (total at left x : ℕ) (cycle : List ℕ) → Tracing R goal numbers total at (suc left) cycle →
+      IsStep R numbers at left x →
       Tracing R goal numbers total x left (cycle ++ x ∷ [])
   tracing_more total at left x cycle t step = record {
     between = t.between ++ x ∷ [];
     is = ap (λ c. c ++ x ∷ []) t.is;
     far = step.far;
-    best = λ rest b. subst (λ c. IsBest R goal goal total c) (sym (append_assoc t.between (x ∷ []) rest)) (t.best (x ∷ rest) (best_more at x left rest t.far step b));
+    best = λ rest b. subst (λ c. IsBest R goal goal total c) (sym (append_assoc t.between (x ∷ []) rest))
+        (t.best (x ∷ rest) (best_more at x left rest t.far step b));
   }
 
-  pub tracing_end : (total at : ℕ) (cycle : List ℕ) → Tracing R goal numbers total at 0 cycle → (rest : List ℕ) × (cycle ≡ goal ∷ rest) × IsBest R goal goal total rest
+  pub tracing_end : (total at : ℕ) (cycle : List ℕ) → Tracing R goal numbers total at 0 cycle →
+      (rest : List ℕ) × (cycle ≡ goal ∷ rest) × IsBest R goal goal total rest
   tracing_end total at cycle t =
       (t.between, t.is, subst (λ c. IsBest R goal goal total c) (append-nil t.between) (t.best [] (best_end at t.far)))
 
-  pub is_cycle : (total : ℕ) (cycle rest : List ℕ) → ((q : ℕ) → q < goal → ¬ (Closure R q q)) → cycle ≡ goal ∷ rest → IsBest R goal goal total rest →
+  pub is_cycle : (total : ℕ) (cycle rest : List ℕ) → ((q : ℕ) → q < goal → ¬ (Closure R q q)) → cycle ≡ goal ∷ rest →
+      IsBest R goal goal total rest →
       distance numbers goal ≡ Some total → IsCycle R cycle
   is_cycle total cycle rest none e b far = record {
     start = goal;

@@ -3,7 +3,8 @@ use Rattle.std.proofs.Common.{ℕ, List, [], ◌∷◌, ◌++◌, inl, inr, subs
 use Rattle.rel_graph.specs.Chains.{Paired, Chain, Closure}
 use Rattle.rel_graph.specs.Before.{Inside, Belongs}
 
-pub chain_join : (R : ℕ → ℕ → Type 0) (a b c : ℕ) (u v : List ℕ) → Chain R a u b → Chain R b v c → Chain R a (u ++ b ∷ v) c
+pub chain_join : (R : ℕ → ℕ → Type 0) (a b c : ℕ) (u v : List ℕ) → Chain R a u b → Chain R b v c →
+    Chain R a (u ++ b ∷ v) c
 chain_join R a b c [] v h k = (h, k)
 chain_join R a b c (x ∷ u) v h k = (h.0, chain_join R x b c u v h.1 k)
 

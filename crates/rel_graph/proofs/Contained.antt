@@ -20,16 +20,19 @@ alone r c (inl e) = e
 alone r c (inr h) = absurd (none_inside c r h.0 h.1)
 
 paired_from : (pairs : List (ℕ × ℕ)) (r s : ℕ) → Direct [] pairs r s → Paired pairs r s
-paired_from pairs r s d = subst₂ (λ a b. Paired pairs a b) (alone r d.earlier d.source) (alone s d.later d.target) d.edge
+paired_from pairs r s d = subst₂ (λ a b. Paired pairs a b) (alone r d.earlier d.source) (alone s d.later d.target)
+    d.edge
 
 direct_from : (pairs : List (ℕ × ℕ)) (r s : ℕ) → Paired pairs r s → Direct [] pairs r s
 direct_from pairs r s p = record { earlier = r; later = s; edge = p; source = inl refl; target = inl refl }
 
-chain_same : (R S : ℕ → ℕ → Type 0) → ((a b : ℕ) → R a b → S a b) → (a b : ℕ) (between : List ℕ) → Chain R a between b → Chain S a between b
+chain_same : (R S : ℕ → ℕ → Type 0) → ((a b : ℕ) → R a b → S a b) → (a b : ℕ) (between : List ℕ) →
+    Chain R a between b → Chain S a between b
 chain_same R S f a b [] h = f a b h
 chain_same R S f a b (c ∷ between) h = (f a c h.0, chain_same R S f c b between h.1)
 
-pub contained_cycle : (pairs : List (ℕ × ℕ)) (cycle : List ℕ) → IsCycle (Direct [] pairs) cycle → IsCycle (Paired pairs) cycle
+pub contained_cycle : (pairs : List (ℕ × ℕ)) (cycle : List ℕ) → IsCycle (Direct [] pairs) cycle →
+    IsCycle (Paired pairs) cycle
 contained_cycle pairs cycle c =
     let out = chain_same (Direct [] pairs) (Paired pairs) (paired_from pairs) in
     let back = chain_same (Paired pairs) (Direct [] pairs) (direct_from pairs) in
@@ -43,12 +46,19 @@ contained_cycle pairs cycle c =
       least = λ other h. c.least other (back c.start c.start other h);
     }
 
-pub contained_none : (pairs : List (ℕ × ℕ)) → ((r : ℕ) → ¬ (Before [] pairs r r)) → (c : ℕ) → ¬ (Closure (Paired pairs) c c)
-contained_none pairs none c h = none c (h.0, chain_same (Paired pairs) (Direct [] pairs) (direct_from pairs) c c h.0 h.1)
+pub contained_none : (pairs : List (ℕ × ℕ)) → ((r : ℕ) → ¬ (Before [] pairs r r)) → (c : ℕ) →
+    ¬ (Closure (Paired pairs) c c)
+contained_none pairs none c h = none c (
+  h.0,
+  chain_same (Paired pairs) (Direct [] pairs) (direct_from pairs) c c h.0
+      h.1,
+)
 
 pub none_below : (n : ℕ) → AllBelow [] n
 none_below n k d h = absurd (omega arith)
 
-pub contained_order : (pairs : List (ℕ × ℕ)) (count : ℕ) (order : List ℕ) → AllBelow pairs count → IsOrder (Direct [] pairs) count order → (c : ℕ) → ¬ (Closure (Paired pairs) c c)
+pub contained_order : (pairs : List (ℕ × ℕ)) (count : ℕ) (order : List ℕ) → AllBelow pairs count →
+    IsOrder (Direct [] pairs) count order → (c : ℕ) → ¬ (Closure (Paired pairs) c c)
 contained_order pairs count order below o =
-    contained_none pairs (λ r b. order_acyclic (Direct [] pairs) count order o r (before_below [] pairs count r r (none_below count) below b) b)
+    contained_none pairs (λ r b. order_acyclic (Direct [] pairs) count order o r
+    (before_below [] pairs count r r (none_below count) below b) b)

@@ -12,7 +12,8 @@ pub record Crossing (edges : List (ℕ × ℕ)) (marks after : List Bool) (i : �
   pub sound : (x : ℕ) → Marked after x → Crossed edges marks x
   pub complete : (k : ℕ) → k < i → Marked marks (get_or edges k (0, 0)).0 → Marked after (get_or edges k (0, 0)).1
 
-pub crossing_none : (edges : List (ℕ × ℕ)) (marks after : List Bool) → ((x : ℕ) → ¬ (Marked after x)) → Crossing edges marks after 0
+pub crossing_none : (edges : List (ℕ × ℕ)) (marks after : List Bool) → ((x : ℕ) → ¬ (Marked after x)) →
+    Crossing edges marks after 0
 crossing_none edges marks after none = record {
   sound = λ x m. absurd (none x m);
   complete = λ k h. absurd (omega arith);
@@ -23,12 +24,14 @@ pub crossing_skip : (edges : List (ℕ × ℕ)) (marks after : List Bool) (i : �
 crossing_skip edges marks after i c off = record {
   sound = c.sound;
   complete = λ k h m. elim (eqb_tells k i) [
-    | inl same ↦ absurd (true≢false (sym m ∙ subst (λ z. get_or marks (get_or edges z (0, 0)).0 false ≡ false) (sym same.1) off))
+    | inl same ↦ absurd (true≢false (sym m ∙ subst (λ z. get_or marks (get_or edges z (0, 0)).0 false ≡ false)
+        (sym same.1) off))
     | inr other ↦ c.complete k (omega (arith, other.1)) m
   ];
 }
 
-pub crossing_mark : (edges : List (ℕ × ℕ)) (marks after : List Bool) (i : ℕ) → Crossing edges marks after i → i < length edges →
+pub crossing_mark : (edges : List (ℕ × ℕ)) (marks after : List Bool) (i : ℕ) → Crossing edges marks after i →
+    i < length edges →
     (get_or edges i (0, 0)).1 < length after → Marked marks (get_or edges i (0, 0)).0 →
     Crossing edges marks (set after (get_or edges i (0, 0)).1 true) (i + 1)
 crossing_mark edges marks after i c here within from =
@@ -43,12 +46,15 @@ crossing_mark edges marks after i c here within from =
         | inr k ↦ c.sound x k
       ];
       complete = λ k h m. elim (eqb_tells k i) [
-        | inl same ↦ subst (λ z. Marked (set after y true) (get_or edges z (0, 0)).1) (sym same.1) (marked_set_here after y within)
-        | inr other ↦ marked_set_keeps after y (get_or edges k (0, 0)).1 within (c.complete k (omega (arith, other.1)) m)
+        | inl same ↦ subst (λ z. Marked (set after y true) (get_or edges z (0, 0)).1) (sym same.1)
+            (marked_set_here after y within)
+        | inr other ↦ marked_set_keeps after y (get_or edges k (0, 0)).1 within
+            (c.complete k (omega (arith, other.1)) m)
       ];
     }
 
-pub crossing_end : (edges : List (ℕ × ℕ)) (marks after : List Bool) (i : ℕ) → Crossing edges marks after i → length edges ≤ i →
+pub crossing_end : (edges : List (ℕ × ℕ)) (marks after : List Bool) (i : ℕ) → Crossing edges marks after i →
+    length edges ≤ i →
     (x : ℕ) → Crossed edges marks x → Marked after x
 crossing_end edges marks after i c end x r =
     let (k, within, is) = r.edge in

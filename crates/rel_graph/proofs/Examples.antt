@@ -1,4 +1,5 @@
--- Who comes directly before whom, at worked examples. Each fact is shown by the pair that makes it, which is found by computing.
+-- Who comes directly before whom, at worked examples. Each fact is shown by the pair that makes it, which is found by
+-- computing.
 use Rattle.std.proofs.Common.{ℕ, List, [], ◌∷◌, inl, inr, refl, arith}
 use Rattle.rel_graph.specs.Before.{Inside, Direct, Before}
 use Rattle.rel_graph.specs.Cycles.{NoLater}
@@ -19,16 +20,37 @@ second_of_chain = record { earlier = 1; later = 2; edge = (1, omega arith, refl)
 ends_of_chain : Before [] chain 0 2
 ends_of_chain = (1 ∷ [], (first_of_chain, second_of_chain))
 
--- `class a { notify { 'f': } } include a; Class['a'] -> Notify['f']`, with Class[a] as 0 and Notify[f] as 1: f stands inside a, so f comes before f
+-- `class a { notify { 'f': } } include a; Class['a'] -> Notify['f']`, with Class[a] as 0 and Notify[f] as 1: f stands
+-- inside a, so f comes before f
 inside_a : Inside zero_one 1 0
 inside_a = ([], (0, omega arith, refl))
 
 f_before_f : Before zero_one zero_one 1 1
-f_before_f = ([], record { earlier = 0; later = 1; edge = (0, omega arith, refl); source = inr inside_a; target = inl refl })
+f_before_f = (
+  [],
+  record {
+    earlier = 0;
+    later = 1;
+    edge = (0, omega arith, refl);
+    source = inr inside_a;
+    target =
+        inl refl;
+  },
+)
 
 -- and so it does where the edge leads from f to the class
 f_before_f_again : Before zero_one ((1, 0) ∷ []) 1 1
-f_before_f_again = ([], record { earlier = 1; later = 0; edge = (0, omega arith, refl); source = inl refl; target = inr inside_a })
+f_before_f_again = (
+  [],
+  record {
+    earlier = 1;
+    later = 0;
+    edge = (0, omega arith, refl);
+    source = inl refl;
+    target =
+        inr inside_a;
+  },
+)
 
 -- members on either side, at any depth: 0 has 1, which has 2; 3 has 4; 0 before 3, so 2 before 4
 abbrev nested : List (ℕ × ℕ)

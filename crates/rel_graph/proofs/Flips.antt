@@ -19,7 +19,8 @@ flip_again (p ∷ pairs) = ap (λ ps. p ∷ ps) (flip_again pairs)
 pub paired_back : (pairs : List (ℕ × ℕ)) (a b : ℕ) → Paired (map flip pairs) b a → Paired pairs a b
 paired_back pairs a b h = subst (λ ps. Paired ps a b) (flip_again pairs) (paired_flip (map flip pairs) b a h)
 
-pub chain_flip : (pairs : List (ℕ × ℕ)) (a b : ℕ) (between : List ℕ) → Chain (Paired pairs) a between b → Closure (Paired (map flip pairs)) b a
+pub chain_flip : (pairs : List (ℕ × ℕ)) (a b : ℕ) (between : List ℕ) → Chain (Paired pairs) a between b →
+    Closure (Paired (map flip pairs)) b a
 chain_flip pairs a b [] h = ([], paired_flip pairs a b h)
 chain_flip pairs a b (x ∷ between) h =
     closure_join (Paired (map flip pairs)) b x a (chain_flip pairs x b between h.1) ([], paired_flip pairs a x h.0)
@@ -34,12 +35,22 @@ belongs_back pairs r c h = subst (λ ps. Belongs ps r c) (flip_again pairs) (bel
 pub below_flip : (pairs : List (ℕ × ℕ)) (n : ℕ) → AllBelow pairs n → AllBelow (map flip pairs) n
 below_flip pairs n h = All-map (λ p. (p.0 < n) × (p.1 < n)) flip pairs (λ k d l. let b = h k d l in (b.1, b.0))
 
-pub direct_flip : (containers edges : List (ℕ × ℕ)) (r s : ℕ) → Direct containers edges r s → Direct containers (map flip edges) s r
+pub direct_flip : (containers edges : List (ℕ × ℕ)) (r s : ℕ) → Direct containers edges r s →
+    Direct containers (map flip edges) s r
 direct_flip containers edges r s d =
-    record { earlier = d.later; later = d.earlier; edge = paired_flip edges d.earlier d.later d.edge; source = d.target; target = d.source }
+    record {
+      earlier = d.later;
+      later = d.earlier;
+      edge = paired_flip edges d.earlier d.later d.edge;
+      source =
+          d.target;
+      target = d.source;
+    }
 
-pub direct_back : (containers edges : List (ℕ × ℕ)) (r s : ℕ) → Direct containers (map flip edges) s r → Direct containers edges r s
-direct_back containers edges r s d = subst (λ es. Direct containers es r s) (flip_again edges) (direct_flip containers (map flip edges) s r d)
+pub direct_back : (containers edges : List (ℕ × ℕ)) (r s : ℕ) → Direct containers (map flip edges) s r →
+    Direct containers edges r s
+direct_back containers edges r s d = subst (λ es. Direct containers es r s) (flip_again edges)
+    (direct_flip containers (map flip edges) s r d)
 
 -- up, across and down again
 pub followed_from : (containers edges : List (ℕ × ℕ)) (marks sources targets : List Bool) (x : ℕ) →
@@ -71,14 +82,31 @@ followed_to containers edges marks sources targets x up across f =
       from = d.later;
       marked = across d.later (record {
         from = d.earlier;
-        marked = up d.earlier (record { from = f.from; marked = f.marked; leads = belongs_flip containers f.from d.earlier d.source });
+        marked = up d.earlier (record {
+          from = f.from;
+          marked = f.marked;
+          leads =
+              belongs_flip containers f.from d.earlier d.source;
+        });
         edge = d.edge;
       });
       leads = d.target;
     }
 
-pub preceded_from : (containers edges : List (ℕ × ℕ)) (marks : List Bool) (x : ℕ) → Followed containers (map flip edges) marks x → Preceded containers edges marks x
-preceded_from containers edges marks x f = record { to = f.from; marked = f.marked; direct = direct_back containers edges x f.from f.direct }
+pub preceded_from : (containers edges : List (ℕ × ℕ)) (marks : List Bool) (x : ℕ) →
+    Followed containers (map flip edges) marks x → Preceded containers edges marks x
+preceded_from containers edges marks x f = record {
+  to = f.from;
+  marked = f.marked;
+  direct =
+      direct_back containers edges x f.from f.direct;
+}
 
-pub preceded_to : (containers edges : List (ℕ × ℕ)) (marks : List Bool) (x : ℕ) → Preceded containers edges marks x → Followed containers (map flip edges) marks x
-preceded_to containers edges marks x p = record { from = p.to; marked = p.marked; direct = direct_flip containers edges x p.to p.direct }
+pub preceded_to : (containers edges : List (ℕ × ℕ)) (marks : List Bool) (x : ℕ) → Preceded containers edges marks x →
+    Followed containers (map flip edges) marks x
+preceded_to containers edges marks x p = record {
+  from = p.to;
+  marked = p.marked;
+  direct =
+      direct_flip containers edges x p.to p.direct;
+}

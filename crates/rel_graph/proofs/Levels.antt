@@ -20,7 +20,8 @@ Leads R marks x = (to : ℕ) × Marked marks to × R x to
 
 -- all that are fewer steps away than the level have their numbers, and those at the level are marked
 pub record Levels (R : ℕ → ℕ → Type 0) (numbers : List (Option ℕ)) (marks : List Bool) (goal level : ℕ) : Type 0 where
-  pub sound : (x k : ℕ) → distance numbers x ≡ Some k → (between : List ℕ) × (length between ≡ k) × Chain R x between goal
+  pub sound : (x k : ℕ) → distance numbers x ≡ Some k →
+      (between : List ℕ) × (length between ≡ k) × Chain R x between goal
   pub low : (x k : ℕ) → distance numbers x ≡ Some k → k < level
   pub closed : (c j x : ℕ) → At numbers goal c j → j < level → R x c → (k : ℕ) × (distance numbers x ≡ Some k) × (k ≤ j)
   pub front : (c : ℕ) → Marked marks c → At numbers goal c level
@@ -41,7 +42,8 @@ some_same : (o : Option ℕ) (j k : ℕ) → o ≡ Some j → o ≡ Some k → j
 some_same o j k e f = cc
 
 module _ (R : ℕ → ℕ → Type 0) (numbers after : List (Option ℕ)) (marks before left : List Bool) (goal level : ℕ)
-    (l : Levels R numbers marks goal level) (leads : (x : ℕ) → Marked before x ↔ Leads R marks x) (steps : IsAdvance level numbers after before left) where
+    (l : Levels R numbers marks goal level) (leads : (x : ℕ) →
+    Marked before x ↔ Leads R marks x) (steps : IsAdvance level numbers after before left) where
   after_old : (x k : ℕ) → distance numbers x ≡ Some k → distance after x ≡ Some k
   after_old x k e = elim (bool_cases (get_or left x false)) [
     | inl on ↦ absurd (none≢some (distance numbers x) k ((steps x).was_none on) e)
@@ -61,16 +63,19 @@ module _ (R : ℕ → ℕ → Type 0) (numbers after : List (Option ℕ)) (marks
     | inr new ↦ absurd (let e = new.0 in omega (arith, e, h))
   ]
 
-  chain_new : (x c n : ℕ) → At numbers goal c n → R x c → (between : List ℕ) × (length between ≡ n) × Chain R x between goal
+  chain_new : (x c n : ℕ) → At numbers goal c n → R x c →
+      (between : List ℕ) × (length between ≡ n) × Chain R x between goal
   chain_new x c zero a r = ([], refl, subst (λ z. R x z) a r)
   chain_new x c (suc i) a r = let s = l.sound c i a in (c ∷ s.0, ap suc s.1, (r, s.2))
 
-  sound_after : (x k : ℕ) → distance after x ≡ Some k → (between : List ℕ) × (length between ≡ k) × Chain R x between goal
+  sound_after : (x k : ℕ) → distance after x ≡ Some k →
+      (between : List ℕ) × (length between ≡ k) × Chain R x between goal
   sound_after x k e = elim (after_cases x k e) [
     | inl old ↦ l.sound x k old
     | inr new ↦
         let to = (leads x).0 ((steps x).was_marked new.1) in
-        subst (λ n. (between : List ℕ) × (length between ≡ n) × Chain R x between goal) (sym new.0) (chain_new x to.0 level (l.front to.0 to.1) to.2)
+        subst (λ n. (between : List ℕ) × (length between ≡ n) ×
+        Chain R x between goal) (sym new.0) (chain_new x to.0 level (l.front to.0 to.1) to.2)
   ]
 
   low_after : (x k : ℕ) → distance after x ≡ Some k → k < suc level
@@ -87,7 +92,8 @@ module _ (R : ℕ → ℕ → Type 0) (numbers after : List (Option ℕ)) (marks
         | inr some ↦ (some.0, after_old x some.0 some.1, let h = l.low x some.0 some.1 in omega (arith, h))
       ]
 
-  closed_after : (c j x : ℕ) → At after goal c j → j < suc level → R x c → (k : ℕ) × (distance after x ≡ Some k) × (k ≤ j)
+  closed_after : (c j x : ℕ) → At after goal c j → j < suc level → R x c →
+      (k : ℕ) × (distance after x ≡ Some k) × (k ≤ j)
   closed_after c j x a h r =
       let o : At numbers goal c j = at_old c j (omega (arith, h)) a in
       elim (cases_lt j level) [
@@ -123,7 +129,8 @@ module _ (R : ℕ → ℕ → Type 0) (numbers : List (Option ℕ)) (marks : Lis
         absurd (true≢false (sym (l.back c (subst (λ n. At numbers goal c n) e a)) ∙ off c))
   ]
 
-  least_at : (x : ℕ) (between : List ℕ) → Chain R x between goal → (k : ℕ) × (distance numbers x ≡ Some k) × (k ≤ length between)
+  least_at : (x : ℕ) (between : List ℕ) → Chain R x between goal →
+      (k : ℕ) × (distance numbers x ≡ Some k) × (k ≤ length between)
   least_at x [] r = l.closed goal 0 x refl (at_below goal 0 (omega arith) refl) r
   least_at x (c ∷ between) h =
       let k = least_at c between h.1 in
@@ -144,7 +151,8 @@ same_everywhere n x a = elim (cases_lt x n) [
 pub unmarked : (n x : ℕ) → ¬ (Marked (replicate n false) x)
 unmarked n x m = true≢false (sym m ∙ same_everywhere n x false)
 
-pub levels_start : (R : ℕ → ℕ → Type 0) (n goal : ℕ) → goal < n → Levels R (replicate n None) (set (replicate n false) goal true) goal 0
+pub levels_start : (R : ℕ → ℕ → Type 0) (n goal : ℕ) → goal < n →
+    Levels R (replicate n None) (set (replicate n false) goal true) goal 0
 levels_start R n goal within = record {
   sound = λ x k e. absurd (none≢some (get_or (replicate n None) x None) k (same_everywhere n x None) e);
   low = λ x k e. absurd (none≢some (get_or (replicate n None) x None) k (same_everywhere n x None) e);
@@ -153,7 +161,8 @@ levels_start R n goal within = record {
     | inl e ↦ sym e
     | inr k ↦ absurd (unmarked n c k)
   ];
-  back = λ c a. subst (λ z. Marked (set (replicate n false) goal true) z) (sym a) (marked_set_here (replicate n false) goal (subst (λ m. goal < m) (sym (length-replicate n false)) within));
+  back = λ c a. subst (λ z. Marked (set (replicate n false) goal true) z) (sym a)
+      (marked_set_here (replicate n false) goal (subst (λ m. goal < m) (sym (length-replicate n false)) within));
 }
 
 -- what a slice that was changed leaves in its `Vec`
@@ -161,16 +170,23 @@ take_front : {X : Type 0} (new rest : List X) → take (length new) (new ++ rest
 take_front [] rest = refl
 take_front (x ∷ new) rest = ap (λ xs. x ∷ xs) (take_front new rest)
 
-pub written_back : {X : Type 0} (n : ℕ) (old new : List X) → length new ≡ n → take n (new ++ drop (length new) old) ≡ new
-written_back n old new e = subst (λ m. take m (new ++ drop (length new) old) ≡ new) e (take_front new (drop (length new) old))
+pub written_back : {X : Type 0} (n : ℕ) (old new : List X) → length new ≡ n →
+    take n (new ++ drop (length new) old) ≡ new
+written_back n old new e = subst (λ m. take m (new ++ drop (length new) old) ≡ new) e
+    (take_front new (drop (length new) old))
 
-pub distances_step : (containers edges : List (ℕ × ℕ)) (numbers numbers' after : List (Option ℕ)) (marks marks' before before' left : List Bool) (goal level : ℕ) →
+pub distances_step : (containers edges : List (ℕ × ℕ)) (numbers numbers' after : List (Option ℕ))
+    (marks marks' before before' left : List Bool) (goal level : ℕ) →
     Levels (Direct containers edges) numbers marks goal level → numbers' ≡ numbers → marks' ≡ marks → before' ≡ before →
     ((x : ℕ) → Marked before x ↔ Preceded containers edges marks' x) → IsAdvance level numbers' after before' left →
     Levels (Direct containers edges) after left goal (level + 1)
-distances_step containers edges numbers numbers' after marks marks' before before' left goal level l en em eb marked steps =
-    let marked' : (x : ℕ) → Marked before x ↔ Preceded containers edges marks x = subst (λ m. (x : ℕ) → Marked before x ↔ Preceded containers edges m x) em marked in
-    let steps' : IsAdvance level numbers after before left = subst (λ n. IsAdvance level n after before left) en (subst (λ m. IsAdvance level numbers' after m left) eb steps) in
+distances_step containers edges numbers numbers' after marks marks' before before' left goal level l en em eb marked
+    steps =
+    let marked' : (x : ℕ) → Marked before x ↔ Preceded containers edges marks x = subst (λ m. (x : ℕ) →
+    Marked before x ↔ Preceded containers edges m x) em marked in
+    let steps' : IsAdvance level numbers after before left =
+    subst (λ n. IsAdvance level n after before left) en
+    (subst (λ m. IsAdvance level numbers' after m left) eb steps) in
     let leads : (x : ℕ) → Marked before x ↔ Leads (Direct containers edges) marks x = λ x. (
       λ m. let p = (marked' x).0 m in (p.to, p.marked, p.direct),
       λ p. (marked' x).1 (record { to = p.0; marked = p.1; direct = p.2 }),
@@ -178,11 +194,15 @@ distances_step containers edges numbers numbers' after marks marks' before befor
     subst (λ n. Levels (Direct containers edges) after left goal n) (sym (add-one level))
     (levels_step (Direct containers edges) numbers after marks before left goal level l leads steps')
 
-pub room_more : (level count : ℕ) (numbers numbers' after : List (Option ℕ)) (any : Bool) → level + count_by is_none numbers ≤ count → numbers' ≡ numbers →
-    count_by is_none after + cond any 1 0 ≤ count_by is_none numbers' → any ≡ true → (level + 1) + count_by is_none after ≤ count
+pub room_more : (level count : ℕ) (numbers numbers' after : List (Option ℕ)) (any : Bool) →
+    level + count_by is_none numbers ≤ count → numbers' ≡ numbers →
+    count_by is_none after + cond any 1 0 ≤ count_by is_none numbers' → any ≡ true →
+    (level + 1) + count_by is_none after ≤ count
 room_more level count numbers numbers' after any room e fewer on =
-    let f : count_by is_none after + cond any 1 0 ≤ count_by is_none numbers = subst (λ n. count_by is_none after + cond any 1 0 ≤ count_by is_none n) e fewer in
-    let g : count_by is_none after + cond true 1 0 ≤ count_by is_none numbers = subst (λ b. count_by is_none after + cond b 1 0 ≤ count_by is_none numbers) on f in
+    let f : count_by is_none after + cond any 1 0 ≤ count_by is_none numbers =
+    subst (λ n. count_by is_none after + cond any 1 0 ≤ count_by is_none n) e fewer in
+    let g : count_by is_none after + cond true 1 0 ≤ count_by is_none numbers =
+    subst (λ b. count_by is_none after + cond b 1 0 ≤ count_by is_none numbers) on f in
     omega (arith, g, room)
 
 pub number_within : (numbers : List (Option ℕ)) (x k : ℕ) → distance numbers x ≡ Some k → x < length numbers

@@ -15,7 +15,8 @@ marked_within marks x m = lt_of_not-le (λ h. true≢false (sym m ∙ get_or-eq_
 pub marked_set_here : (marks : List Bool) (y : ℕ) → y < length marks → Marked (set marks y true) y
 marked_set_here marks y h = get_or-set_same marks y true false h
 
-pub marked_set_other : (marks : List Bool) (y x : ℕ) (b : Bool) → x ≢ y → get_or (set marks y b) x false ≡ get_or marks x false
+pub marked_set_other : (marks : List Bool) (y x : ℕ) (b : Bool) → x ≢ y →
+    get_or (set marks y b) x false ≡ get_or marks x false
 marked_set_other marks y x b ne = get_or-set_other marks y x b false ne
 
 pub marked_set_keeps : (marks : List Bool) (y x : ℕ) → y < length marks → Marked marks x → Marked (set marks y true) x
@@ -43,7 +44,8 @@ fewer_unmarked marks y h u =
 pub record Passing (pairs : List (ℕ × ℕ)) (old marks : List Bool) (moved : Bool) (i : ℕ) : Type 0 where
   pub keeps : (x : ℕ) → Marked old x → Marked marks x
   pub sound : (x : ℕ) → Marked marks x → Reached pairs old x
-  pub closed : moved ≡ false → (k : ℕ) → k < i → Marked marks (get_or pairs k (0, 0)).0 → Marked marks (get_or pairs k (0, 0)).1
+  pub closed : moved ≡ false → (k : ℕ) → k < i → Marked marks (get_or pairs k (0, 0)).0 →
+      Marked marks (get_or pairs k (0, 0)).1
   pub fewer : count_by not marks + cond moved 1 0 ≤ count_by not old
 
 pub passing_none : (pairs : List (ℕ × ℕ)) (marks : List Bool) → Passing pairs marks marks false 0
@@ -54,19 +56,23 @@ passing_none pairs marks = record {
   fewer = omega arith;
 }
 
-pub passing_skip : (pairs : List (ℕ × ℕ)) (old marks : List Bool) (moved : Bool) (i : ℕ) → Passing pairs old marks moved i →
-    (Marked marks (get_or pairs i (0, 0)).0 → Marked marks (get_or pairs i (0, 0)).1) → Passing pairs old marks moved (i + 1)
+pub passing_skip : (pairs : List (ℕ × ℕ)) (old marks : List Bool) (moved : Bool) (i : ℕ) →
+    Passing pairs old marks moved i →
+    (Marked marks (get_or pairs i (0, 0)).0 → Marked marks (get_or pairs i (0, 0)).1) →
+    Passing pairs old marks moved (i + 1)
 passing_skip pairs old marks moved i p here = record {
   keeps = p.keeps;
   sound = p.sound;
   closed = λ e k h. elim (eqb_tells k i) [
-    | inl same ↦ subst (λ z. Marked marks (get_or pairs z (0, 0)).0 → Marked marks (get_or pairs z (0, 0)).1) (sym same.1) here
+    | inl same ↦ subst (λ z. Marked marks (get_or pairs z (0, 0)).0 →
+        Marked marks (get_or pairs z (0, 0)).1) (sym same.1) here
     | inr other ↦ p.closed e k (omega (arith, other.1))
   ];
   fewer = p.fewer;
 }
 
-pub passing_mark : (pairs : List (ℕ × ℕ)) (old marks : List Bool) (moved : Bool) (i : ℕ) → Passing pairs old marks moved i →
+pub passing_mark : (pairs : List (ℕ × ℕ)) (old marks : List Bool) (moved : Bool) (i : ℕ) →
+    Passing pairs old marks moved i →
     Contains pairs (get_or pairs i (0, 0)) →
     (get_or pairs i (0, 0)).1 < length marks →
     Marked marks (get_or pairs i (0, 0)).0 → get_or marks (get_or pairs i (0, 0)).1 false ≡ false →
@@ -82,7 +88,8 @@ passing_mark pairs old marks moved i p here within from to =
             record {
               from = r.from;
               marked = r.marked;
-              leads = subst (λ z. Belongs pairs z r.from) e (belongs_more pairs (get_or pairs i (0, 0)).0 y r.from r.leads here);
+              leads = subst (λ z. Belongs pairs z r.from) e
+                  (belongs_more pairs (get_or pairs i (0, 0)).0 y r.from r.leads here);
             }
         | inr k ↦ p.sound x k
       ];
@@ -91,7 +98,8 @@ passing_mark pairs old marks moved i p here within from to =
     }
 
 -- after all of them
-pub passing_closed : (pairs : List (ℕ × ℕ)) (old marks : List Bool) (i : ℕ) → Passing pairs old marks false i → length pairs ≤ i →
+pub passing_closed : (pairs : List (ℕ × ℕ)) (old marks : List Bool) (i : ℕ) → Passing pairs old marks false i →
+    length pairs ≤ i →
     (x y : ℕ) → Contains pairs (x, y) → Marked marks x → Marked marks y
 passing_closed pairs old marks i p end x y c m =
     let e : get_or pairs c.0 (0, 0) ≡ (x, y) = get_or_default pairs c.0 (0, 0) (x, y) c.1 ∙ c.2 in
@@ -99,7 +107,8 @@ passing_closed pairs old marks i p end x y c m =
     subst P e (p.closed refl c.0 (omega (arith, c.1))) m
 
 -- a closed set of marks has all that pairs lead to from it
-pub reached_closed : (pairs : List (ℕ × ℕ)) (old marks : List Bool) (x : ℕ) → ((y : ℕ) → Marked old y → Marked marks y) →
+pub reached_closed : (pairs : List (ℕ × ℕ)) (old marks : List Bool) (x : ℕ) →
+    ((y : ℕ) → Marked old y → Marked marks y) →
     ((y z : ℕ) → Contains pairs (y, z) → Marked marks y → Marked marks z) → Reached pairs old x → Marked marks x
 reached_closed pairs old marks x keeps closed r =
     belongs_carries pairs (λ y. Marked marks y) closed x r.from r.leads (keeps r.from r.marked)

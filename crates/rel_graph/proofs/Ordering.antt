@@ -35,21 +35,25 @@ bool_cases : (b : Bool) → (b ≡ true) ⊎ (b ≡ false)
 bool_cases true = inl refl
 bool_cases false = inr refl
 
--- Where R has no cycle below n, there is no set of numbers below n, each with another one before it: go back from one to the next, and one comes again.
-module _ (R : ℕ → ℕ → Type 0) (n : ℕ) (P : ℕ → Type 0) (acyclic : (q : ℕ) → ¬ (Closure R q q)) (below : (x : ℕ) → P x → x < n)
+-- Where R has no cycle below n, there is no set of numbers below n, each with another one before it: go back from one
+-- to the next, and one comes again.
+module _ (R : ℕ → ℕ → Type 0) (n : ℕ) (P : ℕ → Type 0) (acyclic : (q : ℕ) → ¬ (Closure R q q)) (below : (x : ℕ) →
+    P x → x < n)
     (back : (x : ℕ) → P x → ¬ ((y : ℕ) → P y → ¬ (R y x))) where
   pub record Trail (head : ℕ) (tail : List ℕ) : Type 0 where
     pub distinct : IsDistinct eqb (head ∷ tail)
     pub within : (q : ℕ) → list_any (eqb q) (head ∷ tail) ≡ true → q < n
     pub leads : (q : ℕ) → list_any (eqb q) tail ≡ true → Closure R head q
 
-  from_head : (head : ℕ) (tail : List ℕ) → Trail head tail → (y q : ℕ) → R y head → list_any (eqb q) (head ∷ tail) ≡ true → Closure R y q
+  from_head : (head : ℕ) (tail : List ℕ) → Trail head tail → (y q : ℕ) → R y head →
+      list_any (eqb q) (head ∷ tail) ≡ true → Closure R y q
   from_head head tail t y q r e = elim (any_cases q head tail e) [
     | inl same ↦ ([], subst (λ z. R y z) (sym same) r)
     | inr later ↦ closure_join R y head q ([], r) (t.leads q later)
   ]
 
-  longer : (head : ℕ) (tail : List ℕ) → Trail head tail → (y : ℕ) → P y → R y head → list_any (eqb y) (head ∷ tail) ≡ false → Trail y (head ∷ tail)
+  longer : (head : ℕ) (tail : List ℕ) → Trail head tail → (y : ℕ) → P y → R y head →
+      list_any (eqb y) (head ∷ tail) ≡ false → Trail y (head ∷ tail)
   unfolding IsDistinct
   longer head tail t y p r new = record {
     distinct = (none_equal y (head ∷ tail) new, t.distinct);
@@ -80,17 +84,21 @@ module _ (R : ℕ → ℕ → Type 0) (n : ℕ) (P : ℕ → Type 0) (acyclic : 
     leads = λ q e. absurd (true≢false (sym e));
   }) p (omega arith)
 
-chain_closed : (R : ℕ → ℕ → Type 0) (order : List ℕ) → ((x y : ℕ) → Contains order x → R y x → Contains order y) → (x y : ℕ) (between : List ℕ) →
+chain_closed : (R : ℕ → ℕ → Type 0) (order : List ℕ) → ((x y : ℕ) → Contains order x → R y x → Contains order y) →
+    (x y : ℕ) (between : List ℕ) →
     ((z : ℕ) → R z x → Contains order z) → Chain R y between x → Contains order y
 chain_closed R order closed x y [] direct h = direct y h
-chain_closed R order closed x y (c ∷ between) direct h = closed c y (chain_closed R order closed x c between direct h.1) h.0
+chain_closed R order closed x y (c ∷ between) direct h =
+    closed c y (chain_closed R order closed x c between direct h.1) h.0
 
-pub ready_from : (R : ℕ → ℕ → Type 0) (order : List ℕ) → ((x y : ℕ) → Contains order x → R y x → Contains order y) → (x : ℕ) →
+pub ready_from : (R : ℕ → ℕ → Type 0) (order : List ℕ) → ((x y : ℕ) → Contains order x → R y x → Contains order y) →
+    (x : ℕ) →
     ((z : ℕ) → R z x → Contains order z) → Ready R order x
 ready_from R order closed x direct y h = chain_closed R order closed x y h.0 direct h.1
 
 -- an order has all but itself before each
-pub order_acyclic : (R : ℕ → ℕ → Type 0) (count : ℕ) (order : List ℕ) → IsOrder R count order → (r : ℕ) → r < count → ¬ (Closure R r r)
+pub order_acyclic : (R : ℕ → ℕ → Type 0) (count : ℕ) (order : List ℕ) → IsOrder R count order → (r : ℕ) → r < count →
+    ¬ (Closure R r r)
 order_acyclic R count order o r within h =
     let p = o.all r within in
     let n = o.each p.0 p.1 in
@@ -107,7 +115,8 @@ listing_start R count = record {
   each = λ k h. absurd (omega arith);
 }
 
-module _ (R : ℕ → ℕ → Type 0) (count : ℕ) (left : List Bool) (order : List ℕ) (l : Listing R count left order) (x : ℕ) (m : Marked left x)
+module _ (R : ℕ → ℕ → Type 0) (count : ℕ) (left : List Bool) (order : List ℕ) (l : Listing R count left order) (x : ℕ)
+    (m : Marked left x)
     (direct : (y : ℕ) → R y x → Contains order y) (least : (y : ℕ) → Marked left y → Ready R order y → x ≤ y) where
   next : IsNext R count order x
   next = record {
@@ -120,20 +129,25 @@ module _ (R : ℕ → ℕ → Type 0) (count : ℕ) (left : List Bool) (order : 
     ];
   }
 
-  each_more : (k : ℕ) → k < length (order ++ x ∷ []) → IsNext R count (take k (order ++ x ∷ [])) (slice_index (order ++ x ∷ []) k)
+  each_more : (k : ℕ) → k < length (order ++ x ∷ []) →
+      IsNext R count (take k (order ++ x ∷ [])) (slice_index (order ++ x ∷ []) k)
   each_more k h = elim (cases_lt k (length order)) [
     | inl less ↦
-        subst (λ t. IsNext R count t (slice_index (order ++ x ∷ []) k)) (sym (take-append-le k order (x ∷ []) (omega arith)))
-        (subst (λ y. IsNext R count (take k order) y) (sym (get_or_append_left order (x ∷ []) 0 k less)) (l.each k less))
+        subst (λ t. IsNext R count t (slice_index (order ++ x ∷ []) k))
+        (sym (take-append-le k order (x ∷ []) (omega arith)))
+        (subst (λ y. IsNext R count (take k order) y) (sym (get_or_append_left order (x ∷ []) 0 k less))
+        (l.each k less))
     | inr more ↦
         let e : length order ≡ k = (let n = length-append order (x ∷ []) in omega (arith, n, h, more)) in
-        let front : take k (order ++ x ∷ []) ≡ order = take-append-le k order (x ∷ []) (omega (arith, e)) ∙ take_all k order (omega (arith, e)) in
+        let front : take k (order ++ x ∷ []) ≡ order = take-append-le k order (x ∷ []) (omega (arith, e)) ∙
+        take_all k order (omega (arith, e)) in
         subst (λ t. IsNext R count t (slice_index (order ++ x ∷ []) k)) (sym front)
         (subst (λ y. IsNext R count order y) (sym (get_or_push order x 0 k e)) next)
   ]
 
   gone : (y : ℕ) → x ≡ y → ¬ (Marked (set left x false) y)
-  gone y same k = true≢false (sym (subst (λ z. Marked (set left x false) z) (sym same) k) ∙ get_or-set_same left x false false (marked_within left x m))
+  gone y same k = true≢false (sym (subst (λ z. Marked (set left x false) z) (sym same) k) ∙
+      get_or-set_same left x false false (marked_within left x m))
 
   unset : (y : ℕ) → Marked (set left x false) y → Marked left y
   unset y k = elim (eqb_tells y x) [
@@ -164,11 +178,13 @@ module _ (R : ℕ → ℕ → Type 0) (count : ℕ) (left : List Bool) (order : 
   }
 
 -- Where the order is stuck, all is listed unless there is a cycle.
-pub listed_all : (R : ℕ → ℕ → Type 0) (count : ℕ) (left : List Bool) (order : List ℕ) → Listing R count left order → IsStuck R left →
+pub listed_all : (R : ℕ → ℕ → Type 0) (count : ℕ) (left : List Bool) (order : List ℕ) → Listing R count left order →
+    IsStuck R left →
     ((q : ℕ) → ¬ (Closure R q q)) → (x : ℕ) → ¬ (Marked left x)
 listed_all R count left order l stuck acyclic = no_trail R count (λ x. Marked left x) acyclic l.within stuck
 
-pub order_from : (R : ℕ → ℕ → Type 0) (count : ℕ) (left : List Bool) (order : List ℕ) → Listing R count left order → ((x : ℕ) → ¬ (Marked left x)) →
+pub order_from : (R : ℕ → ℕ → Type 0) (count : ℕ) (left : List Bool) (order : List ℕ) → Listing R count left order →
+    ((x : ℕ) → ¬ (Marked left x)) →
     IsOrder R count order
 order_from R count left order l none = record {
   each = l.each;
@@ -179,18 +195,21 @@ order_from R count left order l none = record {
 }
 
 -- one mark less
-pub fewer_left : (left : List Bool) (x : ℕ) → Marked left x → count_by (λ b. b) (set left x false) < count_by (λ b. b) left
+pub fewer_left : (left : List Bool) (x : ℕ) → Marked left x →
+    count_by (λ b. b) (set left x false) < count_by (λ b. b) left
 fewer_left left x m =
     let e = sum_by-set (λ b. cond b 1 0) left x false false (marked_within left x m) in
     let was : ◌≡◌ {A = ℕ} (cond (get_or left x false) 1 0) 1 = ap (λ b. cond b 1 0) m in
     omega (arith, e, was)
 
 -- What stands before a ready one is listed, so nothing that is left stands directly before it.
-pub ready_free : (R : ℕ → ℕ → Type 0) (count : ℕ) (left : List Bool) (order : List ℕ) → Listing R count left order → (y z : ℕ) → Ready R order y →
+pub ready_free : (R : ℕ → ℕ → Type 0) (count : ℕ) (left : List Bool) (order : List ℕ) → Listing R count left order →
+    (y z : ℕ) → Ready R order y →
     Marked left z → ¬ (R z y)
 ready_free R count left order l y z ready m r = l.apart z m (ready z ([], r))
 
-pub free_listed : (R : ℕ → ℕ → Type 0) (count : ℕ) (left : List Bool) (order : List ℕ) → Listing R count left order → (x : ℕ) →
+pub free_listed : (R : ℕ → ℕ → Type 0) (count : ℕ) (left : List Bool) (order : List ℕ) → Listing R count left order →
+    (x : ℕ) →
     ((y : ℕ) → R y x → y < count) → ((y : ℕ) → Marked left y → ¬ (R y x)) → (y : ℕ) → R y x → Contains order y
 free_listed R count left order l x within free y r = elim (l.all y (within y r)) [
   | inl m ↦ absurd (free y m r)

@@ -8,7 +8,8 @@ pub record Spreading (pairs : List (ℕ × ℕ)) (old marks : List Bool) (moving
   pub sound : (x : ℕ) → Marked marks x → Reached pairs old x
   pub closed : moving ≡ false → (x y : ℕ) → Contains pairs (x, y) → Marked marks x → Marked marks y
 
-pub reached_again : (pairs : List (ℕ × ℕ)) (old marks : List Bool) (x : ℕ) → ((y : ℕ) → Marked marks y → Reached pairs old y) →
+pub reached_again : (pairs : List (ℕ × ℕ)) (old marks : List Bool) (x : ℕ) →
+    ((y : ℕ) → Marked marks y → Reached pairs old y) →
     Reached pairs marks x → Reached pairs old x
 reached_again pairs old marks x before r =
     let f = before r.from r.marked in

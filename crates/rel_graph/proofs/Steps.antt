@@ -37,14 +37,16 @@ step_old level n m some = record {
 }
 
 -- the first i indexes have made their step
-pub record Advancing (level : ℕ) (numbers after : List (Option ℕ)) (marks left : List Bool) (any : Bool) (i : ℕ) : Type 0 where
+pub record Advancing (level : ℕ) (numbers after : List (Option ℕ)) (marks left : List Bool) (any : Bool) (i : ℕ)
+    : Type 0 where
   pub done : (x : ℕ) → x < i → StepsTo level (distance numbers x) (distance after x) (mark marks x) (mark left x)
   pub rest_numbers : (x : ℕ) → i ≤ x → distance after x ≡ distance numbers x
   pub rest_marks : (x : ℕ) → i ≤ x → mark left x ≡ mark marks x
   pub fewer : count_by is_none after + cond any 1 0 ≤ count_by is_none numbers
   pub last : any ≡ false → (x : ℕ) → x < i → mark left x ≡ false
 
-pub advancing_none : (level : ℕ) (numbers : List (Option ℕ)) (marks : List Bool) → Advancing level numbers numbers marks marks false 0
+pub advancing_none : (level : ℕ) (numbers : List (Option ℕ)) (marks : List Bool) →
+    Advancing level numbers numbers marks marks false 0
 advancing_none level numbers marks = record {
   done = λ x h. absurd (omega arith);
   rest_numbers = λ _ _. refl;
@@ -54,7 +56,8 @@ advancing_none level numbers marks = record {
 }
 
 -- an index makes its step, and the others stay
-pub advancing_more : (level : ℕ) (numbers after after' : List (Option ℕ)) (marks left left' : List Bool) (any any' : Bool) (i : ℕ) →
+pub advancing_more : (level : ℕ) (numbers after after' : List (Option ℕ)) (marks left left' : List Bool)
+    (any any' : Bool) (i : ℕ) →
     Advancing level numbers after marks left any i →
     ((x : ℕ) → x ≢ i → distance after' x ≡ distance after x) → ((x : ℕ) → x ≢ i → mark left' x ≡ mark left x) →
     StepsTo level (distance after i) (distance after' i) (mark left i) (mark left' i) →
@@ -66,11 +69,14 @@ advancing_more level numbers after after' marks left left' any any' i a others o
     | inl same ↦
         let here : StepsTo level (distance numbers i) (distance after' i) (mark marks i) (mark left' i) =
         subst (λ n. StepsTo level n (distance after' i) (mark marks i) (mark left' i)) (a.rest_numbers i (omega arith))
-        (subst (λ m. StepsTo level (distance after i) (distance after' i) m (mark left' i)) (a.rest_marks i (omega arith)) step) in
-        subst (λ z. StepsTo level (distance numbers z) (distance after' z) (mark marks z) (mark left' z)) (sym same.1) here
+        (subst (λ m. StepsTo level (distance after i) (distance after' i) m (mark left' i))
+        (a.rest_marks i (omega arith)) step) in
+        subst (λ z. StepsTo level (distance numbers z) (distance after' z) (mark marks z) (mark left' z)) (sym same.1)
+        here
     | inr other ↦
         subst (λ n. StepsTo level (distance numbers x) n (mark marks x) (mark left' x)) (sym (others x other.1))
-        (subst (λ m. StepsTo level (distance numbers x) (distance after x) (mark marks x) m) (sym (other_marks x other.1)) (a.done x (omega (arith, other.1))))
+        (subst (λ m. StepsTo level (distance numbers x) (distance after x) (mark marks x) m)
+        (sym (other_marks x other.1)) (a.done x (omega (arith, other.1))))
   ];
   rest_numbers = λ x h. others x (omega arith) ∙ a.rest_numbers x (omega arith);
   rest_marks = λ x h. other_marks x (omega arith) ∙ a.rest_marks x (omega arith);
@@ -82,9 +88,11 @@ advancing_more level numbers after after' marks left left' any any' i a others o
 }
 
 pub advancing_skip : (level : ℕ) (numbers after : List (Option ℕ)) (marks left : List Bool) (any : Bool) (i : ℕ) →
-    Advancing level numbers after marks left any i → mark left i ≡ false → Advancing level numbers after marks left any (i + 1)
+    Advancing level numbers after marks left any i → mark left i ≡ false →
+    Advancing level numbers after marks left any (i + 1)
 advancing_skip level numbers after marks left any i a off =
-    advancing_more level numbers after after marks left left any any i a (λ _ _. refl) (λ _ _. refl) (step_off level (distance after i) (mark left i) off) a.fewer (λ none. (none, off))
+    advancing_more level numbers after after marks left left any any i a (λ _ _. refl) (λ _ _. refl)
+    (step_off level (distance after i) (mark left i) off) a.fewer (λ none. (none, off))
 
 counts_none : (o : Option ℕ) → o ≡ None → ◌≡◌ {A = ℕ} (cond (is_none o) 1 0) 1
 counts_none o e = ap (λ o. cond (is_none o) 1 0) e
@@ -104,7 +112,8 @@ advancing_give level numbers after marks left any i a within on none =
     advancing_more level numbers after (set after i (Some level)) marks left left any true i a
     (λ x other. get_or-set_other after i x (Some level) None other)
     (λ _ _. refl)
-    (subst (λ n. StepsTo level (distance after i) n (mark left i) (mark left i)) (sym here) (step_new level (distance after i) (mark left i) on none))
+    (subst (λ n. StepsTo level (distance after i) n (mark left i) (mark left i)) (sym here)
+    (step_new level (distance after i) (mark left i) on none))
     (omega (arith, e, was, before))
     (λ no. absurd (true≢false no))
 
@@ -116,7 +125,8 @@ advancing_drop level numbers after marks left any i a within some =
     advancing_more level numbers after after marks left (set left i false) any any i a
     (λ _ _. refl)
     (λ x other. get_or-set_other left i x false false other)
-    (subst (λ m. StepsTo level (distance after i) (distance after i) (mark left i) m) (sym here) (step_old level (distance after i) (mark left i) some))
+    (subst (λ m. StepsTo level (distance after i) (distance after i) (mark left i) m) (sym here)
+    (step_old level (distance after i) (mark left i) some))
     a.fewer
     (λ none. (none, here))
 
@@ -127,8 +137,10 @@ advancing_end level numbers after marks left any i a end x = elim (cases_lt x i)
   | inl below ↦ a.done x (omega arith)
   | inr above ↦
       let off : mark left x ≡ false = a.rest_marks x (omega arith) ∙ get_or_past marks x false (omega arith) in
-      subst (λ n. StepsTo level (distance numbers x) n (mark marks x) (mark left x)) (sym (a.rest_numbers x (omega arith)))
-      (subst (λ m. StepsTo level (distance numbers x) (distance numbers x) m (mark left x)) (a.rest_marks x (omega arith)) (step_off level (distance numbers x) (mark left x) off))
+      subst (λ n. StepsTo level (distance numbers x) n (mark marks x) (mark left x))
+      (sym (a.rest_numbers x (omega arith)))
+      (subst (λ m. StepsTo level (distance numbers x) (distance numbers x) m (mark left x))
+      (a.rest_marks x (omega arith)) (step_off level (distance numbers x) (mark left x) off))
 ]
 
 pub advancing_last : (level : ℕ) (numbers after : List (Option ℕ)) (marks left : List Bool) (i : ℕ) →

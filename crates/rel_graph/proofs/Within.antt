@@ -8,11 +8,14 @@ abbrev pub IsBelow : ℕ → ℕ × ℕ → Type 0
 IsBelow count p = (p.0 < count) × (p.1 < count)
 
 module _ {X : Type 0} (pair : X → ℕ × ℕ) (count : ℕ) (xs : List X) where
-  pub within_more : (d : X) → (i : ℕ) → ((k : ℕ) → k < i → IsBelow count (get_or (map pair xs) k (pair d))) → IsBelow count (pair (get_or xs i d)) →
+  pub within_more : (d : X) → (i : ℕ) → ((k : ℕ) → k < i → IsBelow count (get_or (map pair xs) k (pair d))) →
+      IsBelow count (pair (get_or xs i d)) →
       (k : ℕ) → k < i + 1 → IsBelow count (get_or (map pair xs) k (pair d))
-  within_more d i before here = below_more (λ k. IsBelow count (get_or (map pair xs) k (pair d))) i before (subst (λ p. IsBelow count p) (sym (get_or-map pair xs i d)) here)
+  within_more d i before here = below_more (λ k. IsBelow count (get_or (map pair xs) k (pair d))) i before
+      (subst (λ p. IsBelow count p) (sym (get_or-map pair xs i d)) here)
 
-  pub within_all : (e : ℕ × ℕ) (i : ℕ) → ((k : ℕ) → k < i → IsBelow count (get_or (map pair xs) k e)) → length xs ≤ i → AllBelow (map pair xs) count
+  pub within_all : (e : ℕ × ℕ) (i : ℕ) → ((k : ℕ) → k < i → IsBelow count (get_or (map pair xs) k e)) →
+      length xs ≤ i → AllBelow (map pair xs) count
   within_all e i all end k d h =
       let n = length-map xs pair in
       subst (λ p. IsBelow count p) (get_or_default (map pair xs) k e d h) (all k (omega (arith, n, h, end)))

@@ -18,3 +18,7 @@ pub record IsCycle (R : ℕ → ℕ → Type 0) (cycle : List ℕ) : Type 0 wher
   pub first : (q : ℕ) → Closure R q q → start ≤ q
   pub shortest : (other : List ℕ) → Chain R start other start → length between ≤ length other
   pub least : (other : List ℕ) → Chain R start other start → length other ≡ length between → NoLater between other
+
+-- nothing comes before itself
+abbrev pub HasNoCycle : (ℕ → ℕ → Type 0) → Type 0
+HasNoCycle R = (q : ℕ) → ¬ (Closure R q q)

@@ -1,5 +1,5 @@
 -- How far each index is from a goal.
-use Rattle.std.specs.Prelude.{◌≡◌, ℕ, Bool, true, false, ◌≤◌, List, Option, Some, None, length, slice_index_or}
+use Rattle.std.specs.Prelude.{◌≡◌, ℕ, Bool, true, false, ◌≤◌, List, ◌∷◌, Option, Some, None, length, slice_index_or}
 use Rattle.rel_graph.specs.Chains.{Chain}
 use Rattle.rel_graph.specs.Cycles.{NoLater}
 use Rattle.rel_graph.specs.Marks.{Marked}
@@ -7,12 +7,16 @@ use Rattle.rel_graph.specs.Marks.{Marked}
 abbrev pub distance : List (Option ℕ) → ℕ → Option ℕ
 distance numbers x = slice_index_or numbers x None
 
--- At each index from which R leads to the goal, how many indexes stand between the two on a shortest chain; at the others none.
+-- At each index from which R leads to the goal, how many indexes stand between the two on a shortest chain; at the
+-- others none.
 pub record AreDistances (R : ℕ → ℕ → Type 0) (goal : ℕ) (numbers : List (Option ℕ)) : Type 0 where
-  pub sound : (x k : ℕ) → distance numbers x ≡ Some k → (between : List ℕ) × (length between ≡ k) × Chain R x between goal
-  pub least : (x : ℕ) (between : List ℕ) → Chain R x between goal → (k : ℕ) × (distance numbers x ≡ Some k) × (k ≤ length between)
+  pub sound : (x k : ℕ) → distance numbers x ≡ Some k →
+      (between : List ℕ) × (length between ≡ k) × Chain R x between goal
+  pub least : (x : ℕ) (between : List ℕ) → Chain R x between goal →
+      (k : ℕ) × (distance numbers x ≡ Some k) × (k ≤ length between)
 
--- what one step does to the number n and the mark m of an index: where it is marked and has no number it is given the level, and stays marked
+-- what one step does to the number n and the mark m of an index: where it is marked and has no number it is given the
+-- level, and stays marked
 pub record StepsTo (level : ℕ) (n after : Option ℕ) (m left : Bool) : Type 0 where
   pub kept : left ≡ false → after ≡ n
   pub given : left ≡ true → after ≡ Some level
@@ -22,9 +26,11 @@ pub record StepsTo (level : ℕ) (n after : Option ℕ) (m left : Bool) : Type 0
 
 abbrev pub IsAdvance : ℕ → List (Option ℕ) → List (Option ℕ) → List Bool → List Bool → Type 0
 IsAdvance level numbers after marks left =
-    (x : ℕ) → StepsTo level (distance numbers x) (distance after x) (slice_index_or marks x false) (slice_index_or left x false)
+    (x : ℕ) → StepsTo level (distance numbers x) (distance after x) (slice_index_or marks x false)
+    (slice_index_or left x false)
 
--- The chain over these indexes from a to the goal has the length n, and of the chains of that length it is the least by its indexes.
+-- The chain over these indexes from a to the goal has the length n, and of the chains of that length it is the least
+-- by its indexes.
 pub record IsBest (R : ℕ → ℕ → Type 0) (goal a n : ℕ) (between : List ℕ) : Type 0 where
   pub chain : Chain R a between goal
   pub long : length between ≡ n
@@ -41,3 +47,7 @@ pub record IsLeastAt (marks : List Bool) (numbers : List (Option ℕ)) (left x :
   pub marked : Marked marks x
   pub far : distance numbers x ≡ Some left
   pub least : (y : ℕ) → Marked marks y → distance numbers y ≡ Some left → x ≤ y
+
+-- from the goal on, over the rest, stands the least of the shortest cycles with so many between
+abbrev pub IsBestCycle : (ℕ → ℕ → Type 0) → ℕ → ℕ → List ℕ → Type 0
+IsBestCycle R goal n cycle = (rest : List ℕ) × (cycle ≡ goal ∷ rest) × IsBest R goal goal n rest

@@ -32,4 +32,5 @@ pub record AreRelations (count : ℕ) (containers edges : List (ℕ × ℕ)) (cy
 
 -- the graph of these, in which nothing stands inside itself
 abbrev pub IsBuilt : ℕ → List (ℕ × ℕ) → List (ℕ × ℕ) → Relations → Type 0
-IsBuilt count containers edges g = (g ≡ record { count = count; containers = containers; edges = edges }) × NoneInsideItself containers
+IsBuilt count containers edges g = (g ≡ record { count = count; containers = containers; edges = edges }) ×
+    NoneInsideItself containers

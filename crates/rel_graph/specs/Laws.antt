@@ -12,9 +12,11 @@ OneOrder = (containers edges : List (ℕ × ℕ)) (count : ℕ) (xs ys : List �
 
 -- at most one cycle is told
 abbrev pub OneCycle : Type 0
-OneCycle = (containers edges : List (ℕ × ℕ)) (xs ys : List ℕ) → IsCycle (Direct containers edges) xs → IsCycle (Direct containers edges) ys → xs ≡ ys
+OneCycle = (containers edges : List (ℕ × ℕ)) (xs ys : List ℕ) → IsCycle (Direct containers edges) xs →
+    IsCycle (Direct containers edges) ys → xs ≡ ys
 
 -- where there is an order, no resource comes before itself
 abbrev pub OrderHasNoCycle : Type 0
-OrderHasNoCycle = (containers edges : List (ℕ × ℕ)) (count : ℕ) (xs : List ℕ) → AllBelow containers count → AllBelow edges count →
+OrderHasNoCycle = (containers edges : List (ℕ × ℕ)) (count : ℕ) (xs : List ℕ) → AllBelow containers count →
+    AllBelow edges count →
     IsOrder (Direct containers edges) count xs → (r : ℕ) → ¬ (Before containers edges r r)

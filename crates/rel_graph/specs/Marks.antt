@@ -35,3 +35,7 @@ pub record IsLeastFree (left blocked : List Bool) (x : ℕ) : Type 0 where
   pub marked : Marked left x
   pub free : ¬ (Marked blocked x)
   pub least : (y : ℕ) → Marked left y → ¬ (Marked blocked y) → x ≤ y
+
+-- all that is left is blocked
+abbrev pub AllBlocked : List Bool → List Bool → Type 0
+AllBlocked left blocked = (x : ℕ) → Marked left x → Marked blocked x

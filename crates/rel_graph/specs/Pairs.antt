@@ -9,3 +9,7 @@ AllBelow pairs count = All (λ p. (p.0 < count) × (p.1 < count)) pairs
 -- the pair the other way round
 abbrev pub flip : ℕ × ℕ → ℕ × ℕ
 flip p = (p.1, p.0)
+
+-- all indexes are those of resources
+abbrev pub AreBelow : ℕ → List (ℕ × ℕ) → List (ℕ × ℕ) → Type 0
+AreBelow count containers edges = AllBelow containers count × AllBelow edges count

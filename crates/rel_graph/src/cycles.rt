@@ -1,9 +1,8 @@
 //! The cycle that is told.
-ghost use Rattle.std.specs.Prelude.{◌≡◌, ◌↔◌, ℕ, ◌+◌, ◌<◌, Some, List, ◌∷◌, length, IsTrue, IfOk, MatchOption};
+ghost use Rattle.std.specs.Prelude.{◌≡◌, ◌↔◌, ℕ, ◌+◌, ◌<◌, Some, length, IsTrue, IfOk, IfNone, IfSome};
 ghost use Rattle.rel_graph.specs.Before.{Direct};
-ghost use Rattle.rel_graph.specs.Chains.{Closure};
-ghost use Rattle.rel_graph.specs.Cycles.{IsCycle};
-ghost use Rattle.rel_graph.specs.Distances.{AreDistances, IsBest, IsStep, IsLeastAt, distance};
+ghost use Rattle.rel_graph.specs.Cycles.{IsCycle, HasNoCycle};
+ghost use Rattle.rel_graph.specs.Distances.{AreDistances, IsBestCycle, IsStep, IsLeastAt, distance};
 ghost use Rattle.rel_graph.specs.Marks.{Marked};
 ghost use Rattle.rel_graph.specs.Pairs.{AllBelow};
 
@@ -75,7 +74,7 @@ fn trace(
     requires long { length numbers.now ≡ count }
     requires distances { AreDistances (Direct containers.now edges.now) goal numbers.now }
     requires far { distance numbers.now goal ≡ Some between }
-    ensures { IfOk result (λ v. (rest : List ℕ) × (v.items ≡ goal ∷ rest) × IsBest (Direct containers.now edges.now) goal goal between rest) }
+    ensures { IfOk result (λ v. IsBestCycle (Direct containers.now edges.now) goal between v.items) }
 {
     let mut cycle = Vec::new(alloc);
     cycle.push(goal)?;
@@ -98,7 +97,8 @@ pub fn first_cycle(
 ) -> Result<Option<Vec<u32>>, AllocError>
     requires below { AllBelow containers.now count }
     requires edges_below { AllBelow edges.now count }
-    ensures { IfOk result (λ o. MatchOption o ((q : ℕ) → ¬ (Closure (Direct containers.now edges.now) q q)) (λ v. IsCycle (Direct containers.now edges.now) v.items)) }
+    ensures none { IfOk result (λ o. IfNone o (HasNoCycle (Direct containers.now edges.now))) }
+    ensures some { IfOk result (λ o. IfSome o (λ v. IsCycle (Direct containers.now edges.now) v.items)) }
 {
     for start in 0..count {
         let numbers = distances(alloc, containers, edges, count, start)?;

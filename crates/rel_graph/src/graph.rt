@@ -1,10 +1,9 @@
 ghost use Rattle.std.specs.Prelude.{◌≡◌, ℕ, true, false, map, IfOk, MatchResult};
-ghost use Rattle.rel_graph.specs.Before.{Direct, Before, SomeBeforeItself};
+ghost use Rattle.rel_graph.specs.Before.{Before, SomeBeforeItself};
 ghost use Rattle.rel_graph.specs.Chains.{Paired};
-ghost use Rattle.rel_graph.specs.Graphs.{NoneInsideItself, IsBuilt, containment_pair, edge_pair};
-ghost use Rattle.rel_graph.specs.Orders.{IsOrder};
+ghost use Rattle.rel_graph.specs.Graphs.{NoneInsideItself, containment_pair, edge_pair};
 ghost use Rattle.rel_graph.specs.Pairs.{AllBelow};
-ghost use Rattle.rel_graph.specs.Stops.{IsContainedStop, IsOrderStop};
+ghost use Rattle.rel_graph.specs.Stops.{IsContainedStop, Builds, Sorts};
 
 use crate::containment::{Containers, Containment};
 use crate::sorting::sort;
@@ -97,7 +96,7 @@ pub fn build(
 ) -> Result<Graph, GraphStop>
     requires below { AllBelow (map containment_pair containers.now) count }
     requires edges_below { AllBelow (map edge_pair edges.now) count }
-    ensures { MatchResult result (IsBuilt count (map containment_pair containers.now) (map edge_pair edges.now)) (IsContainedStop (Paired (map containment_pair containers.now))) }
+    ensures { Builds count (map containment_pair containers.now) (map edge_pair edges.now) result }
 {
     let containers = containment_pairs(alloc, containers.as_slice())?;
     let edges = edge_pairs(alloc, edges.as_slice())?;
@@ -123,7 +122,7 @@ impl Graph {
     /// All resources, each after those that come before it, and where several could be next the one with the least
     /// index. A cycle is looked for only where there is no order.
     pub fn order(&self, alloc: Global) -> Result<Order, OrderStop>
-        ensures { MatchResult result (IsOrder (Direct self.now.containers self.now.edges) self.now.count) (IsOrderStop (Direct self.now.containers self.now.edges)) }
+        ensures { Sorts self.now.containers self.now.edges self.now.count result }
     {
         sort(
             alloc,

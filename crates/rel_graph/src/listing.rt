@@ -1,8 +1,8 @@
 //! Resources are listed one after another, as they become ready.
-ghost use Rattle.std.specs.Prelude.{◌≡◌, ℕ, ◌<◌, length, IfOk, MatchOption};
+ghost use Rattle.std.specs.Prelude.{◌≡◌, length, IfOk, MatchOption};
 ghost use Rattle.rel_graph.specs.Before.{Direct};
 ghost use Rattle.rel_graph.specs.Listing.{Listing, IsStuck};
-ghost use Rattle.rel_graph.specs.Marks.{Marked, IsLeastFree};
+ghost use Rattle.rel_graph.specs.Marks.{AllBlocked, IsLeastFree};
 ghost use Rattle.rel_graph.specs.Pairs.{AllBelow};
 
 use crate::direct::follow;
@@ -13,7 +13,7 @@ use std::alloc::{AllocError, Global};
 fn least_free(count: u32, left: &[bool], blocked: &[bool]) -> Option<u32>
     requires left { length left.now ≡ count }
     requires blocked { length blocked.now ≡ count }
-    ensures { MatchOption result ((x : ℕ) → Marked left.now x → Marked blocked.now x) (IsLeastFree left.now blocked.now) }
+    ensures { MatchOption result (AllBlocked left.now blocked.now) (IsLeastFree left.now blocked.now) }
 {
     for at in 0..count {
         if left[at as usize] && !blocked[at as usize] {

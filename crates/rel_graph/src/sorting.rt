@@ -1,10 +1,8 @@
 //! The order, or the cycle that stands in its way.
-ghost use Rattle.std.specs.Prelude.{◌↔◌, ℕ, Bool, IsTrue, MatchResult};
-ghost use Rattle.rel_graph.specs.Before.{Direct};
+ghost use Rattle.std.specs.Prelude.{◌↔◌, ℕ, Bool, IsTrue};
 ghost use Rattle.rel_graph.specs.Marks.{Marked};
-ghost use Rattle.rel_graph.specs.Orders.{IsOrder};
 ghost use Rattle.rel_graph.specs.Pairs.{AllBelow};
-ghost use Rattle.rel_graph.specs.Stops.{IsOrderStop};
+ghost use Rattle.rel_graph.specs.Stops.{Sorts};
 
 use crate::cycles::first_cycle;
 use crate::listed::Listed;
@@ -33,7 +31,7 @@ pub fn sort(
 ) -> Result<Indexes, OrderStop>
     requires below { AllBelow containers.now count }
     requires edges_below { AllBelow edges.now count }
-    ensures { MatchResult result (IsOrder (Direct containers.now edges.now) count) (IsOrderStop (Direct containers.now edges.now)) }
+    ensures { Sorts containers.now edges.now count result }
 {
     let Listed { order, left } = list_ready(alloc, containers, edges, count)?;
     if !is_any(left.as_slice()) {

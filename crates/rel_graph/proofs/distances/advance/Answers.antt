@@ -5,7 +5,18 @@ use Rattle.rel_graph.proofs.distances.advance.Goals.{then-marks-at+then-is_none,
 
 pub loop-at-preserved : goal.loop-at-preserved
 loop-at-preserved c = elim c.if-marks-at.branch [
-  | then-marks-at+then-is_none w ↦ rw (w.numbers-is, w.marks-is, w.any-is) (advancing_give _ _ _ _ _ _ _ c.loop-at.invariant (omega (arith, c.loop-at.auto, c.requires)) w.if-marks-at.true (none_is _ (w.is_none.ensures ∙ ap not w.if-is_none.true)))
-  | then-marks-at+else-is_none w ↦ rw (w.numbers-is, w.marks-is, w.any-is) (advancing_drop _ _ _ _ _ _ _ c.loop-at.invariant (omega arith) (ap not (w.is_none.ensures ∙ ap not w.if-is_none.false)))
-  | else-marks-at w ↦ rw (w.numbers-is, w.marks-is, w.any-is) (advancing_skip _ _ _ _ _ _ _ c.loop-at.invariant w.if-marks-at.false)
+  | then-marks-at+then-is_none w ↦ rw (
+    w.numbers-is,
+    w.marks-is,
+    w.any-is,
+  ) (advancing_give _ _ _ _ _ _ _ c.loop-at.invariant (omega (arith, c.loop-at.auto, c.requires))
+      w.if-marks-at.true (none_is _ (w.is_none.ensures ∙ ap not w.if-is_none.true)))
+  | then-marks-at+else-is_none w ↦ rw (
+    w.numbers-is,
+    w.marks-is,
+    w.any-is,
+  ) (advancing_drop _ _ _ _ _ _ _ c.loop-at.invariant (omega arith)
+      (ap not (w.is_none.ensures ∙ ap not w.if-is_none.false)))
+  | else-marks-at w ↦ rw (w.numbers-is, w.marks-is, w.any-is)
+      (advancing_skip _ _ _ _ _ _ _ c.loop-at.invariant w.if-marks-at.false)
 ]

@@ -10,4 +10,5 @@ loop-moving-preserved c = record {
 }
 
 pub returns-clause-complete : goal.returns-clause-complete
-returns-clause-complete c = λ x r. reached_closed _ _ _ x c.loop-moving.invariant.keeps (c.loop-moving.invariant.closed c.loop-moving-test.false) r
+returns-clause-complete c = λ x r. reached_closed _ _ _ x c.loop-moving.invariant.keeps
+    (c.loop-moving.invariant.closed c.loop-moving-test.false) r

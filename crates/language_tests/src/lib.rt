@@ -26,6 +26,8 @@ mod natives;
 #[cfg(test)]
 mod operators;
 #[cfg(test)]
+mod orders;
+#[cfg(test)]
 mod reading;
 #[cfg(test)]
 mod samples;

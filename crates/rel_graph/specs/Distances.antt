@@ -1,0 +1,53 @@
+-- How far each index is from a goal.
+use Rattle.std.specs.Prelude.{◌≡◌, ℕ, Bool, true, false, ◌≤◌, List, ◌∷◌, Option, Some, None, length, slice_index_or}
+use Rattle.rel_graph.specs.Chains.{Chain}
+use Rattle.rel_graph.specs.Cycles.{NoLater}
+use Rattle.rel_graph.specs.Marks.{Marked}
+
+abbrev pub distance : List (Option ℕ) → ℕ → Option ℕ
+distance numbers x = slice_index_or numbers x None
+
+-- At each index from which R leads to the goal, how many indexes stand between the two on a shortest chain; at the
+-- others none.
+pub record AreDistances (R : ℕ → ℕ → Type 0) (goal : ℕ) (numbers : List (Option ℕ)) : Type 0 where
+  pub sound : (x k : ℕ) → distance numbers x ≡ Some k →
+      (between : List ℕ) × (length between ≡ k) × Chain R x between goal
+  pub least : (x : ℕ) (between : List ℕ) → Chain R x between goal →
+      (k : ℕ) × (distance numbers x ≡ Some k) × (k ≤ length between)
+
+-- what one step does to the number n and the mark m of an index: where it is marked and has no number it is given the
+-- level, and stays marked
+pub record StepsTo (level : ℕ) (n after : Option ℕ) (m left : Bool) : Type 0 where
+  pub kept : left ≡ false → after ≡ n
+  pub given : left ≡ true → after ≡ Some level
+  pub was_marked : left ≡ true → m ≡ true
+  pub was_none : left ≡ true → n ≡ None
+  pub stays : m ≡ true → n ≡ None → left ≡ true
+
+abbrev pub IsAdvance : ℕ → List (Option ℕ) → List (Option ℕ) → List Bool → List Bool → Type 0
+IsAdvance level numbers after marks left =
+    (x : ℕ) → StepsTo level (distance numbers x) (distance after x) (slice_index_or marks x false)
+    (slice_index_or left x false)
+
+-- The chain over these indexes from a to the goal has the length n, and of the chains of that length it is the least
+-- by its indexes.
+pub record IsBest (R : ℕ → ℕ → Type 0) (goal a n : ℕ) (between : List ℕ) : Type 0 where
+  pub chain : Chain R a between goal
+  pub long : length between ≡ n
+  pub least : (other : List ℕ) → Chain R a other goal → length other ≡ n → NoLater between other
+
+-- a stands directly before x, x is so far from the goal, and no lesser index is both
+pub record IsStep (R : ℕ → ℕ → Type 0) (numbers : List (Option ℕ)) (a left x : ℕ) : Type 0 where
+  pub direct : R a x
+  pub far : distance numbers x ≡ Some left
+  pub least : (y : ℕ) → R a y → distance numbers y ≡ Some left → x ≤ y
+
+-- the least index that is marked and so far from the goal
+pub record IsLeastAt (marks : List Bool) (numbers : List (Option ℕ)) (left x : ℕ) : Type 0 where
+  pub marked : Marked marks x
+  pub far : distance numbers x ≡ Some left
+  pub least : (y : ℕ) → Marked marks y → distance numbers y ≡ Some left → x ≤ y
+
+-- from the goal on, over the rest, stands the least of the shortest cycles with so many between
+abbrev pub IsBestCycle : (ℕ → ℕ → Type 0) → ℕ → ℕ → List ℕ → Type 0
+IsBestCycle R goal n cycle = (rest : List ℕ) × (cycle ≡ goal ∷ rest) × IsBest R goal goal n rest

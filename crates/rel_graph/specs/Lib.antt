@@ -1,0 +1,11 @@
+pub mod Chains
+pub mod Before
+pub mod Orders
+pub mod Cycles
+pub mod Pairs
+pub mod Marks
+pub mod Distances
+pub mod Listing
+pub mod Stops
+pub mod Graphs
+pub mod Laws

@@ -1,0 +1,119 @@
+//! The cycle that is told.
+ghost use Rattle.std.specs.Prelude.{◌≡◌, ◌↔◌, ℕ, ◌+◌, ◌<◌, Some, length, IsTrue, IfOk, IfNone, IfSome};
+ghost use Rattle.rel_graph.specs.Before.{Direct};
+ghost use Rattle.rel_graph.specs.Cycles.{IsCycle, HasNoCycle};
+ghost use Rattle.rel_graph.specs.Distances.{AreDistances, IsBestCycle, IsStep, IsLeastAt, distance};
+ghost use Rattle.rel_graph.specs.Marks.{Marked};
+ghost use Rattle.rel_graph.specs.Pairs.{AllBelow};
+
+use crate::direct::follow;
+use crate::distances::distances;
+use std::alloc::{AllocError, Global};
+
+fn is_far(number: Option<u32>, left: u32) -> bool
+    ensures { IsTrue result ↔ (number ≡ Some left) }
+{
+    match number {
+        Some(between) => between == left,
+        None => false,
+    }
+}
+
+/// The least index that is marked and so far from the goal.
+fn least_at(count: u32, marks: &[bool], numbers: &[Option<u32>], left: u32) -> u32
+    requires marks_long { length marks.now ≡ count }
+    requires long { length numbers.now ≡ count }
+    requires some { (x : ℕ) × Marked marks.now x × (distance numbers.now x ≡ Some left) }
+    ensures { IsLeastAt marks.now numbers.now left result }
+{
+    for at in 0..count {
+        if marks[at as usize] && is_far(numbers[at as usize], left) {
+            return at;
+        }
+    }
+    unreachable!()
+}
+
+/// The least index that a resource stands directly before and that is so far from the goal.
+fn next_towards(
+    alloc: Global,
+    containers: &[(u32, u32)],
+    edges: &[(u32, u32)],
+    count: u32,
+    numbers: &[Option<u32>],
+    from: u32,
+    left: u32,
+) -> Result<u32, AllocError>
+    requires below { AllBelow containers.now count }
+    requires edges_below { AllBelow edges.now count }
+    requires from { from < count }
+    requires long { length numbers.now ≡ count }
+    requires some { (x : ℕ) × Direct containers.now edges.now from x × (distance numbers.now x ≡ Some left) }
+    ensures { IfOk result (IsStep (Direct containers.now edges.now) numbers.now from left) }
+{
+    let mut marks = vec![in alloc; false; count as usize]?;
+    marks[from as usize] = true;
+    let after = follow(alloc, containers, edges, marks.as_slice())?;
+    let next = least_at(count, after.as_slice(), numbers, left);
+    Ok(next)
+}
+
+/// The least of the shortest cycles from the goal on.
+fn trace(
+    alloc: Global,
+    containers: &[(u32, u32)],
+    edges: &[(u32, u32)],
+    count: u32,
+    numbers: &[Option<u32>],
+    goal: u32,
+    between: u32,
+) -> Result<Vec<u32>, AllocError>
+    requires below { AllBelow containers.now count }
+    requires edges_below { AllBelow edges.now count }
+    requires goal { goal < count }
+    requires long { length numbers.now ≡ count }
+    requires distances { AreDistances (Direct containers.now edges.now) goal numbers.now }
+    requires far { distance numbers.now goal ≡ Some between }
+    ensures { IfOk result (λ v. IsBestCycle (Direct containers.now edges.now) goal between v.items) }
+{
+    let mut cycle = Vec::new(alloc);
+    cycle.push(goal)?;
+    let mut at = goal;
+    let mut left = between;
+    while left > 0 {
+        left -= 1;
+        at = next_towards(alloc, containers, edges, count, numbers, at, left)?;
+        cycle.push(at)?;
+    }
+    Ok(cycle)
+}
+
+/// The cycle that is told, or none where no resource comes before itself.
+pub fn first_cycle(
+    alloc: Global,
+    containers: &[(u32, u32)],
+    edges: &[(u32, u32)],
+    count: u32,
+) -> Result<Option<Vec<u32>>, AllocError>
+    requires below { AllBelow containers.now count }
+    requires edges_below { AllBelow edges.now count }
+    ensures none { IfOk result (λ o. IfNone o (HasNoCycle (Direct containers.now edges.now))) }
+    ensures some { IfOk result (λ o. IfSome o (λ v. IsCycle (Direct containers.now edges.now) v.items)) }
+{
+    for start in 0..count {
+        let numbers = distances(alloc, containers, edges, count, start)?;
+        if let Some(between) = numbers[start as usize] {
+            let cycle = trace(
+                alloc,
+                containers,
+                edges,
+                count,
+                numbers.as_slice(),
+                start,
+                between,
+            )?;
+            return Ok(Some(cycle));
+        }
+    }
+    Ok(None)
+}

@@ -1,0 +1,134 @@
+ghost use Rattle.std.specs.Prelude.{◌≡◌, ℕ, true, false, map, IfOk, MatchResult};
+ghost use Rattle.rel_graph.specs.Before.{Before, SomeBeforeItself};
+ghost use Rattle.rel_graph.specs.Chains.{Paired};
+ghost use Rattle.rel_graph.specs.Graphs.{NoneInsideItself, containment_pair, edge_pair};
+ghost use Rattle.rel_graph.specs.Pairs.{AllBelow};
+ghost use Rattle.rel_graph.specs.Stops.{IsContainedStop, Builds, Sorts};
+
+use crate::containment::{Containers, Containment};
+use crate::sorting::sort;
+use crate::stops::{GraphStop, OrderStop};
+use res_core::{Edge, EdgeList, Indexes};
+use std::alloc::{AllocError, Global};
+use std::marker::Model;
+
+/// Which resources come before which, each one once, however many edges join two of them.
+pub type Edges = EdgeList;
+
+/// All resources by their indexes.
+pub type Order = Indexes;
+
+/// So many resources, which of them contain which, and which come before which.
+#[derive(Drop)]
+pub struct Graph {
+    count: u32,
+    containers: Vec<(u32, u32)>,
+    edges: Vec<(u32, u32)>,
+    cyclic: bool,
+}
+
+impl Model for Graph {
+    ghost use Rattle.rel_graph.specs.Graphs.{Relations, AreRelations};
+
+    ghost Value = { Relations };
+
+    ghost view = { λ g. record { count = g.count; containers = g.containers.items; edges = g.edges.items } };
+
+    ghost invariant = { λ g. AreRelations g.count g.containers.items g.edges.items g.cyclic };
+}
+
+fn containment_pairs(
+    alloc: Global,
+    containers: &[Containment],
+) -> Result<Vec<(u32, u32)>, AllocError>
+    ensures { IfOk result (λ v. v.items ≡ map containment_pair containers.now) }
+{
+    containers
+        .iter()
+        .map(|it| (it.container, it.member))
+        .collect(alloc)
+}
+
+fn edge_pairs(alloc: Global, edges: &[Edge]) -> Result<Vec<(u32, u32)>, AllocError>
+    ensures { IfOk result (λ v. v.items ≡ map edge_pair edges.now) }
+{
+    edges.iter().map(|edge| (edge.from, edge.to)).collect(alloc)
+}
+
+/// Refuses containment that leads from a resource back to itself.
+fn check_containment(alloc: Global, containers: &[(u32, u32)], count: u32) -> Result<(), GraphStop>
+    requires { AllBelow containers.now count }
+    ensures { MatchResult result (λ _. NoneInsideItself containers.now) (IsContainedStop (Paired containers.now)) }
+{
+    match sort(alloc, &[], containers, count) {
+        Ok(_order) => Ok(()),
+        Err(OrderStop::Cycle(cycle)) => Err(GraphStop::Contains(cycle)),
+        Err(OrderStop::Memory) => Err(GraphStop::Memory),
+    }
+}
+
+/// Whether some resource comes before itself.
+fn is_cyclic(
+    alloc: Global,
+    containers: &[(u32, u32)],
+    edges: &[(u32, u32)],
+    count: u32,
+) -> Result<bool, AllocError>
+    requires below { AllBelow containers.now count }
+    requires edges_below { AllBelow edges.now count }
+    ensures no { IfOk result (λ b. b ≡ false → (r : ℕ) → ¬ (Before containers.now edges.now r r)) }
+    ensures yes { IfOk result (λ b. b ≡ true → SomeBeforeItself containers.now edges.now) }
+{
+    match sort(alloc, containers, edges, count) {
+        Ok(_order) => Ok(false),
+        Err(OrderStop::Cycle(_cycle)) => Ok(true),
+        Err(OrderStop::Memory) => Err(AllocError),
+    }
+}
+
+/// A graph, unless containment leads from a resource back to itself. Of the edges the pairs alone count here, and not
+/// which of them signal.
+pub fn build(
+    alloc: Global,
+    count: u32,
+    containers: &Containers,
+    edges: &Edges,
+) -> Result<Graph, GraphStop>
+    requires below { AllBelow (map containment_pair containers.now) count }
+    requires edges_below { AllBelow (map edge_pair edges.now) count }
+    ensures { Builds count (map containment_pair containers.now) (map edge_pair edges.now) result }
+{
+    let containers = containment_pairs(alloc, containers.as_slice())?;
+    let edges = edge_pairs(alloc, edges.as_slice())?;
+    check_containment(alloc, containers.as_slice(), count)?;
+    let cyclic = is_cyclic(alloc, containers.as_slice(), edges.as_slice(), count)?;
+    Ok(Graph {
+        count,
+        containers,
+        edges,
+        cyclic,
+    })
+}
+
+impl Graph {
+    /// Whether some resource comes before itself.
+    pub fn has_cycle(&self) -> bool
+        ensures no { result ≡ false → (r : ℕ) → ¬ (Before self.now.containers self.now.edges r r) }
+        ensures yes { result ≡ true → SomeBeforeItself self.now.containers self.now.edges }
+    {
+        self.cyclic
+    }
+
+    /// All resources, each after those that come before it, and where several could be next the one with the least
+    /// index. A cycle is looked for only where there is no order.
+    pub fn order(&self, alloc: Global) -> Result<Order, OrderStop>
+        ensures { Sorts self.now.containers self.now.edges self.now.count result }
+    {
+        sort(
+            alloc,
+            self.containers.as_slice(),
+            self.edges.as_slice(),
+            self.count,
+        )
+    }
+}

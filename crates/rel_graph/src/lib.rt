@@ -1,0 +1,21 @@
+//! The order of resources by containment and relationships, and cycles of these.
+#![tactic(auto)]
+
+mod containment;
+mod cycles;
+mod direct;
+mod distances;
+mod graph;
+mod laws;
+mod listed;
+mod listing;
+mod marks;
+mod ranges;
+mod sorting;
+mod stops;
+
+pub use containment::{Containers, Containment};
+pub use graph::{Edges, Graph, Order, build};
+pub use laws::{an_order_has_no_cycle, there_is_one_cycle, there_is_one_order};
+pub use ranges::are_below;
+pub use stops::{GraphStop, OrderStop};

@@ -6,4 +6,5 @@ pub mod Keeping
 pub mod Steps
 pub mod Meant
 pub mod Growing
+pub mod Fitting
 mod Examples

@@ -8,3 +8,4 @@ pub mod Meant
 pub mod Growing
 pub mod Fitting
 mod Examples
+mod FitExamples

@@ -1,7 +1,7 @@
 //! What the callers of a site hold.
 ghost use Rattle.std.specs.Prelude.{◌≡◌, ◌≤◌, ◌+◌, length, Some, slice_get};
 ghost use Rattle.hist_lock.specs.Calls.{AreCalls};
-ghost use Rattle.site_core.specs.Core.{MOST_ENTRIES};
+ghost use Rattle.site_core.specs.declared.history.TheConstants.{MOST_ENTRIES};
 ghost use Rattle.site_core.specs.Events.{author_of};
 ghost use Rattle.site_core.specs.Legal.{Legal};
 ghost use Rattle.shared_site.specs.Known.{held};

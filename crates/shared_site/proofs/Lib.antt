@@ -1,0 +1,4 @@
+pub mod Shown
+pub mod Turns
+pub mod Calls
+pub mod Answered

@@ -7,5 +7,6 @@ pub mod Steps
 pub mod Meant
 pub mod Growing
 pub mod Fitting
+pub mod Running
 mod Examples
 mod FitExamples

@@ -46,9 +46,9 @@ module _ {S : Type 0} where
       Begins front c
   begins front c some (rest, is) =
       let all : events_in front ++ events_in rest ≡ c.history =
-          sym (map-append event_in front rest) ∙ ap events_in is ∙ events_marked c.limit c.history in
+      sym (map-append event_in front rest) ∙ ap events_in is ∙ events_marked c.limit c.history in
       let grown : 1 ≤ length c.history =
-          omega (arith, some, length-append (events_in front) (events_in rest), ap length all) in
+      omega (arith, some, length-append (events_in front) (events_in rest), ap length all) in
       record {
         events = (events_in rest, all);
         limit = same_limit front (shown c) some (rest, is) ∙ limit_marked c.limit c.history grown;

@@ -1,5 +1,5 @@
 -- What a turn makes of a pass.
-use Rattle.std.proofs.Common.{◌≡◌, ℕ, ◌≤◌, List, [], ◌∷◌, ◌++◌, length, Option, Some, Ok, Err, refl, sym, ap, subst, ◌∙◌, arith}
+use Rattle.std.proofs.Common.{◌≡◌, ℕ, List, [], ◌∷◌, ◌++◌, length, Some, Ok, Err, refl, sym, ap, subst, ◌∙◌}
 use Rattle.std.specs.Prelude.{Result, false}
 use mathlib.Core.List.{IsPrefix}
 use Rattle.hist_lock.specs.Held.{Held, taking, giving_back, adding, splitting, split_off}
@@ -136,7 +136,7 @@ module _ {S C F : Type 0} (meaning : Meaning S C F) where
   refused p t q m n c c' entry why ready sound count taken given same stops before =
       let sound' : IsSound meaning c = subst (IsSound meaning) same sound in
       let l : Looked p q n c =
-          looked p t q m n c ready sound' (count ∙ ap (λ x. length x.history) same) taken given before in
+      looked p t q m n c ready sound' (count ∙ ap (λ x. length x.history) same) taken given before in
       let front : q.front ≡ shown c = ap (λ x. x.front) (given ∙ ap giving_back taken) in
       record {
         ready = l.ready;
@@ -188,5 +188,5 @@ module _ {S : Type 0} where
         mark c.limit e,
         ap shown more ∙ shown_with c e ∙ ap (λ x. x.front ++ mark c.limit e ∷ []) (sym taken),
         author_of_entry addition author c.history
-        ∙ ap Some (mine ∙ ap (λ w. w.author) (sym view) ∙ ap (λ x. x.author) (sym taken)),
+            ∙ ap Some (mine ∙ ap (λ w. w.author) (sym view) ∙ ap (λ x. x.author) (sym taken)),
       )

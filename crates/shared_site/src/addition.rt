@@ -23,7 +23,9 @@ pub enum Addition<S> {
         set: ExportSet,
     },
     /// The end of a node's set.
-    Removal { node: Text },
+    Removal {
+        node: Text,
+    },
 }
 
 /// Adds it, as the author's next entry.

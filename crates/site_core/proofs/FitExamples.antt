@@ -245,8 +245,14 @@ each_place place =
 
 each_entry : (entry : ℕ) → times entry (0 ∷ 1 ∷ 2 ∷ 3 ∷ []) ≡ below 4 entry
 each_entry entry =
-    omega (arith, below_next 3 entry, below_next 2 entry, below_next 1 entry, below_next 0 entry,
-    below_no 0 entry (omega arith))
+    omega (
+      arith,
+      below_next 3 entry,
+      below_next 2 entry,
+      below_next 1 entry,
+      below_next 0 entry,
+      below_no 0 entry (omega arith),
+    )
 
 -- two workers, of which the one that was split off ends first
 two_authors : Whole toy listed 4 2 5 three_requests three_replies four

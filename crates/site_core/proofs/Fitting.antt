@@ -1,15 +1,13 @@
 -- What fits a history goes on to do so when the history grows, and fits for whoever had seen less.
-use Rattle.std.proofs.Common.{◌≡◌, ℕ, zero, suc, ◌<◌, ◌≤◌, List, [], ◌∷◌, ◌++◌, length, refl, sym, ap, ◌∙◌, arith}
+use Rattle.std.proofs.Common.{◌≡◌, ℕ, zero, suc, ◌<◌, ◌≤◌, List, [], ◌∷◌, ◌++◌, length, ap, ◌∙◌, arith}
 use Rattle.std.specs.Prelude.{Result, Some, slice_get}
 use Rattle.std.proofs.lemmas.List.{length-append}
-use Rattle.std.proofs.lemmas.Option.{slice_get_within}
 use Rattle.pp_values.specs.Datum.{Datum}
 use Rattle.res_core.specs.declared.export_set.ExportSet.{ExportSet}
-use Rattle.res_core.specs.Asked.{Wanted, Asked, compile, deactivate}
+use Rattle.res_core.specs.Asked.{Wanted, compile, deactivate}
 use Rattle.site_core.specs.Meaning.{Meaning}
 use Rattle.site_core.specs.Events.{Event}
-use Rattle.site_core.specs.Fits.{Listed, IsFresh, Means, HasNoFacts, IsServed, IsRemoved, Fits, RepliesStay, RepliesFitForLess}
-use Rattle.site_core.specs.declared.reply.ReplyOf.{ReplyOf}
+use Rattle.site_core.specs.Fits.{Listed, IsFresh, Means, HasNoFacts, IsServed, IsRemoved, RepliesStay, RepliesFitForLess}
 use Rattle.site_core.specs.declared.reply.ReplyOf.TheVariants as a
 use Rattle.site_core.proofs.Sets.{sets_at-append, site_at-append}
 
@@ -85,12 +83,11 @@ module _ {S C F : Type 0} (meaning : Meaning S C F) (listed : Listed S) where
       (fresh_grows h more s w.seen k fresh, no_facts_grows h more k w fresh.high known)
   fits_grows h more limit author s (compile w) (a.SeenAhead n) within (had, high, ahead) =
       (had, longer h more n high, ahead)
-  fits_grows h more limit author s (compile w) (a.HistoryFull n) within (is, full, (k, facts, made, fresh, means)) =
-      (
-        is,
-        full_still h more limit within full,
-        (k, facts, made, fresh_grows h more s w.seen k fresh, means_grows h more k w facts _ fresh.high means),
-      )
+  fits_grows h more limit author s (compile w) (a.HistoryFull n) within (is, full, (k, facts, made, fresh, means)) = (
+    is,
+    full_still h more limit within full,
+    (k, facts, made, fresh_grows h more s w.seen k fresh, means_grows h more k w facts _ fresh.high means),
+  )
   fits_grows h more limit author s (compile w) (a.Deactivated entry) within fits = fits
   fits_grows h more limit author s (compile w) a.Memory within fits = fits
   fits_grows h more limit author s (deactivate node) (a.Served entry k catalog) within fits = fits

@@ -1,6 +1,6 @@
 -- For callers: requests that run go on to do so when the history grows, and with one request more; which entries
 -- replies name.
-use Rattle.std.proofs.Common.{◌≡◌, ℕ, ◌+◌, ◌≤◌, List, [], ◌∷◌, ◌++◌, length, refl, sym, ◌∙◌, ap, arith, append_assoc}
+use Rattle.std.proofs.Common.{◌≡◌, ℕ, ◌≤◌, List, [], ◌∷◌, ◌++◌, length, refl, sym, ◌∙◌, ap, arith, append_assoc}
 use Rattle.list_sums.specs.Counts.{total, same, times}
 use Rattle.list_sums.proofs.Totals.{total-append}
 use Rattle.res_core.specs.Asked.{Asked}

@@ -2,5 +2,5 @@ use Rattle.std.proofs.Common.{◌≡◌}
 use Rattle.site_tests.proofs.shared.play_all.Given as goal
 
 abbrev pub invariant-loop-event : goal.invariant-loop-event
-invariant-loop-event l =
+invariant-loop-event g l =
     (l.pass.site ≡ l.site) × (l.pass.room ≡ l.initial.pass.room) × (l.pass.numbers ≡ l.initial.pass.numbers)

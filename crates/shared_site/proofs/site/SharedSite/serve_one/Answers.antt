@@ -13,7 +13,7 @@ use Rattle.shared_site.proofs.site.SharedSite.serve_one.Goals as goal
 pub returns-in-Ok-append : goal.returns-in-Ok-append
 returns-in-Ok-append g c =
     let same : (c.in-Ok-copy.node, view c.in-Ok-copy-2.facts) ≡ (c.args.request.now.node, view c.in-Some.facts.now) =
-        λ i. (c.in-Ok-copy.ensures i, c.in-Ok-copy-2.ensures i) in
+    λ i. (c.in-Ok-copy.ensures i, c.in-Ok-copy-2.ensures i) in
     served g.L.Language.meaning g.L.Language.listed c.args.pass.now c.snap.new.pass c.append.new.pass c.in-Ok.snapshot
     (wanted c.args.request.now) (view c.in-Some.facts.now) c.in-Ok-answer.compiled.0 c.in-Ok-answer.compiled.1
     c.in-Ok-append.entry

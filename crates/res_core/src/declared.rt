@@ -1,0 +1,18 @@
+use crate::resource::Resource;
+use pp_values::{Place, Text, Texts};
+
+/// A resource as a manifest declares it, before any override and any default statement.
+#[derive(Drop)]
+pub struct Declared {
+    pub item: Resource,
+    /// The body that declares it: the line of its title.
+    pub at: Place,
+    /// The number of the scope that declares it; for a lambda's scope, of the one that it is within.
+    pub scope: u32,
+    /// The number of the declaration that contains it. A class has none.
+    pub container: Option<u32>,
+    /// Its source: `class C`, `define D` or `node`, for the class, define or node definition in whose body it stands.
+    pub class: Text,
+    /// The attributes that its kind takes besides the metaparameters.
+    pub known: Texts,
+}

@@ -1,10 +1,10 @@
 //! Calls of a site that threads share, over the toy language.
-ghost use Rattle.std.specs.Prelude.{◌≡◌, ◌≤◌, IfOk, IsTrue, option_map};
+ghost use Rattle.std.specs.Prelude.{◌≡◌, ◌≤◌, ◌<◌, IfOk, IsTrue, option_map};
 ghost use Rattle.pp_values.specs.Views.{view};
 ghost use Rattle.res_core.specs.RequestViews.{wanted};
 ghost use Rattle.res_core.specs.AskedFacts.{has_facts};
 ghost use Rattle.site_core.specs.declared.history.TheConstants.{MOST_ENTRIES};
-ghost use Rattle.shared_site.specs.Known.{IsShare};
+ghost use Rattle.shared_site.specs.Known.{held};
 
 use crate::lines::{write_entries, write_reply};
 use crate::samples::no_facts;
@@ -22,7 +22,7 @@ use std::test::Fail;
 fn opened(alloc: Global, limit: u32) -> Result<(SharedSite<Toy>, SitePass<Toy>), Memory>
     requires low { 1 ≤ limit }
     requires high { limit ≤ MOST_ENTRIES }
-    ensures { IfOk result (λ r. IsShare r.0 65536 r.1) }
+    ensures { IfOk result (λ r. (r.1.site ≡ r.0) × (r.1.room ≡ 65535) × (held r.1 ≡ 1)) }
 {
     SharedSite::open(alloc, Toy, toy_site(alloc), limit)
 }
@@ -155,7 +155,7 @@ struct Guest<'a> {
     site: &'a SharedSite<Toy>,
     pass: SitePass<Toy>,
     reply: Reply<Toy>,
-    ghost share: { IsShare site.now 1 pass },
+    ghost here: { pass.site ≡ site.now },
 }
 
 /// Lets the guest play an event, where a compile has begun and not ended.
@@ -175,8 +175,8 @@ impl<'a> Gate for Doorway<'a> {
     }
 }
 
-/// Plays an event of the first pass, and in the middle of it one of the second. The first pass takes the second in.
-/// Writes the reply to the inner event and then that to the outer one.
+/// Plays an event of the first pass, and in the middle of it one of another. Writes the reply to the inner event and
+/// then that to the outer one.
 fn nest<R: Wait>(
     rt: &R,
     alloc: Global,
@@ -186,8 +186,8 @@ fn nest<R: Wait>(
     outer: &str,
     inner: &str,
 ) -> Result<(), Memory>
-    requires { (pass.old.room ≡ 65535) × IsShare site.now 65536 pass.old }
-    ensures { IfOk result (λ _. IsShare site.now 65536 pass.new) }
+    requires { (pass.old.site ≡ site.now) × (0 < pass.old.room) }
+    ensures { IfOk result (λ _. pass.new.site ≡ site.now) }
 {
     let second = site.split(rt, pass)?;
     let guest = Guest {
@@ -208,17 +208,15 @@ fn nest<R: Wait>(
     } = gate;
     let Guest {
         site: _,
-        pass: second,
+        pass: _,
         reply: within,
     } = guest.into_inner();
-    site.join(pass, second);
     write_reply(out, &within)?;
     write_reply(out, &reply?)?;
     Ok(())
 }
 
-/// Whether the events before, an event with another in its middle, and the event after come to these replies and this
-/// history.
+/// Whether the events before, an event with another in its middle, and the events after come to these replies.
 fn nested_comes_to<R: Wait>(
     rt: &R,
     alloc: Global,
@@ -235,41 +233,40 @@ fn nested_comes_to<R: Wait>(
     play_all(rt, alloc, &mut out, &site, &mut pass, before)?;
     nest(rt, alloc, &mut out, &site, &mut pass, outer, inner)?;
     play_all(rt, alloc, &mut out, &site, &mut pass, after)?;
-    let history = site.close(pass);
-    write_entries(&mut out, history.entries.as_slice())?;
     Ok(out.as_str() == want)
 }
 
+/// In the history and for the replies, the inner event comes first.
 const NESTED: [(u32, [&str; 4], &str); 5] = [
-    // The call that ends first has the first entry, and the other one is not refused.
+    // The call that ends first has the first entry, and the other one is not refused. There was one inner call.
     (
         9,
-        ["", "a", "a", ""],
-        "served 1 1 false;served 2 1 false;open;publish 1 0 a 1;publish 0 0 a 1;",
+        ["", "a", "a", "-none"],
+        "served 1 1 false;served 2 1 false;deactivated 3;",
     ),
     // A catalog is made from the entries at the beginning of its call, whatever comes meanwhile.
     (
         9,
         ["", "+b", "a", "+b"],
-        "served 1 1 false;served 2 1 false;served 3 3 true;open;publish 1 0 a 1;publish 0 0 b 1;publish 0 1 b 3;",
+        "served 1 1 false;served 2 1 false;served 3 3 true;",
     ),
     // Whoever publishes last counts, though its reading is the older one.
     (
         9,
         ["a", "a", "-a", "+b"],
-        "served 1 1 false;deactivated 2;served 3 2 true;served 4 4 true;open;publish 0 0 a 1;gone 1 0 a;publish 0 1 a 2;publish 0 2 b 4;",
+        "served 1 1 false;deactivated 2;served 3 2 true;served 4 4 true;",
     ),
-    // A second pass sees what came before, though it made its first call only now.
+    // A second pass sees what came before, though it makes its first call only now. A refused compile has a middle too.
     (
         9,
-        ["a", "+bad", "+b", ""],
-        "served 1 1 false;served 2 2 true;refused 2 bad;open;publish 0 0 a 1;publish 1 0 b 2;",
+        ["a", "+bad", "+b", "-none"],
+        "served 1 1 false;served 2 2 true;refused 2 bad;deactivated 3;",
     ),
     // The last place goes to the call that ends first.
     (
         2,
         ["", "a", "a", "a"],
-        "served 1 1 false;full 2;full 2;open;publish 1 0 a 1;",
+        "served 1 1 false;full 2;full 2;",
     ),
 ];
 

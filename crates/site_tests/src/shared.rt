@@ -144,7 +144,10 @@ const CALLS: [(u32, &str, &str); 5] = [
 #[test]
 fn calls_are_answered(rt: HostRuntime) -> Result<(), Fail> {
     for (limit, events, want) in CALLS.iter() {
-        assert!(rt; comes_to(&rt, rt.alloc(), *limit, events, want)?, "{events}");
+        assert!(rt;
+            comes_to(&rt, rt.alloc(), *limit, events, want)?,
+            "{events}"
+        );
     }
     Ok(())
 }
@@ -263,17 +266,16 @@ const NESTED: [(u32, [&str; 4], &str); 5] = [
         "served 1 1 false;served 2 2 true;refused 2 bad;deactivated 3;",
     ),
     // The last place goes to the call that ends first.
-    (
-        2,
-        ["", "a", "a", "a"],
-        "served 1 1 false;full 2;full 2;",
-    ),
+    (2, ["", "a", "a", "a"], "served 1 1 false;full 2;full 2;"),
 ];
 
 #[test]
 fn a_call_ends_in_the_middle_of_another(rt: HostRuntime) -> Result<(), Fail> {
     for (limit, events, want) in NESTED.iter() {
-        assert!(rt; nested_comes_to(&rt, rt.alloc(), *limit, events, want)?, "{want}");
+        assert!(rt;
+            nested_comes_to(&rt, rt.alloc(), *limit, events, want)?,
+            "{want}"
+        );
     }
     Ok(())
 }

@@ -1,5 +1,5 @@
 -- A legal history with one more entry, and its prefixes.
-use Rattle.std.proofs.Common.{◌≡◌, ℕ, zero, suc, List, [], ◌∷◌, ◌++◌, take, Some, sym, subst, arith}
+use Rattle.std.proofs.Common.{◌≡◌, ℕ, zero, suc, ◌≤◌, List, [], ◌∷◌, ◌++◌, length, take, Some, sym, subst, arith}
 use Rattle.std.specs.Prelude.{IsSomeAnd}
 use Rattle.std.proofs.Common.{append_assoc, append-nil}
 use Rattle.pp_values.specs.Datum.{Datum}
@@ -49,3 +49,8 @@ module _ {S C F : Type 0} (meaning : Meaning S C F) where
       IsSomeAnd (meaning_at meaning h k node facts) (λ meant. HasExports meant set)
   exported_of h k site sets node facts set version_is site_is has =
       rw site_is (subst (λ m. HasExports (meaning site node facts m) set) version_is has)
+
+  -- a legal history has an entry
+  pub some_entry : (h : List (Event S)) → Legal meaning h → 1 ≤ length h
+  some_entry [] legal = absurd legal
+  some_entry (e ∷ es) legal = omega arith

@@ -6,4 +6,7 @@ pub mod Keeping
 pub mod Steps
 pub mod Meant
 pub mod Growing
+pub mod Fitting
+pub mod Running
 mod Examples
+mod FitExamples

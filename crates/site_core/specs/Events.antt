@@ -1,5 +1,5 @@
 -- What a history tells: its entries, with what each value in them says.
-use Rattle.std.specs.Prelude.{◌≡◌, ◌⊎◌, ℕ, Bool, true, false, ◌==◌, ◌&&◌, List, [], ◌∷◌, refl}
+use Rattle.std.specs.Prelude.{◌≡◌, ◌⊎◌, ℕ, Bool, true, false, ◌==◌, ◌&&◌, List, [], ◌∷◌, Option, None, Some, refl}
 use Rattle.std.proofs.Common.{inl, inr}
 use Rattle.std.specs.List.{list_all, count_by}
 use Rattle.std.specs.Coded.{Coded, code_by, coded×, coded⊎, coded_list, coded_ℕ}
@@ -51,6 +51,12 @@ module _ {S : Type 0} where
   is_by author (opens site) = false
   is_by author (publishes p) = p.author == author
   is_by author (deactivates d) = d.author == author
+
+  -- whose entry it is
+  abbrev pub author_of : Event S → Option ℕ
+  author_of (opens site) = None
+  author_of (publishes p) = Some p.author
+  author_of (deactivates d) = Some d.author
 
   -- how many of the entries are of this author
   abbrev pub calls_of : ℕ → List (Event S) → ℕ

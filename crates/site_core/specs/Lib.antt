@@ -8,3 +8,5 @@ pub mod Answers
 pub mod Snapshots
 pub mod Counts
 pub mod Steps
+pub mod Fits
+pub mod Runs

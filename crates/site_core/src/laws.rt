@@ -3,6 +3,7 @@ ghost use Rattle.site_core.specs.Sets.{SetsAreTheLatest};
 ghost use Rattle.site_core.specs.Legal.{PrefixesAreLegal};
 ghost use Rattle.site_core.specs.Snapshots.{SnapshotsStay};
 ghost use Rattle.site_core.specs.Steps.{RunsAreSound};
+ghost use Rattle.site_core.specs.Fits.{RepliesStay, RepliesFitForLess};
 
 use crate::language::Language;
 
@@ -26,4 +27,10 @@ pub fn snapshots_stay<L: Language>()
 /// A node's set is that of its last publication, unless a deactivation came later.
 pub fn sets_are_the_latest<L: Language>()
     ensures { SetsAreTheLatest L.Site }
+{}
+
+/// A reply that fits a history fits it also when it has grown within its limit, and fits for whoever had seen less.
+pub fn replies_stay<L: Language>()
+    ensures grown { RepliesStay L.meaning L.listed }
+    ensures less { RepliesFitForLess L.meaning L.listed }
 {}

@@ -3,10 +3,11 @@
 //! [`Source`] and [`Sink`] are the traits. [`MemSource`] and [`MemSink`] are forms in memory that fail when
 //! they are told to, [`SureSource`] and [`SureSink`] never fail, and [`ReaderSource`] and [`WriterSink`]
 //! adapt std's readers and writers, the standard streams among them. [`read_all`] reads a source to its end
-//! within a limit, and [`write_all`] writes all of a text.
+//! within a limit, and [`write_all`] writes all of a text. A [`Gate`] is no stream: it is called in the middle of a compile.
 #![tactic(auto)]
 
 mod bytes;
+mod gate;
 mod mem_sink;
 mod mem_source;
 mod outside;
@@ -17,6 +18,7 @@ mod transfer;
 mod writer_sink;
 
 pub use bytes::Bytes;
+pub use gate::{Gate, OpenGate};
 pub use mem_sink::MemSink;
 pub use mem_source::MemSource;
 pub use outside::{Got, Outside, Sink, Source, Took};

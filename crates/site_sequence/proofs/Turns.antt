@@ -10,9 +10,10 @@ use Rattle.res_core.specs.Asked.{Asked, compile, deactivate}
 use Rattle.site_core.specs.Meaning.{Meaning}
 use Rattle.site_core.specs.Events.{Event}
 use Rattle.site_core.specs.Sets.{sets_at, site_at}
+use Rattle.site_core.specs.Fits.{facts_for}
 use Rattle.site_core.specs.declared.reply.ReplyOf.{ReplyOf}
 use Rattle.site_core.specs.declared.reply.ReplyOf.TheVariants as a
-use Rattle.site_sequence.specs.Sequence.{Turn, turn, turn_meant, turn_removed, turn_known, turn_for, facts_or, Takes, AnsweredInTurn, Outcome, with_turn, outcome_of}
+use Rattle.site_sequence.specs.Sequence.{Turn, turn, turn_meant, turn_removed, turn_known, turn_for, Takes, AnsweredInTurn, Outcome, with_turn, outcome_of}
 use Rattle.site_sequence.specs.SequenceLaws.{is_memory, named_entry, CountUp, is_made_from, are_made_in_turn, AnswersAreMeant, MeantIsAnswered, RepliesNameEntries, PublicationsAreInTurn}
 
 module _ {S C F : Type 0} where
@@ -83,9 +84,9 @@ module _ {S C F : Type 0} (meaning : Meaning S C F) (listed : S → List ℕ →
   comes h (compile w) t is =
       comes_unless h (nat_lt (length h) w.seen) (turn (a.SeenAhead (length h)) h) _ t
       (stays h (a.SeenAhead (length h)) refl refl)
-      (comes_at h (λ site. turn_known meaning listed limit h site w.node (facts_or w.facts (listed site w.node)))
+      (comes_at h (λ site. turn_known meaning listed limit h site w.node (facts_for listed site w))
       (site_at h (length h)) t
-      (λ site. comes_known h site w.node (facts_or w.facts (listed site w.node)))) is
+      (λ site. comes_known h site w.node (facts_for listed site w))) is
   comes h (deactivate node) t is = let e : turn_removed limit h node ≡ t = cc in
       subst (Comes h) e (comes_removed limit h node)
 

@@ -7,14 +7,10 @@ use Rattle.res_core.specs.Asked.{Asked, compile, deactivate}
 use Rattle.site_core.specs.Meaning.{Meaning}
 use Rattle.site_core.specs.Events.{Event, publication, deactivation}
 use Rattle.site_core.specs.Sets.{sets_at, site_at}
+use Rattle.site_core.specs.Fits.{Listed, facts_for}
 use Rattle.site_core.specs.declared.reply.ReplyOf.{ReplyOf}
 use Rattle.site_core.specs.declared.reply.ReplyOf.TheVariants as a
 use Rattle.site_sequence.specs.declared.sequence.TheConstants.{AUTHOR}
-
--- the facts that count: those of the request, else those that the site lists for its node
-abbrev pub facts_or : Option Datum → Option Datum → Option Datum
-facts_or None listed = listed
-facts_or (Some facts) listed = Some facts
 
 -- what a request is answered, and the history after it
 pub record Turn (S C F : Type 0) : Type 0 where
@@ -39,7 +35,7 @@ module _ {S C F : Type 0} where
       then turn (a.Deactivated (length h)) (h ++ deactivation h AUTHOR node ∷ [])
       else turn (a.HistoryFull (length h)) h
 
-module _ {S C F : Type 0} (meaning : Meaning S C F) (listed : S → List ℕ → Option Datum) (limit : ℕ) where
+module _ {S C F : Type 0} (meaning : Meaning S C F) (listed : Listed S) (limit : ℕ) where
   -- where the site is the one after h, and these facts count, or none are known
   abbrev pub turn_known : List (Event S) → S → List ℕ → Option Datum → Turn S C F
   turn_known h site node None = turn (a.UnknownNode (length h)) h
@@ -50,7 +46,7 @@ module _ {S C F : Type 0} (meaning : Meaning S C F) (listed : S → List ℕ →
   turn_for h (compile w) =
       if nat_lt (length h) w.seen
       then Some (turn (a.SeenAhead (length h)) h)
-      else option_map (λ site. turn_known h site w.node (facts_or w.facts (listed site w.node))) (site_at h (length h))
+      else option_map (λ site. turn_known h site w.node (facts_for listed site w)) (site_at h (length h))
   turn_for h (deactivate node) = Some (turn_removed limit h node)
 
   -- The request is answered so, and this is the history after it. Want of memory may be the answer to any request, and
@@ -77,7 +73,7 @@ module _ {S C F : Type 0} where
   abbrev pub with_turn : Turn S C F → Outcome S C F → Outcome S C F
   with_turn t later = record { replies = t.reply ∷ later.replies; history = later.history }
 
-module _ {S C F : Type 0} (meaning : Meaning S C F) (listed : S → List ℕ → Option Datum) (limit : ℕ) where
+module _ {S C F : Type 0} (meaning : Meaning S C F) (listed : Listed S) (limit : ℕ) where
   -- what comes of the requests in turn, where memory is never wanting
   unfoldable pub outcome_of : List (Event S) → List Asked → Option (Outcome S C F)
   outcome_of h [] = Some (record { replies = []; history = h })

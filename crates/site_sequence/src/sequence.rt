@@ -10,7 +10,8 @@ ghost use Rattle.site_core.specs.Events.{opens};
 ghost use Rattle.site_core.specs.Legal.{Legal};
 ghost use Rattle.site_core.specs.Snapshots.{Of};
 ghost use Rattle.res_core.specs.AskedFacts.{has_facts, asks_with_facts, give_facts};
-ghost use Rattle.site_sequence.specs.Sequence.{facts_or, turn_meant, turn_known, turn_removed, turn_for, Takes, AnsweredInTurn};
+ghost use Rattle.site_core.specs.Fits.{facts_for};
+ghost use Rattle.site_sequence.specs.Sequence.{turn_meant, turn_known, turn_removed, turn_for, Takes, AnsweredInTurn};
 ghost use Rattle.site_sequence.specs.Attempts.{Gives};
 
 use crate::replies::Replies;
@@ -131,7 +132,7 @@ fn facts_for<L: Language>(
 ) -> Result<Option<Value>, Memory>
     requires { IsTrue (has_facts (wanted request.now).facts) }
     ensures these { IfOk result (λ facts.
-        option_map view facts ≡ facts_or (wanted request.now).facts (L.listed site.now request.now.node)) }
+        option_map view facts ≡ facts_for L.listed site.now (wanted request.now)) }
     ensures facts { IfOk result (λ facts. IsTrue (has_facts (option_map view facts))) }
 {
     match &request.facts {

@@ -42,6 +42,8 @@ mod samples;
 #[cfg(test)]
 mod sequences;
 #[cfg(test)]
+mod shared;
+#[cfg(test)]
 mod sites;
 #[cfg(test)]
 mod streams;

@@ -29,6 +29,7 @@ pub fn toy_site(alloc: Global) -> ToySite {
 }
 
 /// Node `bad` is refused. The catalog of another one is whether node `a` has an export set. Each node exports an empty set.
+#[derive(Drop)]
 pub struct Toy;
 
 impl Language for Toy {

@@ -1,0 +1,5 @@
+pub mod Shown
+pub mod Turns
+pub mod Calls
+pub mod Entries
+pub mod Answered

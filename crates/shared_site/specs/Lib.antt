@@ -1,0 +1,4 @@
+pub mod Shows
+pub mod Known
+pub mod Seats
+pub mod Additions

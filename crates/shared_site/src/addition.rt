@@ -1,0 +1,52 @@
+ghost use Rattle.std.specs.Prelude.{◌≡◌, OnOk, OnErr};
+ghost use Rattle.site_core.specs.Core.{with_event};
+ghost use Rattle.site_core.specs.Answers.{Stops};
+ghost use Rattle.shared_site.specs.Additions.{entry_of, MayAdd};
+
+use pp_values::text::Text;
+use pp_values::value::Value;
+use res_core::export_set::ExportSet;
+use site_core::done_stop::DoneStop;
+use site_core::language::Language;
+use site_core::snapshot::Snapshot;
+use site_core::state::CoreState;
+use std::alloc::Global;
+
+/// An entry that is to be added to a history.
+#[derive(Drop)]
+pub enum Addition<S> {
+    /// What a compile from this snapshot exports.
+    Publication {
+        node: Text,
+        facts: Value,
+        snapshot: Snapshot<S>,
+        set: ExportSet,
+    },
+    /// The end of a node's set.
+    Removal {
+        node: Text,
+    },
+}
+
+/// Adds it, as the author's next entry.
+pub fn add<L: Language>(
+    alloc: Global,
+    core: &mut CoreState<L>,
+    author: u32,
+    addition: Addition<L::Site>,
+) -> Result<u32, DoneStop>
+    requires { MayAdd L.meaning addition core.old.history }
+    ensures stop { Stops core.old result }
+    ensures ok { OnOk result (core.new ≡ with_event core.old (entry_of addition author core.old.history)) }
+    ensures err { OnErr result (core.new ≡ core.old) }
+{
+    match addition {
+        Addition::Publication {
+            node,
+            facts,
+            snapshot,
+            set,
+        } => core.done(alloc, author, node, facts, snapshot, set),
+        Addition::Removal { node } => core.deactivate(alloc, author, node),
+    }
+}

@@ -1,0 +1,12 @@
+//! A site that threads share: compiles that run side by side over one history.
+#![tactic(auto)]
+
+mod addition;
+mod locked;
+mod pass;
+mod site;
+
+pub use pass::{SiteNote, SitePass};
+pub use res_core::request::CompileRequest;
+pub use site::SharedSite;
+pub use site_core::reply::{Reply, ReplyOf};

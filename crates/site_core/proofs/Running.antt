@@ -1,0 +1,57 @@
+-- For callers: requests that run go on to do so when the history grows, and with one request more; which entries
+-- replies name.
+use Rattle.std.proofs.Common.{◌≡◌, ℕ, ◌≤◌, List, [], ◌∷◌, ◌++◌, length, refl, sym, ◌∙◌, ap, arith, append_assoc}
+use Rattle.list_sums.specs.Counts.{total, same, times}
+use Rattle.list_sums.proofs.Totals.{total-append}
+use Rattle.res_core.specs.Asked.{Asked}
+use Rattle.site_core.specs.Meaning.{Meaning}
+use Rattle.site_core.specs.Events.{Event}
+use Rattle.site_core.specs.Fits.{Listed, Fits, had, named}
+use Rattle.site_core.specs.Runs.{had_after, all_named, Runs}
+use Rattle.site_core.specs.declared.reply.ReplyOf.{ReplyOf}
+use Rattle.site_core.proofs.Fitting.{fits_grows}
+
+module _ {C F : Type 0} where
+  pub had_after-push : (s : ℕ) (replies : List (ReplyOf C F)) (reply : ReplyOf C F) →
+      had_after s (replies ++ reply ∷ []) ≡ had (had_after s replies) reply
+  had_after-push s [] reply = refl
+  had_after-push s (first ∷ replies) reply = had_after-push (had s first) replies reply
+
+  pub all_named-append : (first second : List (ReplyOf C F)) →
+      all_named (first ++ second) ≡ all_named first ++ all_named second
+  all_named-append [] second = refl
+  all_named-append (reply ∷ first) second =
+      ap (λ entries. named reply ++ entries) (all_named-append first second)
+      ∙ sym (append_assoc (named reply) (all_named first) (all_named second))
+
+  -- how often replies name an entry, as a sum over them
+  pub times_named : (entry : ℕ) (replies : List (ReplyOf C F)) →
+      times entry (all_named replies) ≡ total (λ reply. times entry (named reply)) replies
+  times_named entry [] = refl
+  times_named entry (reply ∷ replies) =
+      let rest = times_named entry replies in
+      let all = total-append (same entry) (named reply) (all_named replies) in
+      omega (arith, rest, all)
+
+module _ {S C F : Type 0} (meaning : Meaning S C F) (listed : Listed S) where
+  pub runs_grow : (h more : List (Event S)) (limit author s : ℕ) (requests : List Asked)
+      (replies : List (ReplyOf C F)) → length (h ++ more) ≤ limit →
+      Runs meaning listed h limit author s requests replies →
+      Runs meaning listed (h ++ more) limit author s requests replies
+  runs_grow h more limit author s [] [] within runs = runs
+  runs_grow h more limit author s (asked ∷ requests) (reply ∷ replies) within (fits, runs) = (
+    fits_grows meaning listed h more limit author s asked reply within fits,
+    runs_grow h more limit author (had s reply) requests replies within runs,
+  )
+  runs_grow h more limit author s [] (reply ∷ replies) within runs = runs
+  runs_grow h more limit author s (asked ∷ requests) [] within runs = runs
+
+  pub runs_push : (h : List (Event S)) (limit author s : ℕ) (requests : List Asked) (replies : List (ReplyOf C F))
+      (asked : Asked) (reply : ReplyOf C F) → Runs meaning listed h limit author s requests replies →
+      Fits meaning listed h limit author (had_after s replies) asked reply →
+      Runs meaning listed h limit author s (requests ++ asked ∷ []) (replies ++ reply ∷ [])
+  runs_push h limit author s [] [] asked reply runs fits = (fits, tt)
+  runs_push h limit author s (a ∷ requests) (r ∷ replies) asked reply (first, runs) fits =
+      (first, runs_push h limit author (had s r) requests replies asked reply runs fits)
+  runs_push h limit author s [] (r ∷ replies) asked reply runs fits = absurd runs
+  runs_push h limit author s (a ∷ requests) [] asked reply runs fits = absurd runs

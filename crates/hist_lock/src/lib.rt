@@ -1,6 +1,7 @@
 //! A lock round a value that stands for a list of entries: what each pass has seen is a front of the one list.
 #![tactic(auto)]
 
+mod bells;
 pub mod laws;
 mod lock;
 mod pass;

@@ -5,6 +5,7 @@ ghost use Rattle.hist_lock.specs.Views.{joined};
 ghost use Rattle.hist_lock.specs.Steps.{Seized};
 ghost use Rattle.hist_lock.specs.Held.{held, first_pass, taking, giving_back, adding, splitting, split_off, note_of, meeting, joining};
 
+use crate::bells::Bells;
 use crate::pass::{Note, Pass};
 use crate::rule::{CopyFront, Divide, Draw, Give, GiveWith, LockRule, Look, Merge, Settle};
 use crate::stands_for::StandsFor;
@@ -12,18 +13,33 @@ use crate::turn::Turn;
 use crate::view::View;
 use atomic_table::{Refused, Seat, Table};
 use std::alloc::{AllocError, AllocFailed, Global};
+use std::hint::spin_loop;
 use std::marker::Model;
 use std::snapshot::Snapshot;
 use std::sync::Wait;
+use std::thread::yield_now;
 
 /// The most authors of one lock.
 const AUTHORS: u32 = 65_536;
+
+/// How often whoever gave a turn back looks whether all who have tickets had theirs.
+const LOOKS_ASIDE: u32 = 24;
+
+/// The first of these looks are parted by pauses, each twice as long as the one before, the others by yields.
+const PAUSES: u32 = 8;
+
+/// A ticket is near where no more than so many turns end before it is served.
+const NEAR: u64 = 4;
+
+/// How often the holder of a near ticket looks for the end of a turn before it sleeps.
+const LOOKS: u32 = 500;
 
 /// A lock round a value that stands for a list of entries. Its turns go by tickets, in the order in which
 /// they were asked for. Contracts see which lock it is.
 #[derive(Drop)]
 pub struct HistLock<V: StandsFor + Drop> {
     table: Table<Option<V>, View<V::Entry>, Snapshot<V>, LockRule<V>, Global>,
+    bells: Bells,
 }
 
 impl<V: StandsFor + Drop> Model for HistLock<V> {
@@ -52,7 +68,10 @@ impl<V: StandsFor + Drop> HistLock<V> {
         slots.push_reserved(Some(value));
         match Table::new(alloc, &[0, 0], slots, &key) {
             Ok((table, seat)) => Ok((
-                HistLock { table },
+                HistLock {
+                    table,
+                    bells: Bells::new(),
+                },
                 Pass {
                     seat,
                     room: AUTHORS - 1,
@@ -68,7 +87,8 @@ impl<V: StandsFor + Drop> HistLock<V> {
         }
     }
 
-    /// Waits until each turn that was asked for before this one was given back.
+    /// Waits until each turn that was asked for before this one was given back. It looks on for a while where
+    /// few are before it, and sleeps after that.
     pub fn take<R: Wait>(&self, rt: &R, pass: &mut Pass<V>) -> Turn<V>
         requires lock { pass.old.lock ≡ self.now }
         requires idle { pass.old.turn ≡ false }
@@ -98,12 +118,39 @@ impl<V: StandsFor + Drop> HistLock<V> {
             if served == ticket {
                 return;
             }
-            shared.park(rt, 0, (served & 0xffff_ffff) as u32);
+            if !self.ends_soon(ticket, served) {
+                self.sleep(rt, ticket);
+            }
         }
         unreachable!()
     }
 
-    /// Ends a turn that changed nothing.
+    // Whether the turn that is served now ended while the holder of a near ticket looked on.
+    fn ends_soon(&self, ticket: u64, served: u64) -> bool {
+        if ticket.wrapping_sub(served) > NEAR {
+            return false;
+        }
+        let shared = &self.table.shared;
+        for _ in 0..LOOKS {
+            if shared.peek(0) != served {
+                return true;
+            }
+            spin_loop();
+        }
+        false
+    }
+
+    // Sleeps until the ticket's bell is rung, unless the ticket is served already.
+    fn sleep<R: Wait>(&self, rt: &R, ticket: u64) {
+        let bell = self.bells.of(ticket);
+        let rings = bell.lie_down();
+        if self.table.shared.peek(0) != ticket {
+            bell.sleep(rt, rings);
+        }
+        bell.get_up();
+    }
+
+    /// Ends a turn that changed nothing. Where others wait it returns a little later, so that they come first.
     pub fn give(&self, pass: &mut Pass<V>, turn: Turn<V>)
         requires lock { pass.old.lock ≡ self.now }
         requires turn { pass.old.turn ≡ true }
@@ -117,7 +164,7 @@ impl<V: StandsFor + Drop> HistLock<V> {
         self.wake_next(served);
     }
 
-    /// Ends a turn that added one entry of the pass's own author.
+    /// Ends a turn that added one entry of the pass's own author, and leaves the lock to others as `give` does.
     pub fn give_with(&self, pass: &mut Pass<V>, turn: Turn<V>)
         requires lock { pass.old.lock ≡ self.now }
         requires turn { pass.old.turn ≡ true }
@@ -132,12 +179,22 @@ impl<V: StandsFor + Drop> HistLock<V> {
         self.wake_next(served);
     }
 
-    // Wakes those who wait, if there are any: whoever draws a ticket after this look at word 1 sees in word 0
-    // that the turn was given back, and whoever drew one before it is waked.
+    // Wakes the holder of the next ticket, if it sleeps, and leaves the lock to those who have tickets. Whoever
+    // lies down after the look at the bell sees in word 0 that its ticket is served, and stays awake.
     fn wake_next(&self, served: u64) {
+        self.bells.of(served.wrapping_add(1)).wake();
+        self.step_aside();
+    }
+
+    // Returns once nobody has a ticket, or after the last look. A thread that asked again at once would have the
+    // turn go to and fro between processors, which costs many times as much as a turn.
+    fn step_aside(&self) {
         let shared = &self.table.shared;
-        if shared.peek(1) != served.wrapping_add(1) {
-            shared.wake_all(0);
+        for round in 0..LOOKS_ASIDE {
+            if shared.peek(0) == shared.peek(1) {
+                return;
+            }
+            rest(round);
         }
     }
 
@@ -230,7 +287,7 @@ impl<V: StandsFor + Drop> HistLock<V> {
         ensures front { IsPrefix pass.front (V.entries result) }
         ensures all { AreAllCalls V.author pass.calls (V.entries result) }
     {
-        let HistLock { table } = self;
+        let HistLock { table, bells: _ } = self;
         let Pass {
             seat,
             room: _,
@@ -242,5 +299,17 @@ impl<V: StandsFor + Drop> HistLock<V> {
         };
         closed.free();
         value
+    }
+}
+
+// What lies between two looks at the lock. Where there are more threads than processors a yield lets those run
+// that are waited for.
+fn rest(round: u32) {
+    if round >= PAUSES {
+        yield_now();
+        return;
+    }
+    for _ in 0..1u32 << round {
+        spin_loop();
     }
 }

@@ -130,10 +130,20 @@ const TABLE: [(Ask, &str, bool, &str); 20] = [
     (Ask::NotTag("file"), "root", false, "not"),
     (Ask::Each(""), "root", true, "and of none"),
     (Ask::Each("file motd"), "root", true, "and"),
-    (Ask::Each("file web"), "root", false, "and of one that is false"),
+    (
+        Ask::Each("file web"),
+        "root",
+        false,
+        "and of one that is false",
+    ),
     (Ask::Some(""), "root", false, "or of none"),
     (Ask::Some("web motd"), "root", true, "or"),
-    (Ask::OrEach("file", "motd web"), "root", true, "or before and"),
+    (
+        Ask::OrEach("file", "motd web"),
+        "root",
+        true,
+        "or before and",
+    ),
 ];
 
 #[test]

@@ -241,7 +241,19 @@ impl WaitingJob for Digger {
     }
 }
 
-/// Levels that take more than the 8 MiB of a usual stack, and less than the stack that `run_waiting` states.
+impl Job for Digger {
+    ghost use Rattle.std.specs.Prelude.{⊤};
+
+    type Out = u64;
+
+    ghost promise = { λ _ _. ⊤ };
+
+    fn run(self) -> u64 {
+        dug(self.depth, &[1; FRAME])
+    }
+}
+
+/// Levels that take more than the 8 MiB of a usual stack, and less than the stack that `work_pool` states.
 const DEPTH: u32 = 20_000;
 
 /// Whether a job that goes deep comes back.
@@ -255,5 +267,19 @@ fn digs<R: Threads + Wait + Sync>(rt: &R, alloc: Global) -> Result<bool, AllocEr
 #[test]
 fn a_waiting_job_has_a_large_stack(rt: HostRuntime) -> Result<(), Fail> {
     assert!(rt; digs(&rt, rt.alloc())?);
+    Ok(())
+}
+
+/// Whether a job that waits for nobody comes back from as deep.
+fn digs_apart<R: Threads>(rt: &R, alloc: Global) -> Result<bool, AllocError> {
+    let mut jobs = Vec::new(alloc);
+    jobs.push(Digger { depth: DEPTH })?;
+    let depths = run_all(rt, alloc, jobs)?;
+    Ok(depths.as_slice().first().copied() == Some(DEPTH as u64 + 1))
+}
+
+#[test]
+fn a_job_has_a_large_stack(rt: HostRuntime) -> Result<(), Fail> {
+    assert!(rt; digs_apart(&rt, rt.alloc())?);
     Ok(())
 }

@@ -1,7 +1,7 @@
 use Rattle.std.proofs.Common.{subst, sym, ◌++◌, ◌∷◌, []}
 use Rattle.std.specs.List.{AllZip}
 use Rattle.work_pool.proofs.GroupLemmas.{zip_push}
-use Rattle.work_pool.proofs.run.run_in_turn.Goals as goal
+use Rattle.work_pool.proofs.apart.run_in_turn.Goals as goal
 
 pub loop-job-preserved : goal.loop-job-preserved
 loop-job-preserved g c =

@@ -14,7 +14,6 @@ ghost use Rattle.site_core.specs.Fits.{facts_for};
 ghost use Rattle.site_sequence.specs.Sequence.{turn_meant, turn_known, turn_removed, turn_for, Takes, AnsweredInTurn};
 ghost use Rattle.site_sequence.specs.Attempts.{Gives};
 
-use crate::replies::Replies;
 use pp_values::copying::copy;
 use pp_values::memory::Memory;
 use pp_values::text::Text;
@@ -29,6 +28,7 @@ use site_core::language::Language;
 use site_core::reply::{Reply, ReplyOf};
 use site_core::snapshot::Snapshot;
 use site_core::state::CoreState;
+use site_replies::Replies;
 use std::alloc::Global;
 
 /// Who asks, and so makes the entries.

@@ -30,6 +30,12 @@ impl<L: Language> Replies<L> {
         }
     }
 
+    pub fn from_vec(items: Vec<Reply<L>>) -> Replies<L>
+        ensures { result ≡ items.items }
+    {
+        Replies { items }
+    }
+
     pub fn len(&self) -> usize
         ensures { result ≡ length self.now }
     {

@@ -11,10 +11,8 @@ pub mod output;
 pub mod program;
 mod say;
 pub mod site;
-pub mod stack;
 pub mod words;
 
 pub use ending::Ending;
 pub use program::run_program;
 pub use site::{plain_command, shared_command, site_main};
-pub use stack::on_large_stack;

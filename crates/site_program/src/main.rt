@@ -2,10 +2,11 @@
 //! answers its requests one after another, and writes the history and the replies; `batch` has workers share them out.
 #![tactic(auto)]
 
-use site_commands::{on_large_stack, run_program};
+use site_commands::run_program;
 use site_io::{OpenGate, StandardError, StandardInput, StandardOutput};
 use std::process::ExitCode;
 use std::{env, io};
+use work_pool::on_large_stack;
 
 /// Runs the program on the real words and streams.
 fn main(rt: HostRuntime) -> ExitCode {

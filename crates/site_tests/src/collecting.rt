@@ -1,5 +1,4 @@
 use crate::puppet::made;
-use crate::samples::kind;
 use export_store::version::Version;
 use pp_values::fault::Fault;
 use pp_values::memory::Memory;
@@ -14,6 +13,7 @@ use res_core::exported::Exported;
 use res_core::exports::Exports;
 use res_core::resource::Resource;
 use res_core::tags::Tags;
+use sample_values::kind;
 use site_core::compile_stop::CompileStop;
 use site_docs::fault_texts::fault_text;
 use std::alloc::Global;

@@ -1,11 +1,11 @@
 use crate::puppet::made_alone;
-use crate::samples::says;
 use compile_core::language::PuppetLanguage;
 use pp_values::fault::Fault;
 use pp_values::memory::Memory;
 use pp_values::text::Text;
 use res_core::catalog::Catalog;
 use res_core::export_set::ExportSet;
+use sample_values::says;
 use site_core::compile_stop::CompileStop;
 use site_core::language::Language;
 use std::alloc::Global;

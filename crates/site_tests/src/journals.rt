@@ -3,9 +3,10 @@ ghost use Rattle.site_core.specs.Events.{is_later};
 ghost use Rattle.site_core.specs.EntryViews.{event_of};
 
 use crate::puppet::exports;
-use crate::samples::{no_facts, says, site};
+use crate::samples::site;
 use pp_values::memory::Memory;
 use pp_values::text::Text;
+use sample_values::{no_facts, says};
 use site_bundle::Site;
 use site_core::entries::Entries;
 use site_core::entry::Entry;

@@ -1,5 +1,5 @@
 //! Manifests that the language of Puppet compiles for a node.
-use crate::samples::{no_facts, site};
+use crate::samples::site;
 use compile_core::language::PuppetLanguage;
 use export_store::version::Version;
 use pp_values::fault::Fault;
@@ -7,6 +7,7 @@ use pp_values::memory::Memory;
 use pp_values::text::Text;
 use res_core::catalog::Catalog;
 use res_core::export_set::ExportSet;
+use sample_values::no_facts;
 use site_core::compile_stop::CompileStop;
 use site_core::language::Language;
 use std::alloc::Global;

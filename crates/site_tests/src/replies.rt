@@ -1,9 +1,9 @@
 use crate::puppet::made_alone;
-use crate::samples::says;
 use compile_core::language::PuppetLanguage;
 use pp_values::memory::Memory;
 use pp_values::text::Text;
 use res_core::request::{CompileRequest, Request};
+use sample_values::says;
 use site_core::compile_stop::CompileStop;
 use site_core::reply::{Reply, ReplyOf};
 use site_docs::replies::write_reply;

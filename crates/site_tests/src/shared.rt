@@ -6,18 +6,17 @@ ghost use Rattle.res_core.specs.AskedFacts.{has_facts};
 ghost use Rattle.site_core.specs.declared.history.TheConstants.{MOST_ENTRIES};
 ghost use Rattle.shared_site.specs.Known.{held};
 
-use crate::lines::{write_entries, write_reply};
-use crate::samples::no_facts;
-use crate::toy::{Toy, toy_site};
 use pp_values::memory::Memory;
 use pp_values::text::Text;
 use pp_values::value::Value;
 use res_core::request::CompileRequest;
+use sample_values::no_facts;
 use shared_site::{Reply, ReplyOf, SharedSite, SitePass};
 use site_io::{Gate, OpenGate};
 use std::alloc::Global;
 use std::sync::{Mutex, Wait};
 use std::test::Fail;
+use toy_language::{Toy, toy_site, write_entries, write_reply};
 
 fn opened(alloc: Global, limit: u32) -> Result<(SharedSite<Toy>, SitePass<Toy>), Memory>
     requires low { 1 ≤ limit }

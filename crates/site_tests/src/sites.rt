@@ -1,6 +1,7 @@
-use crate::samples::{says, site};
+use crate::samples::site;
 use pp_values::memory::Memory;
 use pp_values::text::Text;
+use sample_values::says;
 use site_bundle::{Site, is_node_name};
 use site_core::entries::Entries;
 use site_docs::site_texts::site_text;

@@ -1,6 +1,7 @@
 ghost use Rattle.std.specs.Prelude.{◌<◌, ◌≤◌, IfOk};
 ghost use Rattle.std.specs.List.{AllZip};
 
+use crate::apart::run_apart;
 use crate::groups::{grouped, put_together};
 use crate::jobs::{Job, WaitingJob};
 use crate::side::run_side_by_side;
@@ -22,38 +23,22 @@ fn processors<R: Threads>(rt: &R) -> usize
     }
 }
 
-// Runs each job, one after another.
-fn run_in_turn<J: Job + Drop>(alloc: Global, jobs: Vec<J>) -> Result<Vec<J::Out>, AllocError>
-where
-    J::Out: Drop,
-    ensures { IfOk result (λ done. AllZip J.promise jobs.items done.items) }
-{
-    let mut done = Vec::with_capacity(alloc, jobs.len())?;
-    for job in jobs {
-        done.push(job.run())?;
-    }
-    Ok(done)
-}
-
 /// Runs each job once, side by side where threads can be had, in at most as many as there are processors and
-/// at most 64, and gives the results in the jobs' order. Where memory is wanting some jobs may not have run.
-pub fn run_all<J: Job + Send + Drop, R: Threads + Sync>(
+/// at most 64, each with a stack of [`STACK_SIZE`](crate::STACK_SIZE) bytes, and gives the results in the jobs'
+/// order. Where memory is wanting some jobs may not have run.
+///
+/// The jobs borrow nothing: a thread that borrows and has a stated stack would have to be waited for.
+pub fn run_all<J: Job + Send + Drop + 'static, R: Threads>(
     rt: &R,
     alloc: Global,
     jobs: Vec<J>,
 ) -> Result<Vec<J::Out>, AllocError>
 where
-    J::Out: Send + Drop,
+    J::Out: Send + Drop + 'static,
     ensures { IfOk result (λ done. AllZip J.promise jobs.items done.items) }
 {
     let groups = grouped(alloc, jobs, processors(rt))?;
-    let parts = thread::map_vec(
-        rt,
-        groups,
-        &|group: Vec<J>| -> Result<Vec<J::Out>, AllocError>
-            ensures { IfOk result (λ done. AllZip J.promise group.items done.items) }
-        { run_in_turn(alloc, group) },
-    )?;
+    let parts = run_apart(rt, alloc, groups)?;
     put_together(alloc, parts)
 }
 

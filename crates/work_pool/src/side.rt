@@ -1,22 +1,14 @@
-// Runs of jobs on threads with a stated stack.
+// Runs of jobs that may wait, on threads of one scope with a stated stack.
 ghost use Rattle.std.specs.Prelude.{IfOk};
 ghost use Rattle.std.specs.List.{AllZip};
 
 use crate::jobs::WaitingJob;
-use core::thread::Stack;
+use crate::stack::large_stack;
 use std::alloc::{AllocError, Global};
 use std::snapshot::Snapshot;
 use std::sync::Wait;
 use std::thread;
 use std::thread::{Promise, Scope, Threads};
-
-/// The stack of each thread that `run_waiting` starts, in bytes. It is address space, of which pages are taken
-/// as they are used.
-///
-/// The deepest work that a site asks of a thread is an evaluation of 1,000 levels. A level was measured to take up
-/// to 34 KB, so 34 MB in all, and reading a manifest of 200 levels takes up to 7.1 MiB before that: this is that
-/// sum and half as much again.
-pub const STACK_SIZE: usize = 67_108_864;
 
 // Runs each job, one after another.
 fn run_waiting_in_turn<J: WaitingJob + Drop, R: Wait>(
@@ -70,10 +62,7 @@ where
     let run = move || -> Result<Vec<J::Out>, AllocError>
         ensures { IfOk result (λ done. AllZip J.promise group.items done.items) }
     { run_waiting_in_turn(rt, alloc, group) };
-    match Stack::new()
-        .stack_size(STACK_SIZE)
-        .spawn_scoped_with(scope, promise, run)
-    {
+    match large_stack().spawn_scoped_with(scope, promise, run) {
         Ok(thread) => {
             let mut parts = run_in_scope(scope, rt, alloc, groups)?;
             parts.push(thread.join(rt))?;

@@ -1,0 +1,135 @@
+ghost use Rattle.std.specs.Prelude.{IfOk, IsTrue, option_map};
+ghost use Rattle.res_core.specs.RequestViews.{asked};
+ghost use Rattle.pp_values.specs.Views.{view};
+ghost use Rattle.res_core.specs.AskedFacts.{has_facts, asks_with_facts, give_facts};
+
+use pp_values::memory::Memory;
+use pp_values::text::Text;
+use pp_values::value::Value;
+use res_core::request::{CompileRequest, Request};
+use res_core::requests::Requests;
+use sample_values::no_facts;
+use site_core::reply::Reply;
+use site_core::state::CoreState;
+use site_sequence::run_sequence;
+use site_sequence::sequence::answer;
+use std::alloc::Global;
+use std::test::Fail;
+use toy_language::{Toy, toy_site, write_entries, write_reply};
+
+fn compile(alloc: Global, node: &str, facts: Option<Value>, seen: u32) -> Result<Request, Memory>
+    requires { IsTrue (has_facts (option_map view facts)) }
+    ensures { IfOk result (λ r. IsTrue (asks_with_facts (asked r))) }
+{
+    let node = Text::from_str(alloc, node)?;
+    Ok(Request::Compile(CompileRequest { node, facts, seen }))
+}
+
+// A request: `a` with no facts, `+a` with facts that are given, `a/2` by one who has seen 2 entries, `-a` to deactivate.
+fn request(alloc: Global, words: &str) -> Result<Request, Memory>
+    ensures { IfOk result (λ r. IsTrue (asks_with_facts (asked r))) }
+{
+    if let Some(node) = words.strip_prefix("-") {
+        return Ok(Request::Deactivate(Text::from_str(alloc, node)?));
+    }
+    if let Some(node) = words.strip_prefix("+") {
+        return compile(alloc, node, Some(no_facts(alloc)), 0);
+    }
+    match words.split_once('/') {
+        Some((node, seen)) => compile(alloc, node, None, seen.parse().unwrap_or(0)),
+        None => compile(alloc, words, None, 0),
+    }
+}
+
+fn requests(alloc: Global, words: &str) -> Result<Requests, Memory>
+    ensures { IfOk result (λ r. IsTrue (give_facts r)) }
+{
+    let mut requests = Requests::new(alloc);
+    for word in words.split_whitespace() {
+        requests.push(request(alloc, word)?)?;
+    }
+    Ok(requests)
+}
+
+fn write_replies(out: &mut String, replies: &[Reply<Toy>]) -> Result<(), Memory> {
+    for reply in replies {
+        write_reply(out, reply)?;
+    }
+    Ok(())
+}
+
+// Whether the requests come to these replies and this history.
+fn comes_to(alloc: Global, words: &str, want: &str) -> Result<bool, Memory> {
+    let requests = requests(alloc, words)?;
+    let came = run_sequence(alloc, &Toy, toy_site(alloc), &requests)?;
+    let mut out = String::new(alloc);
+    write_replies(&mut out, came.replies.as_slice())?;
+    write_entries(&mut out, came.history.entries.as_slice())?;
+    Ok(out.as_str() == want)
+}
+
+const SEQUENCES: [(&str, &str); 9] = [
+    ("", "open;"),
+    (
+        "a +b -a +b",
+        "served 1 1 false;served 2 2 true;deactivated 3;served 4 4 false;open;publish 0 0 a 1;publish 0 1 b 2;gone 0 2 a;publish 0 3 b 4;",
+    ),
+    // No facts are listed for it; the facts that are given count.
+    ("b", "unknown 1;open;"),
+    ("+b", "served 1 1 false;open;publish 0 0 b 1;"),
+    // The first cause decides.
+    ("b/2", "ahead 1;open;"),
+    ("b/1", "unknown 1;open;"),
+    ("bad", "unknown 1;open;"),
+    // A refused compile publishes nothing.
+    (
+        "+bad a +bad",
+        "refused 1 bad;served 1 1 false;refused 2 bad;open;publish 0 0 a 1;",
+    ),
+    (
+        "-none a/2 a/4",
+        "deactivated 1;served 2 2 false;ahead 3;open;gone 0 0 none;publish 0 1 a 2;",
+    ),
+];
+
+#[test]
+fn requests_are_answered_in_turn(rt: HostRuntime) -> Result<(), Fail> {
+    for (words, want) in SEQUENCES.iter() {
+        assert!(rt; comes_to(rt.alloc(), words, want)?, "{words}");
+    }
+    Ok(())
+}
+
+// Answers the requests over a history that may have 2 entries.
+fn answer_all(alloc: Global, out: &mut String, words: &str) -> Result<(), Memory> {
+    let mut core: CoreState<Toy> = CoreState::open(alloc, toy_site(alloc), 2)?;
+    for word in words.split_whitespace() {
+        let request = request(alloc, word)?;
+        let reply = answer(alloc, &Toy, &mut core, &request);
+        write_reply(out, &reply)?;
+    }
+    Ok(())
+}
+
+fn answers(alloc: Global, words: &str, want: &str) -> Result<bool, Memory> {
+    let mut out = String::new(alloc);
+    answer_all(alloc, &mut out, words)?;
+    Ok(out.as_str() == want)
+}
+
+const FULL: [(&str, &str); 6] = [
+    ("a a", "served 1 1 false;full 2;"),
+    ("a -a", "served 1 1 false;full 2;"),
+    ("-b -a", "deactivated 1;full 2;"),
+    ("a +bad", "served 1 1 false;refused 2 bad;"),
+    ("a b", "served 1 1 false;unknown 2;"),
+    ("a a/3", "served 1 1 false;ahead 2;"),
+];
+
+#[test]
+fn a_full_history_comes_after_other_causes(rt: HostRuntime) -> Result<(), Fail> {
+    for (words, want) in FULL.iter() {
+        assert!(rt; answers(rt.alloc(), words, want)?, "{words}");
+    }
+    Ok(())
+}

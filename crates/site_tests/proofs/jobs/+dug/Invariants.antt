@@ -1,4 +1,0 @@
-use Rattle.site_tests.proofs.jobs.+dug.Given as goal
-
-abbrev pub decreases-dug : goal.decreases-dug
-decreases-dug l = l.depth

@@ -1,0 +1,129 @@
+use pp_values::fact_pairs::FactPairs;
+use pp_values::memory::Memory;
+use pp_values::place::Place;
+use pp_values::places::{Places, copy_places};
+use pp_values::reference::Reference;
+use pp_values::refs::{Refs, copy_refs};
+use pp_values::text::Text;
+use pp_values::text_pairs::{TextPairs, copy_text_pairs};
+use pp_values::texts::{Texts, copy_texts};
+use pp_values::value::Value;
+use sample_values::reference;
+use std::alloc::Global;
+use std::test::Fail;
+
+fn is_reference(reference: &Reference, kind: &str, title: &str) -> bool {
+    reference.kind.is(kind) && reference.title.is(title)
+}
+
+fn references(alloc: Global) -> Result<Refs, Memory> {
+    let mut list = Refs::new(alloc);
+    list.push(reference(alloc, "file", "/a")?)?;
+    list.push(reference(alloc, "notify", "b")?)?;
+    copy_refs(alloc, &list)
+}
+
+fn copies_references(alloc: Global) -> Result<bool, Memory> {
+    let list = references(alloc)?;
+    Ok(match list.as_slice() {
+        [a, b] => is_reference(a, "file", "/a") && is_reference(b, "notify", "b"),
+        _ => false,
+    })
+}
+
+fn places(alloc: Global) -> Result<Places, Memory> {
+    let file = Text::from_str(alloc, "site.pp")?;
+    let mut list = Places::new(alloc);
+    list.push(Place { file, line: 3 })?;
+    copy_places(alloc, &list)
+}
+
+fn copies_places(alloc: Global) -> Result<bool, Memory> {
+    let list = places(alloc)?;
+    Ok(match list.as_slice() {
+        [place] => place.file.is("site.pp") && place.line == 3,
+        _ => false,
+    })
+}
+
+fn texts(alloc: Global) -> Result<Texts, Memory> {
+    let mut list = Texts::new(alloc);
+    list.push(Text::from_str(alloc, "a")?)?;
+    list.push(Text::from_str(alloc, "")?)?;
+    copy_texts(alloc, &list)
+}
+
+fn copies_texts(alloc: Global) -> Result<bool, Memory> {
+    let list = texts(alloc)?;
+    Ok(match list.as_slice() {
+        [a, b] => a.is("a") && b.is(""),
+        _ => false,
+    })
+}
+
+fn files(alloc: Global) -> Result<TextPairs, Memory> {
+    let path = Text::from_str(alloc, "site.pp")?;
+    let text = Text::from_str(alloc, "$x = 1")?;
+    let mut list = TextPairs::new(alloc);
+    list.push((path, text))?;
+    copy_text_pairs(alloc, &list)
+}
+
+fn copies_files(alloc: Global) -> Result<bool, Memory> {
+    let list = files(alloc)?;
+    Ok(match list.as_slice() {
+        [(path, text)] => path.is("site.pp") && text.is("$x = 1"),
+        _ => false,
+    })
+}
+
+fn nodes(alloc: Global) -> Result<FactPairs, Memory> {
+    let node = Text::from_str(alloc, "n0")?;
+    let mut list = FactPairs::new(alloc);
+    list.push(node, Value::Int(5))?;
+    list.copy(alloc)
+}
+
+fn copies_nodes(alloc: Global) -> Result<bool, Memory> {
+    let list = nodes(alloc)?;
+    Ok(match list.as_slice() {
+        [(node, Value::Int(5))] => node.is("n0"),
+        _ => false,
+    })
+}
+
+/// A list of the language.
+#[derive(Clone, Copy)]
+enum List {
+    References,
+    Places,
+    Texts,
+    Files,
+    Nodes,
+}
+
+fn copies(alloc: Global, list: List) -> Result<bool, Memory> {
+    match list {
+        List::References => copies_references(alloc),
+        List::Places => copies_places(alloc),
+        List::Texts => copies_texts(alloc),
+        List::Files => copies_files(alloc),
+        List::Nodes => copies_nodes(alloc),
+    }
+}
+
+const LISTS: [(List, &str); 5] = [
+    (List::References, "references"),
+    (List::Places, "places"),
+    (List::Texts, "texts"),
+    (List::Files, "files"),
+    (List::Nodes, "nodes"),
+];
+
+#[test]
+fn lists_are_copied(rt: HostRuntime) -> Result<(), Fail> {
+    for (list, name) in LISTS.iter() {
+        assert!(rt; copies(rt.alloc(), *list)?, "{name}");
+    }
+    Ok(())
+}

@@ -26,7 +26,7 @@ module _ {T : Type 0} where
   all_held count answers slots each filled i inside =
       let mark = below_yes count i (omega (arith, inside, filled.count_is)) in
       let found = answer_at (λ a. slice_get slots a.index ≡ Some (Some a.reply)) answers i
-          (omega (arith, each i, mark)) filled.at in
+      (omega (arith, each i, mark)) filled.at in
       (found.0.reply, ap (λ k. slice_get slots k) (sym found.1) ∙ found.2)
 
   -- then what they hold is all of them

@@ -64,9 +64,10 @@ module _ {T : Type 0} where
       Each (λ a. slice_get slots a.index ≡ Some (Some a.reply)) answers →
       Each (λ a. slice_get (set slots i (Some reply)) a.index ≡ Some (Some a.reply)) answers
   still_at slots i reply [] none at = tt
-  still_at slots i reply (a ∷ answers) none at =
-      (set_there slots i a.index (Some reply) (λ is. let mark = same_yes i a.index (sym is) in omega (arith, none, mark)) ∙ at.0,
-      still_at slots i reply answers (omega (arith, none)) at.1)
+  still_at slots i reply (a ∷ answers) none at = (
+    set_there slots i a.index (Some reply) (λ is. let mark = same_yes i a.index (sym is) in omega (arith, none, mark)) ∙ at.0,
+    still_at slots i reply answers (omega (arith, none)) at.1,
+  )
 
   pub indexes-append : (xs ys : List (Answered T)) (i : ℕ) → times i (indexes (xs ++ ys)) ≡ times i (indexes xs) + times i (indexes ys)
   indexes-append [] ys i = omega arith
@@ -77,11 +78,12 @@ module _ {T : Type 0} where
       (a.index < count) × (times a.index (indexes done) ≡ 0)
   place_of count all rest done a each is =
       let here : times a.index (indexes (rest ++ a ∷ done)) ≡ below count a.index =
-          ap (λ l. times a.index (indexes l)) (sym is) ∙ each a.index in
+      ap (λ l. times a.index (indexes l)) (sym is) ∙ each a.index in
       let parts = indexes-append rest (a ∷ done) a.index in
-      let mark = same_yes a.index a.index refl in
-      (below_lt count a.index (omega (arith, here, parts, mark)),
-      omega (arith, here, parts, mark, below_le count a.index))
+      let mark = same_yes a.index a.index refl in (
+        below_lt count a.index (omega (arith, here, parts, mark)),
+        omega (arith, here, parts, mark, below_le count a.index),
+      )
 
   -- the last of those that are left is taken
   pub taken : (all now rest done : List (Answered T)) (a : Answered T) → all ≡ now ++ done → now ≡ rest ++ a ∷ [] →

@@ -5,18 +5,19 @@ use Rattle.std.specs.declared.alloc.Global.{Global}
 use mathlib.Core.List.{IsPrefix}
 use Rattle.list_sums.specs.Counts.{total, times, same, below}
 use Rattle.list_sums.proofs.Totals.{total-append}
-use Rattle.list_sums.proofs.Marks.{below_is, below_no, below_yes, same_yes, same_no}
-use Rattle.hist_lock.specs.Calls.{AreAllCalls, has_author}
+use Rattle.list_sums.proofs.Marks.{below_yes}
+use Rattle.hist_lock.specs.Calls.{AreAllCalls}
 use Rattle.hist_lock.specs.Held.{LockId}
 use Rattle.hist_lock.proofs.Fronts.{prefix_trans, prefix_length, at_front}
 use Rattle.res_core.specs.Asked.{Asked}
 use Rattle.site_core.specs.Meaning.{Meaning}
-use Rattle.site_core.specs.Events.{Event, opens, publishes, deactivates, author_of}
-use Rattle.site_core.specs.Legal.{Legal, EachFollows, MayFollow}
+use Rattle.site_core.specs.Events.{Event, opens, author_of}
+use Rattle.site_core.specs.Legal.{Legal}
 use Rattle.site_core.specs.Fits.{Listed, named}
 use Rattle.site_core.specs.Runs.{Hand, is_hand_of, times_in, RiseFrom, picked, had_after, all_named, Runs, EachRuns, Whole}
 use Rattle.site_core.specs.declared.reply.ReplyOf.{ReplyOf}
 use Rattle.shared_site.specs.Known.{Known, held}
+use Rattle.shared_site.proofs.Entries.{all_entries}
 use Rattle.work_pool.specs.Seats.{ClaimsId, Claimant, Draws}
 use Rattle.site_batch.specs.declared.answered.Answered.{Answered}
 use Rattle.site_batch.specs.Answers.{Each, indexes, AreAll, AreOrdered}
@@ -32,17 +33,6 @@ rise_from : (low high : ℕ) (xs : List ℕ) → RiseWithin low high xs → Rise
 rise_from low high [] rise = tt
 rise_from low high (x ∷ xs) rise = (rise.0, rise_from (x + 1) high xs rise.1)
 
-below_suc : (n k : ℕ) → below n k ≡ below (suc n) (suc k)
-below_suc n k = ⊎_elim
-    (λ low. low.1 ∙ sym (below_yes (suc n) (suc k) (omega (arith, low.0))))
-    (λ past. past.1 ∙ sym (below_no (suc n) (suc k) (omega (arith, past.0))))
-    (below_is n k)
-
-module _ {A : Type 0} where
-  total_same : (f g : A → ℕ) (xs : List A) → ((x : A) → f x ≡ g x) → total f xs ≡ total g xs
-  total_same f g [] is = refl
-  total_same f g (x ∷ xs) is = let rest = total_same f g xs is in let here = is x in omega (arith, rest, here)
-
 module _ {C F : Type 0} where
   total_replies : (f : ReplyOf C F → ℕ) (answers : List (Answered (ReplyOf C F))) →
       total f (replies_of answers) ≡ total (λ a. f a.reply) answers
@@ -57,37 +47,8 @@ module _ {C F : Type 0} where
       ap (λ o. cons_option o (picked replies (indexes answers))) each.0
       ∙ ap (λ l. a.reply ∷ l) (picked_replies replies answers each.1)
 
-module _ {S C F : Type 0} (meaning : Meaning S C F) where
-  -- behind the opening each entry has an author
-  follows_authors : (h es : List (Event S)) → EachFollows meaning h es → (k : ℕ) →
-      has_author author_of (slice_get es k) ≡ below (length es) k
-  follows_authors h [] each k = sym (below_no 0 k (omega arith))
-  follows_authors h (opens site ∷ es) each k = absurd each.0
-  follows_authors h (publishes p ∷ es) each zero = sym (below_yes (suc (length es)) 0 (omega arith))
-  follows_authors h (deactivates d ∷ es) each zero = sym (below_yes (suc (length es)) 0 (omega arith))
-  follows_authors h (publishes p ∷ es) each (suc k) =
-      follows_authors (h ++ publishes p ∷ []) es each.1 k ∙ below_suc (length es) k
-  follows_authors h (deactivates d ∷ es) each (suc k) =
-      follows_authors (h ++ deactivates d ∷ []) es each.1 k ∙ below_suc (length es) k
-
-  legal_authors : (h : List (Event S)) → Legal meaning h → (k : ℕ) →
-      same k 0 + has_author author_of (slice_get h k) ≡ below (length h) k
-  legal_authors [] legal k = absurd legal
-  legal_authors (opens site ∷ es) legal zero =
-      let mark = same_yes 0 0 refl in let low = below_yes (suc (length es)) 0 (omega arith) in omega (arith, mark, low)
-  legal_authors (opens site ∷ es) legal (suc k) =
-      let none = same_no (suc k) 0 (λ is. omega (arith, is)) in
-      let rest = follows_authors (opens site ∷ []) es legal k in let next = below_suc (length es) k in
-      omega (arith, none, rest, next)
-  legal_authors (publishes p ∷ es) legal k = absurd legal
-  legal_authors (deactivates d ∷ es) legal k = absurd legal
-
--- the hand of a worker that came back
-hand_of : {S T : Type 0} → Out S T → Hand
-hand_of out = record { author = out.pass.author; places = out.seat.numbers }
-
+-- the hands of workers that came back
 hands_of : {S T : Type 0} → List (Out S T) → List Hand
-unfolding hand_of
 hands_of [] = []
 hands_of (out ∷ outs) = record { author = out.pass.author; places = out.seat.numbers } ∷ hands_of outs
 
@@ -153,7 +114,7 @@ module _ {S C F : Type 0} (meaning : Meaning S C F) (listed : Listed S) (request
       let done = done_of share out worked.0 some.0 in
       let rest = owned id limit first claims shares outs new.1 worked.1 some.1 k in
       let own : times k out.pass.own ≡ times k (all_named (replies_of (kept out.answers))) =
-          ap (times k) (done.0.own ∙ ap (λ l. l ++ all_named (replies_of (kept out.answers))) new.0.own) in
+      ap (times k) (done.0.own ∙ ap (λ l. l ++ all_named (replies_of (kept out.answers))) new.0.own) in
       let names = times_named k (replies_of (kept out.answers)) in
       let replies = total_replies (λ r. times k (named r)) (kept out.answers) in
       let sum = total-append (λ a. times k (named a.reply)) (all_answers outs) (kept out.answers) in
@@ -211,16 +172,15 @@ module _ {S C F : Type 0} (meaning : Meaning S C F) (listed : Listed S) (request
       let bound : out.pass.limit ≡ limit = done.0.later.limit ∙ new.0.limit_is in
       let mine = each_back (λ a. slice_get replies a.index ≡ Some a.reply) (all_answers outs) (kept out.answers) at in
       let run = runs_grow meaning listed out.pass.front h limit out.pass.author 1 (picked requests (indexes (kept out.answers)))
-          (replies_of (kept out.answers)) (prefix_trans out.pass.front front h fronts.0 begins) few
-          (subst (λ n. Runs meaning listed out.pass.front n out.pass.author 1 (picked requests (indexes (kept out.answers)))
-          (replies_of (kept out.answers))) bound done.0.run) in
-      (
+      (replies_of (kept out.answers)) (prefix_trans out.pass.front front h fronts.0 begins) few
+      (subst (λ n. Runs meaning listed out.pass.front n out.pass.author 1 (picked requests (indexes (kept out.answers)))
+      (replies_of (kept out.answers))) bound done.0.run) in (
         rise_from 0 out.seat.known out.seat.numbers done.0.rising,
         subst (λ l. Runs meaning listed h limit out.pass.author 1 (picked requests l) (picked replies l)) (sym done.0.drawn)
-        (subst (λ l. Runs meaning listed h limit out.pass.author 1 (picked requests (indexes (kept out.answers))) l)
-        (sym (picked_replies replies (kept out.answers) mine)) run),
+            (subst (λ l. Runs meaning listed h limit out.pass.author 1 (picked requests (indexes (kept out.answers))) l)
+            (sym (picked_replies replies (kept out.answers) mine)) run),
         runs_of limit h front replies id first claims shares outs new.1 worked.1 some.1 fronts.1 begins few
-        (each_front (λ a. slice_get replies a.index ≡ Some a.reply) (all_answers outs) (kept out.answers) at),
+            (each_front (λ a. slice_get replies a.index ≡ Some a.reply) (all_answers outs) (kept out.answers) at),
       )
 
   -- there is a first worker
@@ -264,7 +224,7 @@ module _ {S C F : Type 0} (meaning : Meaning S C F) (listed : Listed S) (request
       AreGathered outs pass seat answers → ((i : ℕ) → times i seat.numbers ≡ below count i) → AreAll count answers
   all_are count shares outs pass seat answers worked gathered drawn i =
       let is : times i (indexes answers) ≡ times i (indexes (all_answers outs)) =
-          ap (λ l. times i (indexes l)) gathered.answers_are in
+      ap (λ l. times i (indexes l)) gathered.answers_are in
       let sum = drawn_of shares outs worked gathered.kept_all i in
       omega (arith, is, sum, gathered.drawn i, drawn i)
 
@@ -280,7 +240,7 @@ module _ {S C F : Type 0} (meaning : Meaning S C F) (listed : Listed S) (request
       legal begins few own =
       let within : length h ≤ limit = omega (arith, few, bound) in
       let front = first_front id limit workers (opens site ∷ []) claims shares outs pass.front are some worked
-          gathered.kept_all gathered.fronts in
+      gathered.kept_all gathered.fronts in
       let opened = prefix_trans (opens site ∷ []) pass.front h front begins in
       record {
         legal = legal;
@@ -296,10 +256,10 @@ module _ {S C F : Type 0} (meaning : Meaning S C F) (listed : Listed S) (request
         once = λ entry. let names = times_named entry replies in
             let sum = ordered.sums (λ r. times entry (named r)) in
             let is : total (λ a. times entry (named a.reply)) answers ≡ total (λ a. times entry (named a.reply)) (all_answers outs) =
-                ap (total (λ a. times entry (named a.reply))) gathered.answers_are in
+            ap (total (λ a. times entry (named a.reply))) gathered.answers_are in
             let owns = owned id limit (opens site ∷ []) claims shares outs are.new worked gathered.kept_all entry in
-            let all = legal_authors meaning h legal entry in
-            omega (arith, names, sum, is, owns, gathered.own entry, own entry, all);
+            let all = all_entries meaning h pass.own legal own entry in
+            omega (arith, names, sum, is, owns, gathered.own entry, all);
       }
 
 -- a seat that stands for all seats, and found that no number is left, has each number once

@@ -23,22 +23,26 @@ pub fn gather<L: Language + Drop>(
     ensures gathered { IfOk result (λ r. AreGathered works.items r.0 r.1 r.2.items) }
     ensures of { IfOk result (λ r. (r.0.site ≡ site.now) × (r.0.limit ≡ limit) × (r.1.claims ≡ claims.now)) }
 {
-    let Some(Worked {
-        mut pass,
-        mut seat,
-        answers: first,
-    }) = works.pop()
+    let Some(
+        Worked {
+            mut pass,
+            mut seat,
+            answers: first,
+        },
+    ) = works.pop()
     else {
         return Err(Memory);
     };
     let Some(mut answers) = first else {
         return Err(Memory);
     };
-    while let Some(Worked {
-        pass: other,
-        seat: spent,
-        answers: more,
-    }) = works.pop()
+    while let Some(
+        Worked {
+            pass: other,
+            seat: spent,
+            answers: more,
+        },
+    ) = works.pop()
     {
         let Some(mut more) = more else {
             return Err(Memory);

@@ -72,12 +72,7 @@ pub(crate) fn run_text(
     ensures { IfOk result (λ text. text ≡ run_text requests.now replies.now history.now.entries) }
 {
     let mut out = write_journal(alloc, history)?.into_string();
-    write_replies(
-        alloc,
-        &mut out,
-        requests.as_slice(),
-        replies.as_slice(),
-    )?;
+    write_replies(alloc, &mut out, requests.as_slice(), replies.as_slice())?;
     Ok(Text::new(out))
 }
 

@@ -36,11 +36,8 @@ pub fn read_words(words: &[String]) -> Result<Command<'_>, Complaint<'_>>
     match words {
         [command] if command.as_str() == "sequence" => Ok(Command::Sequence),
         [command] if command.as_str() == "batch" => Ok(Command::Batch { workers: 1 }),
-        [command, option, count]
-            if command.as_str() == "batch" && option.as_str() == "--workers" =>
-        {
-            read_workers(count.as_str())
-        }
+        [command, option, count] if command.as_str() == "batch" && option.as_str() == "--workers" =>
+            { read_workers(count.as_str()) }
         [command, node] if command.as_str() == "manifest" => {
             if is_node_name(node.as_str()) {
                 Ok(Command::Manifest {

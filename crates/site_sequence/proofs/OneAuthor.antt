@@ -114,8 +114,7 @@ module _ {S C F : Type 0} (meaning : Meaning S C F) (listed : Listed S) (limit :
   served h s w facts made may told means room =
       let e = publication h AUTHOR w.node facts (length h) made.1 in
       let size = length-append h (e ∷ []) in
-      adds_one h s (compile w) (a.Served (length h) (length h) made.0) e room
-      (
+      adds_one h s (compile w) (a.Served (length h) (length h) made.0) e room (
         record { had = may.had; told = told; low = may.some; high = omega (arith, size) },
         record {
           later = omega arith;
@@ -223,9 +222,12 @@ module _ {S C F : Type 0} (meaning : Meaning S C F) (listed : Listed S) (limit :
     goes_on = later.goes_on ∙ ap (λ l. l ++ later.more) first.goes_on ∙ append_assoc h first.more later.more;
     few = later.few;
     count_is = let rest = later.count_is in omega (arith, rest);
-    run = (subst (λ l. Fits meaning listed l limit AUTHOR s asked reply) (sym later.goes_on)
-        (fits_grows meaning listed next later.more limit AUTHOR s asked reply
-        (subst (λ l. length l ≤ limit) later.goes_on later.few) first.fitting), later.run);
+    run = (
+      subst (λ l. Fits meaning listed l limit AUTHOR s asked reply) (sym later.goes_on)
+          (fits_grows meaning listed next later.more limit AUTHOR s asked reply
+          (subst (λ l. length l ≤ limit) later.goes_on later.few) first.fitting),
+      later.run,
+    );
     names = λ entry. let sum = total-append (same entry) (named reply) (all_named replies) in
         let one = first.names entry in let rest = later.names entry in omega (arith, sum, one, rest);
   }
@@ -256,7 +258,7 @@ module _ {S C F : Type 0} (meaning : Meaning S C F) (listed : Listed S) (limit :
   pub turns_are_whole : TurnsAreWhole meaning listed limit
   turns_are_whole site after requests replies room run legal =
       let turns = turns_of (opens site ∷ []) after 1 requests replies
-          (record { some = omega arith; few = omega (arith, room); had = omega arith }) run in
+      (record { some = omega arith; few = omega (arith, room); had = omega arith }) run in
       let places = count_from 0 (length requests) in
       record {
         legal = legal;

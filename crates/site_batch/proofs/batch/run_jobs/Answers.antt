@@ -15,6 +15,17 @@ run_waiting-requires-send-J g c κs within =
 
 pub run_waiting-requires-send-J-Out : goal.run_waiting-requires-send-J-Out
 run_waiting-requires-send-J-Out g c κs within =
-    param_send _ _ (arg_send _ yes _ (search (sendable, crosses, pass_send, seat.the_send, answered_send, option.the_send,
-    option.the_field_send, vec.the_send, c.type_bounds.send-L-Site, c.type_bounds.sync-L-Site,
-    c.type_bounds.send-L-Catalog, c.type_bounds.send-L-Fault) depth 60 fits 40000))
+    param_send _ _ (arg_send _ yes _ (search (
+      sendable,
+      crosses,
+      pass_send,
+      seat.the_send,
+      answered_send,
+      option.the_send,
+      option.the_field_send,
+      vec.the_send,
+      c.type_bounds.send-L-Site,
+      c.type_bounds.sync-L-Site,
+      c.type_bounds.send-L-Catalog,
+      c.type_bounds.send-L-Fault,
+    ) depth 60 fits 40000))

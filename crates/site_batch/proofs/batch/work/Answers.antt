@@ -15,7 +15,7 @@ pub loop-pass-preserved : goal.loop-pass-preserved
 loop-pass-preserved g c =
     let before = c.loop-pass.invariant in
     let more = jobs_more _ _ _ _ _ _ _ _ _ _ _ c.in_ok-push.ensures.items c.in-Some.ensures.steps.0
-        (before.0, before.1, before.2) refl refl in
+    (before.0, before.1, before.2) refl refl in
     (more.0, more.1, more.2, one_less _ _ _ _ _ before.3 c.in-Some.ensures.steps.1 c.in-Some.ensures.steps.0)
 
 pub returns : goal.returns

@@ -4,9 +4,6 @@ ghost use Rattle.res_core.specs.AskedFacts.{give_facts};
 
 use crate::accounts::{are_accounted, compiles};
 use crate::crowds::crowd;
-use crate::lines::{write_entries, write_reply};
-use crate::sequences::requests;
-use crate::toy::{Toy, ToySite, toy_site};
 use export_store::version::Version;
 use pp_values::memory::Memory;
 use pp_values::text::Text;
@@ -26,6 +23,7 @@ use std::sync::atomic::{AtomicU64, Ordering};
 use std::sync::{Arc, Wait};
 use std::test::Fail;
 use std::thread::Threads;
+use toy_language::{Toy, ToySite, requests, toy_site, write_entries, write_reply};
 
 /// How far the compiles have come.
 #[derive(Drop)]

@@ -5,7 +5,6 @@ ghost use Rattle.res_core.specs.AskedFacts.{asks_with_facts, give_facts};
 ghost use Rattle.pp_values.specs.Views.{view};
 ghost use Rattle.pp_values.specs.Facts.{are_facts};
 
-use crate::sequences::compile;
 use pp_values::memory::Memory;
 use pp_values::pairs::Pairs;
 use pp_values::text::Text;
@@ -13,6 +12,7 @@ use pp_values::value::Value;
 use res_core::request::Request;
 use res_core::requests::Requests;
 use std::alloc::Global;
+use toy_language::compile;
 
 /// What the requests of a crowd ask, over and over: `a` with no facts, `+a` with facts, `-a` to deactivate. A request whose
 /// word ends in `/4` comes from one who has seen 4 entries for each 16 requests before it. Ten of these make an entry each,

@@ -1,5 +1,4 @@
 //! A plain check of the replies to requests in the toy language, under the history that they came to.
-use crate::toy::{Toy, ToySite};
 use pp_values::equality::equal;
 use pp_values::memory::Memory;
 use pp_values::value::Value;
@@ -7,6 +6,7 @@ use res_core::request::{CompileRequest, Request};
 use site_core::entry::Entry;
 use site_core::reply::{Reply, ReplyOf};
 use std::alloc::Global;
+use toy_language::{Toy, ToySite};
 
 /// How many authors there may be.
 const AUTHORS: usize = 64;

@@ -1,5 +1,5 @@
 -- One more worker's pass, seat and answers are joined.
-use Rattle.std.proofs.Common.{◌≡◌, ℕ, ◌+◌, ◌≤◌, max, List, [], ◌∷◌, ◌++◌, length, Option, Some, None, IsSome, Vec, refl, sym, ap, ◌∙◌, subst, arith, append-nil, append_assoc, length-append}
+use Rattle.std.proofs.Common.{◌≡◌, ℕ, ◌+◌, max, List, [], ◌∷◌, ◌++◌, length, Some, IsSome, Vec, refl, sym, ap, ◌∙◌, subst, arith, append_assoc, length-append}
 use Rattle.std.specs.declared.alloc.Global.{Global}
 use mathlib.Core.List.{IsPrefix}
 use Rattle.list_sums.specs.Counts.{total, times, same}
@@ -9,12 +9,10 @@ use Rattle.hist_lock.specs.Held.{LockId}
 use Rattle.hist_lock.proofs.Fronts.{prefix_self, prefix_trans}
 use mathlib.Core.Logic.{dite}
 use native.Mathlib.Decide.{dec_le}
-use Rattle.site_core.specs.Events.{Event}
 use Rattle.shared_site.specs.Known.{Known, held, joined_to}
 use Rattle.work_pool.specs.Seats.{ClaimsId, Claimant, joining}
 use Rattle.site_batch.specs.declared.answered.Answered.{Answered}
 use Rattle.site_batch.specs.Answers.{Each}
-use Rattle.site_batch.specs.declared.worked.Worked.{Worked}
 use Rattle.site_batch.specs.Gathered.{Out, kept, all_answers, IsOf, AreGathered}
 
 module _ {A : Type 0} where
@@ -43,50 +41,50 @@ module _ {E : Type 0} where
       (subst (IsPrefix one) (sym is.0) is.1, subst (IsPrefix other) (sym is.0) (prefix_self other)))
 
 module _ {S T : Type 0} where
-  abbrev pub out_of : Known S → Claimant → Option (Vec (Answered T) Global) → Out S T
-  out_of pass seat answers = record { pass = pass; seat = seat; answers = answers }
-
   -- the first one that was taken
-  pub gathered_one : (pass : Known S) (seat : Claimant) (answers : Vec (Answered T) Global) →
-      AreGathered (out_of pass seat (Some answers) ∷ []) pass seat answers.items
-  gathered_one pass seat answers = record {
-    fronts = (prefix_self pass.front, tt);
+  gathered_one : (out : Out S T) (answers : Vec (Answered T) Global) → out.answers ≡ Some answers →
+      AreGathered (out ∷ []) out.pass out.seat answers.items
+  gathered_one out answers is = record {
+    fronts = (prefix_self out.pass.front, tt);
     own = λ k. omega arith;
     passes = omega arith;
     known = (omega arith, tt);
     drawn = λ k. omega arith;
     seats = omega arith;
-    kept_all = (refl, tt);
-    answers_are = refl;
+    kept_all = (subst IsSome (sym is) refl, tt);
+    answers_are = sym (ap kept is);
   }
 
   -- and one more
-  pub gathered_more : (outs : List (Out S T)) (pass other now : Known S) (seat spent joined : Claimant)
-      (answers all : List (Answered T)) (more : Vec (Answered T) Global) →
-      AreGathered outs pass seat answers → now ≡ joined_to pass other now.front → IsLonger pass.front other.front now.front →
-      joined ≡ joining seat spent → all ≡ answers ++ more.items →
-      AreGathered (out_of other spent (Some more) ∷ outs) now joined all
-  gathered_more outs pass other now seat spent joined answers all more done now_is longer joined_is all_is =
-      let front = longer_one pass.front other.front now.front longer in
+  gathered_more : (outs : List (Out S T)) (out : Out S T) (pass now : Known S) (seat joined : Claimant)
+      (answers all : List (Answered T)) (more : Vec (Answered T) Global) → AreGathered outs pass seat answers →
+      out.answers ≡ Some more → now ≡ joined_to pass out.pass now.front →
+      IsLonger pass.front out.pass.front now.front → joined ≡ joining seat out.seat → all ≡ answers ++ more.items →
+      AreGathered (out ∷ outs) now joined all
+  gathered_more outs out pass now seat joined answers all more done given now_is longer joined_is all_is =
+      let front = longer_one pass.front out.pass.front now.front longer in
       record {
-        fronts = (front.1, each_map _ _ (λ out p. prefix_trans out.pass.front pass.front now.front p front.0) outs done.fronts);
-        own = λ k. let sum = total-append (same k) pass.own other.own in
-            let is : times k now.own ≡ times k (pass.own ++ other.own) = ap (λ p. times k p.own) now_is in
+        fronts = (front.1, each_map _ _ (λ o p. prefix_trans o.pass.front pass.front now.front p front.0) outs done.fronts);
+        own = λ k. let sum = total-append (same k) pass.own out.pass.own in
+            let is : times k now.own ≡ times k (pass.own ++ out.pass.own) = ap (λ p. times k p.own) now_is in
             omega (arith, done.own k, sum, is);
-        passes = let room : now.room ≡ pass.room + other.room = ap (λ p. p.room) now_is in
-            let size = length-append pass.numbers other.numbers in
-            let numbers : length now.numbers ≡ length (pass.numbers ++ other.numbers) = ap (λ p. length p.numbers) now_is in
+        passes = let room : now.room ≡ pass.room + out.pass.room = ap (λ p. p.room) now_is in
+            let size = length-append pass.numbers out.pass.numbers in
+            let numbers : length now.numbers ≡ length (pass.numbers ++ out.pass.numbers) =
+            ap (λ p. length p.numbers) now_is in
             omega (arith, done.passes, room, size, numbers);
-        known = let is : joined.known ≡ max seat.known spent.known = ap (λ s. s.known) joined_is in
-            (omega (arith, is), each_map _ _ (λ out le. omega (arith, le, is)) outs done.known);
-        drawn = λ k. let sum = total-append (same k) seat.numbers spent.numbers in
-            let is : times k joined.numbers ≡ times k (seat.numbers ++ spent.numbers) = ap (λ s. times k s.numbers) joined_is in
+        known = let is : joined.known ≡ max seat.known out.seat.known = ap (λ s. s.known) joined_is in
+            (omega (arith, is), each_map _ _ (λ o le. omega (arith, le, is)) outs done.known);
+        drawn = λ k. let sum = total-append (same k) seat.numbers out.seat.numbers in
+            let is : times k joined.numbers ≡ times k (seat.numbers ++ out.seat.numbers) =
+            ap (λ s. times k s.numbers) joined_is in
             omega (arith, done.drawn k, sum, is);
-        seats = let room : joined.room ≡ seat.room + spent.room = ap (λ s. s.room) joined_is in
-            let size : joined.held ≡ seat.held + spent.held = ap (λ s. s.held) joined_is in
+        seats = let room : joined.room ≡ seat.room + out.seat.room = ap (λ s. s.room) joined_is in
+            let size : joined.held ≡ seat.held + out.seat.held = ap (λ s. s.held) joined_is in
             omega (arith, done.seats, room, size);
-        kept_all = (refl, done.kept_all);
-        answers_are = all_is ∙ ap (λ l. l ++ more.items) done.answers_are;
+        kept_all = (subst IsSome (sym given) refl, done.kept_all);
+        answers_are = all_is ∙ ap (λ l. l ++ more.items) done.answers_are
+            ∙ ap (λ l. all_answers outs ++ l) (sym (ap kept given));
       }
 
 module _ {S T : Type 0} where
@@ -100,16 +98,15 @@ module _ {S T : Type 0} where
     pub limit_is : pass.limit ≡ limit
     pub claims_are : seat.claims ≡ claims
 
-  pub joining_one : (id : LockId) (limit : ℕ) (claims : ClaimsId) (works left : List (Out S T)) (pass : Known S)
-      (seat : Claimant) (first : Option (Vec (Answered T) Global)) (answers : Vec (Answered T) Global) →
-      Each (IsOf id limit claims) works → works ≡ left ++ out_of pass seat first ∷ [] → first ≡ Some answers →
-      AreJoining id limit claims works left pass seat answers.items
-  joining_one id limit claims works left pass seat first answers of split is =
-      let mine = each_end (IsOf id limit claims) left (out_of pass seat first) [] (subst (Each (IsOf id limit claims)) split of) in
+  pub joining_one : (id : LockId) (limit : ℕ) (claims : ClaimsId) (works left : List (Out S T)) (out : Out S T)
+      (answers : Vec (Answered T) Global) → Each (IsOf id limit claims) works → works ≡ left ++ out ∷ [] →
+      out.answers ≡ Some answers → AreJoining id limit claims works left out.pass out.seat answers.items
+  joining_one id limit claims works left out answers of split is =
+      let mine = each_end (IsOf id limit claims) left out [] (subst (Each (IsOf id limit claims)) split of) in
       record {
-        done = out_of pass seat (Some answers) ∷ [];
-        split = split ∙ ap (λ o. left ++ out_of pass seat o ∷ []) is;
-        gathered = gathered_one pass seat answers;
+        done = out ∷ [];
+        split = split;
+        gathered = gathered_one out answers is;
         site_is = mine.0;
         limit_is = mine.1;
         claims_are = mine.2;
@@ -128,20 +125,18 @@ module _ {S T : Type 0} where
       each_end (IsOf id limit claims) rest out joining.done
       (subst (Each (IsOf id limit claims)) (taken_out works left joining.done rest out joining.split last) of)
 
-  pub joining_more : (id : LockId) (limit : ℕ) (claims : ClaimsId) (works left rest : List (Out S T))
-      (pass other now : Known S) (seat spent joined : Claimant) (answers all : List (Answered T))
-      (given : Option (Vec (Answered T) Global)) (more : Vec (Answered T) Global) →
-      AreJoining id limit claims works left pass seat answers → left ≡ rest ++ out_of other spent given ∷ [] →
-      given ≡ Some more → now ≡ joined_to pass other now.front → IsLonger pass.front other.front now.front →
-      joined ≡ joining seat spent → all ≡ answers ++ more.items →
+  pub joining_more : (id : LockId) (limit : ℕ) (claims : ClaimsId) (works left rest : List (Out S T)) (out : Out S T)
+      (pass now : Known S) (seat joined : Claimant) (answers all : List (Answered T)) (more : Vec (Answered T) Global) →
+      AreJoining id limit claims works left pass seat answers → left ≡ rest ++ out ∷ [] → out.answers ≡ Some more →
+      now ≡ joined_to pass out.pass now.front → IsLonger pass.front out.pass.front now.front →
+      joined ≡ joining seat out.seat → all ≡ answers ++ more.items →
       AreJoining id limit claims works rest now joined all
-  joining_more id limit claims works left rest pass other now seat spent joined answers all given more before last is
-      now_is longer joined_is all_is = record {
-        done = out_of other spent (Some more) ∷ before.done;
-        split = taken_out works left before.done rest (out_of other spent (Some more)) before.split
-            (last ∙ ap (λ o. rest ++ out_of other spent o ∷ []) is);
-        gathered = gathered_more before.done pass other now seat spent joined answers all more before.gathered now_is
-            longer joined_is all_is;
+  joining_more id limit claims works left rest out pass now seat joined answers all more before last is now_is longer
+      joined_is all_is = record {
+        done = out ∷ before.done;
+        split = taken_out works left before.done rest out before.split last;
+        gathered = gathered_more before.done out pass now seat joined answers all more before.gathered is now_is longer
+            joined_is all_is;
         site_is = ap (λ p. p.site) now_is ∙ before.site_is;
         limit_is = ap (λ p. p.limit) now_is ∙ before.limit_is;
         claims_are = ap (λ s. s.claims) joined_is ∙ before.claims_are;

@@ -1,6 +1,8 @@
 -- A job for each share, and what came of all jobs.
 use Rattle.std.proofs.Common.{◌≡◌, ℕ, ◌+◌, List, [], ◌∷◌, ◌++◌, map, length, arith, refl, sym, ap, ◌∙◌, subst, append_assoc, append-nil}
 use Rattle.std.specs.List.{AllZip}
+use Rattle.std.specs.Prelude.{Result, Ok, Err, IfOk, Vec}
+use Rattle.std.specs.declared.alloc.Global.{Global}
 use Rattle.std.proofs.lemmas.List.{map-append}
 use Rattle.site_batch.specs.Answers.{Each}
 
@@ -45,10 +47,20 @@ module _ {W B R O : Type 0} where
   zipped share asked promise requests (w ∷ jobs) (o ∷ outs) each all =
       (subst (λ r. promise r (share w) o) each.0 all.0, zipped share asked promise requests jobs outs each.1 all.1)
 
-  pub jobs_all : (share : W → B) (asked : W → R) (promise : R → B → O → Type 0) (idle : B → Type 0) (requests : R)
+  jobs_all : (share : W → B) (asked : W → R) (promise : R → B → O → Type 0) (idle : B → Type 0) (requests : R)
       (jobs : List W) (left all : List B) (outs : List O) → left ≡ [] → AreFor share asked idle requests jobs left all →
       AllZip (λ w o. promise (asked w) (share w) o) jobs outs → AllZip (promise requests) all outs
   jobs_all share asked promise idle requests jobs left all outs none are done =
       subst (λ l. AllZip (promise requests) l outs)
       (sym (append-nil (map share jobs)) ∙ ap (λ l. map share jobs ++ l) (sym none) ∙ are.0)
       (zipped share asked promise requests jobs outs are.2 done)
+
+  -- and where the jobs came back
+  pub jobs_came : {E : Type 0} (share : W → B) (asked : W → R) (promise : R → B → O → Type 0) (idle : B → Type 0)
+      (requests : R) (jobs : List W) (left all : List B) (r : Result (Vec O Global) E) → left ≡ [] →
+      AreFor share asked idle requests jobs left all →
+      IfOk r (λ done. AllZip (λ w o. promise (asked w) (share w) o) jobs done.items) →
+      IfOk r (λ done. AllZip (promise requests) all done.items)
+  jobs_came share asked promise idle requests jobs left all (Ok done) none are came =
+      jobs_all share asked promise idle requests jobs left all done.items none are came
+  jobs_came share asked promise idle requests jobs left all (Err e) none are came = came

@@ -1,6 +1,6 @@
 -- Places that are all filled, taken as the list of what they hold.
-use Rattle.std.proofs.Common.{◌≡◌, ◌≢◌, ℕ, zero, suc, ◌+◌, ◌<◌, ◌≤◌, List, [], ◌∷◌, map, length, slice_get, Option, Some, None, refl, sym, ap, ◌∙◌, subst, arith}
-use Rattle.list_sums.specs.Counts.{total, times, below}
+use Rattle.std.proofs.Common.{◌≡◌, ℕ, zero, suc, ◌<◌, List, [], ◌∷◌, map, length, slice_get, Option, Some, None, refl, sym, ap, ◌∙◌, subst, arith}
+use Rattle.list_sums.specs.Counts.{total, times}
 use Rattle.list_sums.proofs.Marks.{below_yes}
 use Rattle.site_batch.specs.declared.answered.Answered.{Answered}
 use Rattle.site_batch.specs.Answers.{Each, indexes, AreAll, weigh, somes, AreFilled, AreOrdered}

@@ -1,6 +1,5 @@
 -- The request with a number.
 use Rattle.std.proofs.Common.{◌≡◌, ◌<◌, ℕ, zero, suc, Bool, true, false, ◌&&◌, IsTrue, List, [], ◌∷◌, length, get_or, slice_get, Some, refl, sym, ap, subst, arith}
-use Rattle.std.specs.List.{list_all}
 use Rattle.res_core.specs.Asked.{Asked}
 use Rattle.res_core.specs.RequestViews.{asked, all_asked}
 use Rattle.res_core.specs.AskedFacts.{asks_with_facts, give_facts}

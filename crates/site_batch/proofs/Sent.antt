@@ -30,16 +30,14 @@ use Rattle.export_store.specs.contracts.row.Row as row
 use Rattle.export_store.specs.contracts.version.Version as version
 use Rattle.site_core.specs.contracts.entry.Entry as entry
 use Rattle.site_core.specs.contracts.entries.Entries as entries
-use Rattle.site_core.specs.contracts.history.History as history
-use Rattle.site_core.specs.contracts.counts.Counts as counts
 use Rattle.site_core.specs.contracts.state.CoreState as state
 use Rattle.site_core.specs.declared.language.Language.{Ghosts}
 use Rattle.site_core.proofs.counts.Counts.TheSendSync as counts_are
 use Rattle.hist_lock.proofs.pass.Pass.TheSendSync as lock_pass
 use Rattle.hist_lock.proofs.lock.HistLock.TheSendSync as lock
 use Rattle.work_pool.proofs.claims.Claims.TheSendSync as claims
-use Rattle.site_batch.proofs.answered.Answered.TheSendSync as answered_are
-use Rattle.site_batch.specs.contracts.answered.Answered as answered
+use Rattle.site_batch.proofs.worked.Worked.TheSendSync as worked_are
+use Rattle.site_batch.specs.contracts.worked.Worked as worked
 use Rattle.site_core.proofs.reply.ReplyOf.TheSendSync as reply_are
 use Rattle.site_core.specs.contracts.reply.ReplyOf as reply
 use Rattle.work_pool.proofs.claims.ClaimSeat.TheSendSync as seat
@@ -117,10 +115,10 @@ pub resource_sync : IsSync (declared.row resource.the_type)
 resource_sync = search (parts, attributes_sync) depth 60
 
 pub exported_send : IsSend (declared.row exported.the_type)
-exported_send = search (parts, resource_send) depth 60
+exported_send = search parts depth 60
 
 pub exported_sync : IsSync (declared.row exported.the_type)
-exported_sync = search (parts, resource_sync) depth 60
+exported_sync = search parts depth 60
 
 pub set_send : IsSend (declared.row set.the_type)
 set_send = search (parts, exported_send) depth 60
@@ -146,16 +144,10 @@ entry_send S send sync = search (parts, set_send, set_sync) depth 60
 pub entries_send : (S : RattleType) → IsSend S → IsSync S → IsSend (entries.the_row S)
 entries_send S send sync = search (parts, entry_send) depth 60
 
-pub history_send : (S : RattleType) → IsSend S → IsSync S → IsSend (history.the_row S)
-history_send S send sync = search (parts, entries_send) depth 60
-
-pub counts_send : IsSend counts.the_row
-counts_send = search (parts, counts_are.the_send) depth 60
-
 pub state_send : (L S C F : RattleType) (g : Ghosts L.Denot S.Denot C.Denot F.Denot) → IsSend S → IsSync S →
     IsSend (state.the_row L S C F g)
 state_send L S C F g send sync =
-    search (sendable, crosses, entries_send, version_send, counts_are.the_send, counts_are.the_field_send) depth 60 fits 40000
+    search (sendable, crosses, entries_send, version_send, counts_are.the_field_send) depth 60 fits 40000
 
 pub locked_send : (L S C F : RattleType) (g : Ghosts L.Denot S.Denot C.Denot F.Denot) → IsSend S → IsSync S →
     IsSend (locked.the_row L S C F g)
@@ -175,9 +167,14 @@ requests_sync = search parts depth 60
 pub worker_send : (κ : NamedLft) (L G S C F : RattleType) (g : Ghosts L.Denot S.Denot C.Denot F.Denot) → IsSync L → IsSync G →
     IsSend S → IsSync S → IsSend (worker.the_row κ L G S C F g)
 worker_send κ L G S C F g language gate send sync =
-    search (sendable, crosses, pass_send, site_sync, requests_sync, claims.the_sync, seat.the_send, global.the_send)
+    search (sendable, crosses, pass_send, site_sync, requests_sync, claims.the_sync, seat.the_send)
     depth 60 fits 40000
 
-pub answered_send : (C F : RattleType) → IsSend C → IsSend F → IsSend (answered.the_row (reply.the_row C F))
-answered_send C F catalog fault = search (sendable, reply_are.the_send, reply_are.the_field_send, answered_are.the_send)
-    depth 20 fits 4000
+pub reply_send : (C F : RattleType) → IsSend C → IsSend F → IsSend (reply.the_row C F)
+reply_send C F catalog fault = search (sendable, reply_are.the_send) depth 20 fits 4000
+
+pub worked_send : (L S C F : RattleType) (g : Ghosts L.Denot S.Denot C.Denot F.Denot) → IsSend S → IsSync S →
+    IsSend C → IsSend F → IsSend (worked.the_row (pass.the_row L S C F g) (reply.the_row C F))
+worked_send L S C F g send sync catalog fault =
+    worked_are.the_send (pass.the_row L S C F g) (reply.the_row C F) (pass_send L S C F g send sync)
+    (reply_send C F catalog fault)

@@ -1,15 +1,15 @@
 -- One more request is answered.
-use Rattle.std.proofs.Common.{◌≡◌, ℕ, zero, suc, ◌+◌, ◌<◌, ◌≤◌, List, [], ◌∷◌, ◌++◌, map, length, slice_get, Option, Some, None, refl, sym, ap, ◌∙◌, subst, arith, append_assoc, append-nil, length-append}
+use Rattle.std.proofs.Common.{◌≡◌, ℕ, ◌+◌, ◌≤◌, List, [], ◌∷◌, ◌++◌, map, length, slice_get, Some, None, refl, sym, ap, ◌∙◌, subst, arith, append_assoc, append-nil}
 use Rattle.std.specs.List.{filter_map, cons_option}
 use Rattle.std.proofs.lemmas.List.{map-append}
 use Rattle.std.proofs.lemmas.List.Elements.{filter_map-append}
 use mathlib.Core.List.{IsPrefix}
 use Rattle.res_core.specs.Asked.{Asked}
-use Rattle.hist_lock.proofs.Fronts.{prefix_trans, prefix_length}
+use Rattle.hist_lock.proofs.Fronts.{prefix_trans}
 use Rattle.site_core.specs.Meaning.{Meaning}
 use Rattle.site_core.specs.Events.{Event}
 use Rattle.site_core.specs.Legal.{Legal}
-use Rattle.site_core.specs.Fits.{Listed, Fits, had, named}
+use Rattle.site_core.specs.Fits.{Listed, had, named}
 use Rattle.site_core.specs.Runs.{Runs, picked, had_after, all_named}
 use Rattle.site_core.specs.declared.reply.ReplyOf.{ReplyOf}
 use Rattle.site_core.specs.declared.reply.ReplyOf.TheVariants as a
@@ -20,7 +20,7 @@ use Rattle.shared_site.specs.Known.{Known, IsLater, Leaves, IsAnswered}
 use Rattle.work_pool.specs.Seats.{Claimant, Draws}
 use Rattle.site_batch.specs.declared.answered.Answered.{Answered}
 use Rattle.site_batch.specs.Answers.{indexes}
-use Rattle.site_batch.specs.Work.{replies_of, RiseWithin, IsSameSeat, HasAnswered}
+use Rattle.site_batch.specs.Work.{replies_of, RiseWithin, HasAnswered}
 
 module _ {A : Type 0} where
   picked-snoc : (all : List A) (places : List ℕ) (n : ℕ) (x : A) → slice_get all n ≡ Some x →

@@ -1,6 +1,6 @@
 -- What all workers did is the work of a batch.
-use Rattle.std.proofs.Common.{◌≡◌, ◌≢◌, ℕ, zero, suc, ◌+◌, ◌<◌, ◌≤◌, ⊎_elim, List, [], ◌∷◌, ◌++◌, map, length, slice_get, Option, Some, None, IsSome, Vec, refl, sym, ap, ◌∙◌, subst, arith, append_assoc, append-nil, length-append}
-use Rattle.std.specs.List.{AllZip, filter_map, cons_option}
+use Rattle.std.proofs.Common.{◌≡◌, ℕ, ◌+◌, ◌≤◌, List, [], ◌∷◌, ◌++◌, length, slice_get, Option, Some, None, IsSome, Vec, refl, sym, ap, ◌∙◌, subst, arith}
+use Rattle.std.specs.List.{cons_option}
 use Rattle.std.specs.declared.alloc.Global.{Global}
 use mathlib.Core.List.{IsPrefix}
 use Rattle.list_sums.specs.Counts.{total, times, same, below}
@@ -8,24 +8,24 @@ use Rattle.list_sums.proofs.Totals.{total-append}
 use Rattle.list_sums.proofs.Marks.{below_yes}
 use Rattle.hist_lock.specs.Calls.{AreAllCalls}
 use Rattle.hist_lock.specs.Held.{LockId}
-use Rattle.hist_lock.proofs.Fronts.{prefix_trans, prefix_length, at_front}
+use Rattle.hist_lock.proofs.Fronts.{prefix_trans, at_front}
 use Rattle.res_core.specs.Asked.{Asked}
 use Rattle.site_core.specs.Meaning.{Meaning}
 use Rattle.site_core.specs.Events.{Event, opens, author_of}
 use Rattle.site_core.specs.Legal.{Legal}
 use Rattle.site_core.specs.Fits.{Listed, named}
-use Rattle.site_core.specs.Runs.{Hand, is_hand_of, times_in, RiseFrom, picked, had_after, all_named, Runs, EachRuns, Whole}
+use Rattle.site_core.specs.Runs.{Hand, is_hand_of, times_in, RiseFrom, picked, all_named, Runs, EachRuns, Whole}
 use Rattle.site_core.specs.declared.reply.ReplyOf.{ReplyOf}
-use Rattle.shared_site.specs.Known.{Known, held}
+use Rattle.shared_site.specs.Known.{Known, held, opening}
 use Rattle.shared_site.proofs.Entries.{all_entries}
 use Rattle.work_pool.specs.Seats.{ClaimsId, Claimant, Draws}
 use Rattle.site_batch.specs.declared.answered.Answered.{Answered}
 use Rattle.site_batch.specs.Answers.{Each, indexes, AreAll, AreOrdered}
-use Rattle.site_batch.specs.Shares.{Share, IsNew, is_author, pass_weight, seat_weight, AreShares}
+use Rattle.site_batch.specs.Shares.{Share, IsIdle, IsNew, is_author, pass_weight, seat_weight, AreShares}
 use Rattle.site_batch.specs.Gathered.{Out, kept, shown, all_answers, IsOf, AreGathered, AreWorked}
 use Rattle.site_batch.specs.Work.{replies_of, RiseWithin, HasAnswered, HasWorked}
 use Rattle.site_core.proofs.Running.{times_named}
-use Rattle.site_batch.proofs.Gathering.{each_front, each_back}
+use Rattle.site_batch.proofs.Gathering.{each_map, each_front, each_back}
 use Rattle.site_batch.proofs.Slots.{indexes-append}
 use Rattle.site_batch.proofs.Turns.{runs_grow}
 
@@ -51,6 +51,20 @@ module _ {C F : Type 0} where
 hands_of : {S T : Type 0} → List (Out S T) → List Hand
 hands_of [] = []
 hands_of (out ∷ outs) = record { author = out.pass.author; places = out.seat.numbers } ∷ hands_of outs
+
+module _ {S : Type 0} where
+  -- the first pass of a site has seen the opening
+  pub shares_of : (id : LockId) (limit workers : ℕ) (site : S) (pass : Known S) (claims : ClaimsId)
+      (shares : List (Share S)) → pass ≡ opening id site limit → AreShares id limit pass.front claims workers shares →
+      AreShares id limit (opens site ∷ []) claims workers shares
+  shares_of id limit workers site pass claims shares is are =
+      subst (λ p. AreShares id limit p.front claims workers shares) is are
+
+  pub idle_all : (id : LockId) (limit workers : ℕ) (first : List (Event S)) (claims : ClaimsId)
+      (shares : List (Share S)) → AreShares id limit first claims workers shares → Each (IsIdle id claims) shares
+  idle_all id limit workers first claims shares are =
+      each_map (IsNew id limit first claims) (IsIdle id claims)
+      (λ share new. (new.site_is, new.claims_are, new.idle)) shares are.new
 
 module _ {S C F : Type 0} (meaning : Meaning S C F) (listed : Listed S) (requests : List Asked) where
   -- whoever kept its answers did this

@@ -23,28 +23,24 @@ pub fn gather<L: Language + Drop>(
     ensures gathered { IfOk result (λ r. AreGathered works.items r.0 r.1 r.2.items) }
     ensures of { IfOk result (λ r. (r.0.site ≡ site.now) × (r.0.limit ≡ limit) × (r.1.claims ≡ claims.now)) }
 {
-    let Some(
-        Worked {
-            mut pass,
-            mut seat,
-            answers: first,
-        },
-    ) = works.pop()
-    else {
+    let Some(first) = works.pop() else {
         return Err(Memory);
     };
-    let Some(mut answers) = first else {
+    let Worked {
+        mut pass,
+        mut seat,
+        answers: kept,
+    } = first;
+    let Some(mut answers) = kept else {
         return Err(Memory);
     };
-    while let Some(
-        Worked {
+    while let Some(next) = works.pop() {
+        let Worked {
             pass: other,
             seat: spent,
-            answers: more,
-        },
-    ) = works.pop()
-    {
-        let Some(mut more) = more else {
+            answers: given,
+        } = next;
+        let Some(mut more) = given else {
             return Err(Memory);
         };
         site.join(&mut pass, other);

@@ -1,7 +1,7 @@
 -- Requests that are answered in turn are the whole work of one author.
 use Rattle.std.proofs.Common.{◌≡◌, ℕ, zero, suc, ◌+◌, ◌<◌, ◌≤◌, inl, inr, Bool, true, false, List, [], ◌∷◌, ◌++◌, length, slice_get, Option, None, Some, Result, Ok, Err, refl, sym, ap, ◌∙◌, subst, arith, append-nil, append_assoc, length-append}
 use Rattle.std.specs.Prelude.{nat_lt, if◌then◌else◌, option_map}
-use Rattle.std.specs.List.{filter_map, cons_option}
+use Rattle.std.specs.List.{cons_option}
 use Rattle.std.proofs.lemmas.Bool.{ltb-true, ltb-false}
 use Rattle.list_sums.specs.Counts.{total, same, times, below}
 use Rattle.list_sums.proofs.Totals.{total-append}
@@ -13,10 +13,10 @@ use Rattle.site_core.specs.Meaning.{Meaning}
 use Rattle.site_core.specs.Events.{Event, opens, publication, deactivation}
 use Rattle.site_core.specs.Sets.{sets_at, site_at}
 use Rattle.site_core.specs.Fits.{Listed, facts_for, IsFresh, Means, Fits, had, named}
-use Rattle.site_core.specs.Runs.{picked, RiseFrom, Runs, all_named, Whole}
+use Rattle.site_core.specs.Runs.{picked, RiseFrom, Runs, all_named}
 use Rattle.site_core.specs.declared.reply.ReplyOf.{ReplyOf}
 use Rattle.site_core.specs.declared.reply.ReplyOf.TheVariants as a
-use Rattle.site_core.proofs.Fitting.{get_grows, means_grows, fits_grows}
+use Rattle.site_core.proofs.Fitting.{means_grows, fits_grows}
 use Rattle.site_sequence.specs.Sequence.{Turn, turn, turn_meant, turn_removed, turn_known, turn_for, Takes, AnsweredInTurn}
 use Rattle.site_sequence.specs.SequenceLaws.{TurnsAreWhole}
 use Rattle.site_sequence.specs.declared.sequence.TheConstants.{AUTHOR}
@@ -33,7 +33,8 @@ rises low (suc n) = (omega arith, rises (low + 1) n)
 
 counted : (k low n : ℕ) → times k (count_from low n) + below low k ≡ below (low + n) k
 unfolding count_from
-counted k low zero = ap (λ m. below m k) (omega arith)
+counted k low zero =
+    let still : low ≡ low + 0 = omega arith in let end = ap (λ m. below m k) still in omega (arith, end)
 counted k low (suc n) =
     let rest = counted k (low + 1) n in let next = below_next low k in
     let end : below (low + 1 + n) k ≡ below (low + suc n) k = ap (λ m. below m k) (omega arith) in
@@ -58,8 +59,8 @@ module _ {A : Type 0} where
 module _ {S C F : Type 0} where
   if_so : (P : Turn S C F → Type 0) (b : Bool) (t u : Turn S C F) → (b ≡ true → P t) → (b ≡ false → P u) →
       P (if b then t else u)
-  if_so P true t u yes otherwise = yes refl
-  if_so P false t u yes otherwise = otherwise refl
+  if_so P true t u first second = first refl
+  if_so P false t u first second = second refl
 
 module _ {S C F : Type 0} (meaning : Meaning S C F) (listed : Listed S) (limit : ℕ) where
   -- what a turn behind the entries h is, for an author who had seen s of them
@@ -269,7 +270,9 @@ module _ {S C F : Type 0} (meaning : Meaning S C F) (listed : Listed S) (limit :
         authors = λ author. let next = below_next 0 author in let none = below_no 0 author (omega arith) in
             omega (arith, next, none);
         shares = λ place. let all = counted place 0 (length requests) in
-            let none = below_no 0 place (omega arith) in omega (arith, all, none);
+            let none = below_no 0 place (omega arith) in
+            let count : 0 + length requests ≡ length requests = omega arith in
+            let end = ap (λ n. below n place) count in omega (arith, all, none, end);
         run = (
           rises 0 (length requests),
           subst (λ l. Runs meaning listed after limit AUTHOR 1 l (picked replies places))

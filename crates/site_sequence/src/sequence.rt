@@ -8,6 +8,7 @@ ghost use Rattle.pp_values.specs.Facts.{are_facts};
 ghost use Rattle.site_core.specs.Meaning.{HasExports};
 ghost use Rattle.site_core.specs.Events.{opens};
 ghost use Rattle.site_core.specs.Legal.{Legal};
+ghost use Rattle.site_core.specs.Runs.{Whole};
 ghost use Rattle.site_core.specs.Snapshots.{Of};
 ghost use Rattle.res_core.specs.AskedFacts.{has_facts, asks_with_facts, give_facts};
 ghost use Rattle.site_core.specs.Fits.{facts_for};
@@ -41,7 +42,7 @@ pub struct SequenceResult<L: Language> {
     pub replies: Replies<L>,
 }
 
-/// Opens the site and answers the requests one after another, as author 0.
+/// Opens the site and answers the requests one after another, as author 0, whose work all of it is.
 ///
 /// A request that meets want of memory is answered so, and the next one goes on.
 pub fn run_sequence<L: Language>(
@@ -54,6 +55,8 @@ pub fn run_sequence<L: Language>(
     ensures in_turn { IfOk result (λ r.
         AnsweredInTurn L.meaning L.listed MOST_ENTRIES (opens site ∷ []) requests.now r.replies r.history.entries) }
     ensures legal { IfOk result (λ r. Legal L.meaning r.history.entries) }
+    ensures whole { IfOk result (λ r.
+        Whole L.meaning L.listed MOST_ENTRIES 1 site requests.now r.replies r.history.entries) }
 {
     let mut core = CoreState::open(alloc, site, MOST_ENTRIES)?;
     let mut replies = Replies::new(alloc);

@@ -1,6 +1,6 @@
 use Rattle.std.proofs.Common.{arith}
 use Rattle.site_core.specs.declared.history.TheConstants.{MOST_ENTRIES}
-use Rattle.site_batch.proofs.Splitting.{split_more, split_all, split_end}
+use Rattle.site_batch.proofs.Splitting.{split_more, split_end}
 use Rattle.site_batch.proofs.batch.shares.Goals as goal
 
 pub loop-worker-preserved : goal.loop-worker-preserved

@@ -1,5 +1,4 @@
 -- What was split off so far, and what the first pass and seat keep.
-use Rattle.std.proofs.Common.{◌≤◌}
 use Rattle.site_core.specs.declared.history.TheConstants.{MOST_ENTRIES}
 use Rattle.site_batch.proofs.Splitting.{AreSplit}
 use Rattle.site_batch.proofs.batch.shares.Given as goal

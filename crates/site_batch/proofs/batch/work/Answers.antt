@@ -1,14 +1,8 @@
-use denote.Param.Send.{sendable}
-use Rattle.std.proofs.Crossing.{crosses}
-use Rattle.std.proofs.option.Option.TheSendSync as option
-use Rattle.std.proofs.vec.Vec.TheSendSync as vec
-use Rattle.work_pool.proofs.claims.ClaimSeat.TheSendSync as seat
-use Rattle.site_batch.proofs.Sent.{pass_send, worker_send, answered_send}
 use Rattle.std.proofs.Common.{refl}
 use Rattle.site_batch.specs.Work.{HasWorked}
 use Rattle.site_batch.specs.Gathered.{shown}
 use Rattle.site_batch.specs.Shares.{IsIdle}
-use Rattle.site_batch.proofs.Jobs.{jobs_more, jobs_all, one_less, no_items}
+use Rattle.site_batch.proofs.Jobs.{jobs_more, jobs_came, one_less, no_items}
 use Rattle.site_batch.proofs.batch.work.Goals as goal
 
 pub loop-pass-preserved : goal.loop-pass-preserved
@@ -21,7 +15,8 @@ loop-pass-preserved g c =
 pub returns : goal.returns
 returns g c =
     let before = c.loop-pass.invariant in
-    jobs_all (λ w. (w.pass, w.seat)) (λ w. w.requests.now)
+    jobs_came (λ w. (w.pass, w.seat)) (λ w. w.requests.now)
     (λ requests share out. HasWorked g.L.Language.meaning g.L.Language.listed requests share.0 share.1 out.pass out.seat
-    (shown out.answers)) (IsIdle c.args.site.now c.args.claims.now) _ _ _ _ _ (no_items _ _ before.3 c.in-None.ensures.steps.0) (before.0, before.1, before.2)
-    c.run_jobs.ensures
+    (shown out.answers)) (IsIdle c.args.site.now c.args.claims.now) c.args.requests.now c.loop-pass.jobs.items _
+    c.args.shares.items c.run_jobs.result (no_items _ _ before.3 c.in-None.ensures.steps.0)
+    (before.0, before.1, before.2) c.run_jobs.ensures

@@ -3,9 +3,9 @@ use Rattle.std.proofs.Common.{length}
 use Rattle.site_batch.proofs.Gathering.{AreJoining}
 use Rattle.site_batch.proofs.gather.gather.Given as goal
 
-abbrev pub invariant-loop-other : goal.invariant-loop-other
-invariant-loop-other g l =
+abbrev pub invariant-loop-next : goal.invariant-loop-next
+invariant-loop-next g l =
     AreJoining l.site l.limit l.claims l.fn.works.items l.works.items l.pass l.seat l.answers.items
 
-abbrev pub decreases-loop-other : goal.decreases-loop-other
-decreases-loop-other g l = length l.works.items
+abbrev pub decreases-loop-next : goal.decreases-loop-next
+decreases-loop-next g l = length l.works.items

@@ -1,5 +1,5 @@
 -- The status of each ending, as far as the input decides it.
-use Rattle.std.proofs.Common.{◌≡◌, ◌⊎◌, ℕ, ◌<◌, ◌≤◌, true, false, List, [], ◌∷◌, length, sym, ap, ◌∙◌, subst, refl, inl, inr, arith}
+use Rattle.std.proofs.Common.{◌≡◌, ◌⊎◌, ℕ, ◌<◌, ◌≤◌, Bool, true, false, List, [], ◌∷◌, length, sym, ap, ◌∙◌, subst, refl, inl, inr, arith}
 use Rattle.std.proofs.lemmas.Bool.{le-leb}
 use Rattle.std.specs.Prelude.{Result, Ok, Err, Some, if◌then◌else◌, codes}
 use Rattle.std.specs.List.{list_any}
@@ -15,37 +15,42 @@ use Rattle.site_commands.specs.declared.output.Output.{Output}
 use Rattle.site_commands.specs.declared.output.Output.TheVariants as a
 use Rattle.site_commands.specs.declared.ending.Ending.{Ending}
 use Rattle.site_commands.specs.declared.ending.Ending.TheVariants as e
-use Rattle.site_commands.specs.Outputs.{IsOutput, IsBundleOutput, HasRun, manifest_output, is_refusal, sequence_text}
-use Rattle.site_commands.specs.Endings.{Ends, IsComplaint, IsCommand, IsSettled, status_for, output_status, outcome_status, bundle_status}
+use Rattle.site_commands.specs.Outputs.{IsOutput, TellsOf, HasRun, HasShared, manifest_output, is_refusal, run_text}
+use Rattle.site_commands.specs.Endings.{Ends, IsComplaint, IsCommand, IsSettled, IsStatusFor, IsBatchStatus, output_status, outcome_status, bundle_status}
 use Rattle.site_commands.specs.Limits.{limit_of}
 use Rattle.compile_core.specs.Puppet.{puppet, listed}
 use Rattle.site_sequence.specs.SequenceLaws.{is_memory}
 use Rattle.site_commands.specs.Status.{status_of}
-use Rattle.site_commands.specs.Words.{CommandLine, manifest, sequence, usage, bad_word, asked_of}
+use Rattle.site_commands.specs.Words.{CommandLine, manifest, sequence, batch, usage, bad_word, asked_of}
 use Rattle.site_commands.specs.Work.{WritesOr, WritesShort, Delivers, Serves}
 use Rattle.site_commands.specs.World.{World}
 use Rattle.site_commands.proofs.Told.{read_is_left, left_is_longer, leb-false}
 use Rattle.site_sequence.proofs.Turns.{meant}
 
 -- where the words are faulty the status is 10
-status_for-complaint : (asked : CommandLine) (input : List ℕ) → IsComplaint asked → status_for asked input ≡ 10
-status_for-complaint (manifest node) input h = absurd h
-status_for-complaint sequence input h = absurd h
-status_for-complaint usage input h = refl
-status_for-complaint (bad_word word) input h = refl
+status-complaint : (asked : CommandLine) (input : List ℕ) → IsComplaint asked → IsStatusFor 10 asked input
+status-complaint (manifest node) input h = absurd h
+status-complaint sequence input h = absurd h
+status-complaint (batch workers) input h = absurd h
+status-complaint usage input h = refl
+status-complaint (bad_word word) input h = refl
+
+bundle_of-long : (input : List ℕ) → MOST_BUNDLE_BYTES < length input → bundle_of input ≡ Err (too_large (codes "bundle"))
+unfolding bundle_of
+bundle_of-long input long =
+    ap (λ b. result_and_then bundle_in (if b then json_of input else Err (too_large (codes "bundle"))))
+    (leb-false (length input) MOST_BUNDLE_BYTES long)
 
 -- where the input is too long it is 11
-status_for-long : (asked : CommandLine) (input : List ℕ) → IsCommand asked → limit_of asked < length input →
-    status_for asked input ≡ 11
-unfolding bundle_of
-status_for-long (manifest node) input asked long =
-    ap (λ b. if b then output_status (manifest_output node input) else 11)
-    (leb-false (length input) MOST_FILE_BYTES long)
-status_for-long sequence input asked long =
-    ap (λ b. bundle_status (result_and_then bundle_in (if b then json_of input else Err (too_large (codes "bundle")))))
-    (leb-false (length input) MOST_BUNDLE_BYTES long)
-status_for-long usage input asked long = absurd asked
-status_for-long (bad_word word) input asked long = absurd asked
+status-long : (asked : CommandLine) (input : List ℕ) → IsCommand asked → limit_of asked < length input →
+    IsStatusFor 11 asked input
+status-long (manifest node) input asked long =
+    sym (ap (λ b. if b then output_status (manifest_output node input) else 11)
+    (leb-false (length input) MOST_FILE_BYTES long))
+status-long sequence input asked long = sym (ap bundle_status (bundle_of-long input long))
+status-long (batch workers) input asked long = subst (IsBatchStatus 11) (sym (bundle_of-long input long)) refl
+status-long usage input asked long = absurd asked
+status-long (bad_word word) input asked long = absurd asked
 
 -- what came of a bundle has the status that it means, unless memory was wanting in a reply
 status_of-run : (output : Output) (bundle : Bundle) → HasRun output bundle →
@@ -54,27 +59,52 @@ status_of-run output bundle run =
     elim (list_any is_memory run.replies) as (λ b. list_any is_memory run.replies ≡ b →
     (output_status output ≡ bundle_status (Ok bundle)) ⊎ (output_status output ≡ 16)) [
       | true ↦ λ is. inr (ap output_status run.is
-          ∙ ap (λ b. output_status (if b then a.Short (sequence_text bundle.requests run.replies run.history) else
-          if list_any is_refusal run.replies then a.Refused (sequence_text bundle.requests run.replies run.history)
-          else a.Done (sequence_text bundle.requests run.replies run.history))) is)
+          ∙ ap (λ b. output_status (if b then a.Short (run_text bundle.requests run.replies run.history) else
+          if list_any is_refusal run.replies then a.Refused (run_text bundle.requests run.replies run.history)
+          else a.Done (run_text bundle.requests run.replies run.history))) is)
       | false ↦ λ is. inl (ap output_status run.is
           ∙ sym (ap (outcome_status bundle.requests) (meant puppet listed MOST_ENTRIES (opens bundle.site ∷ [])
           run.history bundle.requests run.replies run.in_turn is)))
     ] refl
 
-status_of-bundle : (output : Output) (read : Result Bundle Refusal) → IsBundleOutput output read →
+status_of-bundle : (output : Output) (read : Result Bundle Refusal) → TellsOf HasRun output read →
     (output_status output ≡ bundle_status read) ⊎ (output_status output ≡ 16)
 status_of-bundle output (Ok bundle) run = status_of-run output bundle run
 status_of-bundle output (Err refusal) is = inl (ap output_status is)
 
+IsToldStatus : Output → Type 0
+IsToldStatus output =
+    ((output_status output ≡ 0) ⊎ (output_status output ≡ 1)) ⊎ (output_status output ≡ 16)
+
+-- by whether a reply is want of memory, and whether one is a refusal
+by_flags : (short refused : Bool) (text : List ℕ) →
+    IsToldStatus (if short then a.Short text else if refused then a.Refused text else a.Done text)
+unfolding IsToldStatus
+by_flags true refused text = inr refl
+by_flags false true text = inl (inr refl)
+by_flags false false text = inl (inl refl)
+
+status_of-shared : (workers : ℕ) (output : Output) (bundle : Bundle) → HasShared workers output bundle →
+    IsToldStatus output
+status_of-shared workers output bundle run =
+    subst IsToldStatus (sym run.is) (by_flags (list_any is_memory run.replies) (list_any is_refusal run.replies)
+    (run_text bundle.requests run.replies run.history))
+
+status_of-batch : (workers : ℕ) (output : Output) (read : Result Bundle Refusal) → TellsOf (HasShared workers) output read →
+    IsBatchStatus (output_status output) read ⊎ (output_status output ≡ 16)
+unfolding IsToldStatus
+status_of-batch workers output (Ok bundle) run = status_of-shared workers output bundle run
+status_of-batch workers output (Err refusal) is = inl (ap output_status is)
+
 status_of-output : (asked : CommandLine) (output : Output) (input : List ℕ) → IsOutput asked output input →
     length input ≤ limit_of asked →
-    (output_status output ≡ status_for asked input) ⊎ (output_status output ≡ 16)
+    IsStatusFor (output_status output) asked input ⊎ (output_status output ≡ 16)
 status_of-output (manifest node) output input is fits =
     inl (ap output_status is
     ∙ sym (ap (λ b. if b then output_status (manifest_output node input) else 11)
     (le-leb (length input) MOST_FILE_BYTES fits)))
 status_of-output sequence output input is fits = status_of-bundle output (bundle_of input) is
+status_of-output (batch workers) output input is fits = status_of-batch workers output (bundle_of input) is
 status_of-output usage output input is fits = absurd is
 status_of-output (bad_word word) output input is fits = absurd is
 
@@ -111,8 +141,9 @@ status_of-delivered ending (a.BadInput text) out out' err err' did = inl (ap sta
 
 settled_by : (status : ℕ) (output : Output) (asked : CommandLine) (input : List ℕ) → (status ≡ output_status output)
     ⊎ (status ≡ 13) →
-    (output_status output ≡ status_for asked input) ⊎ (output_status output ≡ 16) → IsSettled status asked input
-settled_by status output asked input (inl is) (inl means) = inl (is ∙ means)
+    IsStatusFor (output_status output) asked input ⊎ (output_status output ≡ 16) → IsSettled status asked input
+settled_by status output asked input (inl is) (inl means) =
+    inl (subst (λ n. IsStatusFor n asked input) (sym is) means)
 settled_by status output asked input (inl is) (inr short) = inr (inr (inr (is ∙ short)))
 settled_by status output asked input (inr fault) means = inr (inr (inl fault))
 
@@ -137,7 +168,7 @@ ends_settled e.Refused words before after input run told =
     run.source.fits
     (read_is_left _ _ input run.input told run.source.ended run.source.read.left)
 ends_settled e.BadWords words before after input run told =
-    inl (sym (status_for-complaint (asked_of words) input run.unasked))
+    inl (status-complaint (asked_of words) input run.unasked)
 ends_settled e.BadInput words before after input (inl run) told =
     settled_serves e.BadInput (asked_of words) input run.input before.out after.out before.err after.err run.work
     run.source.fits
@@ -146,7 +177,7 @@ ends_settled e.BadInput words before after input (inr run) told =
     let longer : length run.source.bytes ≤ length input =
     left_is_longer _ _ input run.source.bytes told run.source.read.left in
     let long : limit_of (asked_of words) < length input = omega (arith, longer, run.source.long) in
-    inl (sym (status_for-long (asked_of words) input run.asked long))
+    inl (status-long (asked_of words) input run.asked long)
 ends_settled e.ReadFault words before after input run told = inr (inl refl)
 ends_settled e.WriteFault words before after input run told = inr (inr (inl refl))
 ends_settled e.Memory words before after input run told = inr (inr (inr refl))

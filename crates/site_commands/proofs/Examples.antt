@@ -4,8 +4,8 @@ use Rattle.std.specs.Prelude.{codes}
 use Rattle.site_core.specs.declared.reply.ReplyOf.TheVariants as r
 use Rattle.site_commands.specs.Outputs.{output_of}
 use Rattle.site_commands.specs.declared.output.Output.TheVariants as a
-use Rattle.site_commands.specs.Words.{manifest, sequence, usage, bad_word, asked_of}
-use Rattle.site_commands.specs.Endings.{complaint, status_for}
+use Rattle.site_commands.specs.Words.{manifest, sequence, batch, usage, bad_word, asked_of}
+use Rattle.site_commands.specs.Endings.{complaint, IsStatusFor}
 
 abbrev manifest_of : List ℕ → List (List ℕ)
 manifest_of node = codes "manifest" ∷ node ∷ []
@@ -25,11 +25,31 @@ asked : (asked_of (manifest_of (codes "web-1.example_0")) ≡ manifest (codes "w
     × (asked_of (manifest_of (replicate 256 110)) ≡ bad_word (replicate 256 110))
 asked = (refl, refl, refl, refl, refl, refl, refl, refl, refl, refl, refl, refl, refl)
 
+-- `batch`, alone or with a count of workers
+abbrev batch_with : List ℕ → List (List ℕ)
+batch_with count = codes "batch" ∷ codes "--workers" ∷ count ∷ []
+
+batches : (asked_of (codes "batch" ∷ []) ≡ batch 1)
+    × (asked_of (batch_with (codes "1")) ≡ batch 1)
+    × (asked_of (batch_with (codes "64")) ≡ batch 64)
+    × (asked_of (batch_with (codes "0")) ≡ bad_word (codes "0"))
+    × (asked_of (batch_with (codes "65")) ≡ bad_word (codes "65"))
+    × (asked_of (batch_with (codes "04")) ≡ bad_word (codes "04"))
+    × (asked_of (batch_with (codes "+4")) ≡ bad_word (codes "+4"))
+    × (asked_of (batch_with (codes "4 ")) ≡ bad_word (codes "4 "))
+    × (asked_of (batch_with (codes "640")) ≡ bad_word (codes "640"))
+    × (asked_of (batch_with []) ≡ bad_word [])
+    × (asked_of (codes "batch" ∷ codes "4" ∷ []) ≡ usage)
+    × (asked_of (codes "batch" ∷ codes "--workers" ∷ []) ≡ usage)
+    × (asked_of (codes "batch" ∷ codes "-w" ∷ codes "4" ∷ []) ≡ usage)
+    × (asked_of (codes "Batch" ∷ []) ≡ usage)
+batches = (refl, refl, refl, refl, refl, refl, refl, refl, refl, refl, refl, refl, refl, refl)
+
 complaints : (complaint (bad_word (codes "Web")) ≡ codes "bad word Web" ++ 10 ∷ [])
     × (complaint usage ≡ codes "usage: manifest NODE" ++ 10 ∷ [])
 complaints = (refl, refl)
 
-no_status : (status_for usage [] ≡ 10) × (status_for (bad_word []) (codes "notify") ≡ 10)
+no_status : IsStatusFor 10 usage [] × IsStatusFor 10 (bad_word []) (codes "notify")
 no_status = (refl, refl)
 
 -- what a reply tells of counts for the whole output: want of memory before a refusal

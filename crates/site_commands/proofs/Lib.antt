@@ -3,5 +3,6 @@ mod Exact
 mod Examples
 mod Readable
 mod Saying
+mod Sent
 mod Told
 mod Worked

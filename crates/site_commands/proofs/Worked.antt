@@ -47,6 +47,7 @@ worked e.ReadFault output asked input out out' err err' is did = unread output o
 pub is_command : (command : Command) → IsCommand (asked_by command)
 is_command (c.Manifest node) = tt
 is_command c.Sequence = tt
+is_command (c.Batch workers) = tt
 
 ends_read : (ending : Ending) (words : List (List ℕ)) (input : List ℕ) (s s' out out' err err' : Stream)
     → IsCommand (asked_of words) → HasReadAll input (limit_of (asked_of words)) s s' →

@@ -14,13 +14,13 @@ use Rattle.site_io.specs.Stream.{Stream, Rose}
 use Rattle.site_io.specs.Transfer.{HasReadAll, HasReadPast, HasReadSome, HasReadWithin}
 use Rattle.site_commands.specs.declared.ending.Ending.{Ending}
 use Rattle.site_commands.specs.declared.ending.Ending.TheVariants as e
-use Rattle.site_commands.specs.Outputs.{output_of, manifest_output, sequence_text}
+use Rattle.site_commands.specs.Outputs.{output_of, manifest_output, run_text}
 use Rattle.site_commands.specs.declared.output.Output.{Output}
 use Rattle.site_commands.specs.declared.output.Output.TheVariants as a
 use Rattle.site_commands.specs.Limits.{limit_of}
 use Rattle.compile_core.specs.Puppet.{puppet, listed}
 use Rattle.site_sequence.specs.Sequence.{Outcome, outcome_of}
-use Rattle.site_commands.specs.Words.{CommandLine, manifest, sequence, usage, bad_word, asked_of}
+use Rattle.site_commands.specs.Words.{CommandLine, manifest, sequence, batch, usage, bad_word, asked_of}
 use Rattle.site_commands.specs.Work.{Works, SaysOnly, too_long}
 use Rattle.site_commands.specs.World.{World, line}
 
@@ -28,18 +28,21 @@ use Rattle.site_commands.specs.World.{World, line}
 abbrev pub complaint : CommandLine → List ℕ
 complaint (manifest node) = []
 complaint sequence = []
+complaint (batch workers) = []
 complaint usage = line (codes "usage: manifest NODE")
 complaint (bad_word word) = codes "bad word " ++ line word
 
 abbrev pub IsComplaint : CommandLine → Type 0
 IsComplaint (manifest node) = ⊥
 IsComplaint sequence = ⊥
+IsComplaint (batch workers) = ⊥
 IsComplaint usage = Unit {0}
 IsComplaint (bad_word word) = Unit {0}
 
 abbrev pub IsCommand : CommandLine → Type 0
 IsCommand (manifest node) = Unit {0}
 IsCommand sequence = Unit {0}
+IsCommand (batch workers) = Unit {0}
 IsCommand usage = ⊥
 IsCommand (bad_word word) = ⊥
 
@@ -90,7 +93,7 @@ output_status (a.BadInput text) = 11
 
 -- there is an outcome, since a history has a site
 abbrev pub outcome_status : List requests.Asked → Option (Outcome SiteView Catalog Fault) → ℕ
-outcome_status asked (Some o) = output_status (output_of o.replies (sequence_text asked o.replies o.history))
+outcome_status asked (Some o) = output_status (output_of o.replies (run_text asked o.replies o.history))
 outcome_status asked None = 16
 
 abbrev pub bundle_status : Result Bundle Refusal → ℕ
@@ -98,18 +101,23 @@ bundle_status (Ok bundle) = outcome_status bundle.requests
     (outcome_of puppet listed MOST_ENTRIES (opens bundle.site ∷ []) bundle.requests)
 bundle_status (Err refusal) = 11
 
--- The status of a command on this input, where nothing fails and memory is had. For `manifest`: 0 where its meaning is
--- a
--- catalog, 1 where it is a fault, 11 where the input is too long or no text. For `sequence`: 0 where no request is
--- refused,
--- 1 where one is, 11 where the input is no bundle. 10 where the words are faulty.
-abbrev pub status_for : CommandLine → List ℕ → ℕ
-status_for (manifest node) input = if nat_le (length input) MOST_FILE_BYTES then output_status
-    (manifest_output node input) else 11
-status_for sequence input = bundle_status (bundle_of input)
-status_for usage input = 10
-status_for (bad_word word) input = 10
+-- replies of a batch may tell of a refusal or not, by how the workers' turns fall
+abbrev pub IsBatchStatus : ℕ → Result Bundle Refusal → Type 0
+IsBatchStatus status (Ok bundle) = (status ≡ 0) ⊎ (status ≡ 1)
+IsBatchStatus status (Err refusal) = status ≡ 11
 
--- the input decides the status, unless reading failed, writing failed, or memory was wanting
+-- The status of a command on this input, where nothing fails and memory is had. For `manifest`: 0 where its meaning is a
+-- catalog, 1 where it is a fault, 11 where the input is too long or no text. For `sequence`: 0 where no request is
+-- refused, 1 where one is, 11 where the input is no bundle. For `batch`: 0 or 1 where the input is a bundle, 11 where it
+-- is none. 10 where the words are faulty.
+abbrev pub IsStatusFor : ℕ → CommandLine → List ℕ → Type 0
+IsStatusFor status (manifest node) input =
+    status ≡ (if nat_le (length input) MOST_FILE_BYTES then output_status (manifest_output node input) else 11)
+IsStatusFor status sequence input = status ≡ bundle_status (bundle_of input)
+IsStatusFor status (batch workers) input = IsBatchStatus status (bundle_of input)
+IsStatusFor status usage input = status ≡ 10
+IsStatusFor status (bad_word word) input = status ≡ 10
+
+-- the input decides the status so, unless reading failed, writing failed, or memory was wanting
 abbrev pub IsSettled : ℕ → CommandLine → List ℕ → Type 0
-IsSettled status asked input = (status ≡ status_for asked input) ⊎ ((status ≡ 12) ⊎ ((status ≡ 13) ⊎ (status ≡ 16)))
+IsSettled status asked input = IsStatusFor status asked input ⊎ ((status ≡ 12) ⊎ ((status ≡ 13) ⊎ (status ≡ 16)))

@@ -2,6 +2,7 @@ pub mod Outputs
 pub mod Program
 pub mod Endings
 pub mod Limits
+pub mod Numbers
 pub mod Status
 pub mod Stops
 pub mod Words

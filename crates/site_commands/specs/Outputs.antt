@@ -9,7 +9,7 @@ use Rattle.res_core.specs.declared.catalog.Catalog.{Catalog}
 use Rattle.res_core.specs.declared.export_set.ExportSet.{ExportSet}
 use Rattle.site_core.specs.declared.history.TheConstants.{MOST_ENTRIES}
 use Rattle.site_core.specs.Events.{Event, opens}
-use Rattle.site_core.specs.Legal.{Legal}
+use Rattle.site_core.specs.Runs.{Whole}
 use Rattle.site_core.specs.declared.reply.ReplyOf.{ReplyOf}
 use Rattle.site_core.specs.declared.reply.ReplyOf.TheVariants as r
 use Rattle.site_bundle.specs.SiteView.{SiteView}
@@ -25,7 +25,7 @@ use Rattle.site_commands.specs.declared.output.Output.TheVariants as a
 use Rattle.compile_core.specs.Puppet.{puppet, listed, manifest_meaning}
 use Rattle.site_sequence.specs.Sequence.{AnsweredInTurn}
 use Rattle.site_sequence.specs.SequenceLaws.{is_memory}
-use Rattle.site_commands.specs.Words.{CommandLine, manifest, sequence, usage, bad_word}
+use Rattle.site_commands.specs.Words.{CommandLine, manifest, sequence, batch, usage, bad_word}
 use Rattle.site_commands.specs.World.{line}
 
 -- the line that tells why an input is not what a command reads
@@ -67,26 +67,35 @@ reply_lines n (asked ∷ more) (reply ∷ replies) = reply_line catalog_text fau
     reply_lines (n + 1) more replies
 
 -- journal, and then the lines of the replies
-abbrev pub sequence_text : List requests.Asked → List (ReplyOf Catalog Fault) → List (Event SiteView) → List ℕ
-sequence_text asked replies history = journal_text history ++ reply_lines 0 asked replies
+abbrev pub run_text : List requests.Asked → List (ReplyOf Catalog Fault) → List (Event SiteView) → List ℕ
+run_text asked replies history = journal_text history ++ reply_lines 0 asked replies
 
--- The requests of a bundle were answered so, one after another, over a history that begins with its site. The output is
--- the text of
--- this history and of these replies.
+-- The requests of a bundle were answered so, one after another, over a history that begins with its site: they are the
+-- whole work of one author. The output is the text of this history and of these replies.
 pub record HasRun (output : Output) (bundle : Bundle) : Type 0 where
   pub replies : List (ReplyOf Catalog Fault)
   pub history : List (Event SiteView)
   pub in_turn : AnsweredInTurn puppet listed MOST_ENTRIES (opens bundle.site ∷ []) bundle.requests replies history
-  pub legal : Legal puppet history
-  pub is : output ≡ output_of replies (sequence_text bundle.requests replies history)
+  pub whole : Whole puppet listed MOST_ENTRIES 1 bundle.site bundle.requests replies history
+  pub is : output ≡ output_of replies (run_text bundle.requests replies history)
 
-abbrev pub IsBundleOutput : Output → Result Bundle Refusal → Type 0
-IsBundleOutput output (Ok bundle) = HasRun output bundle
-IsBundleOutput output (Err refusal) = output ≡ a.BadInput (refusal_line refusal)
+-- Workers shared out the requests of a bundle, and answered them so over one history that begins with its site. The output
+-- is the text of this history and of these replies.
+pub record HasShared (workers : ℕ) (output : Output) (bundle : Bundle) : Type 0 where
+  pub replies : List (ReplyOf Catalog Fault)
+  pub history : List (Event SiteView)
+  pub whole : Whole puppet listed MOST_ENTRIES workers bundle.site bundle.requests replies history
+  pub is : output ≡ output_of replies (run_text bundle.requests replies history)
+
+-- the output to an input: it is a bundle, of which this came; or it is none, and the output tells why
+abbrev pub TellsOf : (Output → Bundle → Type 0) → Output → Result Bundle Refusal → Type 0
+TellsOf Came output (Ok bundle) = Came output bundle
+TellsOf Came output (Err refusal) = output ≡ a.BadInput (refusal_line refusal)
 
 -- the output to what is asked, by this input
 abbrev pub IsOutput : CommandLine → Output → List ℕ → Type 0
 IsOutput (manifest node) output input = output ≡ manifest_output node input
-IsOutput sequence output input = IsBundleOutput output (bundle_of input)
+IsOutput sequence output input = TellsOf HasRun output (bundle_of input)
+IsOutput (batch workers) output input = TellsOf (HasShared workers) output (bundle_of input)
 IsOutput usage output input = ⊥
 IsOutput (bad_word word) output input = ⊥

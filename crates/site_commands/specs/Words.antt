@@ -1,10 +1,12 @@
 -- What the words of a command line ask for.
-use Rattle.std.specs.Prelude.{ℕ, if◌then◌else◌, nat_eq, codes, List, [], ◌∷◌, map, string_bytes, Ok, Err}
+use Rattle.std.specs.Prelude.{ℕ, ◌≤◌, Bool, ◌&&◌, if◌then◌else◌, nat_eq, codes, List, [], ◌∷◌, map, string_bytes, Ok, Err, Option, Some, None}
 use Rattle.std.specs.Cmp.Lexicographic.{pointwise}
 use Rattle.std.specs.declared.string.String.{String}
 use Rattle.std.specs.declared.alloc.Global.{Global}
 use Rattle.std.specs.declared.result.Result.{Result}
+use Rattle.site_batch.specs.declared.batch.TheConstants.{MOST_WORKERS}
 use Rattle.site_bundle.specs.NodeNames.{is_node_name}
+use Rattle.site_commands.specs.Numbers.{number_within}
 use Rattle.site_commands.specs.declared.words.Command.{Command}
 use Rattle.site_commands.specs.declared.words.Command.TheVariants as c
 use Rattle.site_commands.specs.declared.words.Complaint.{Complaint}
@@ -15,6 +17,8 @@ pub data CommandLine : Type 0 where
   manifest : List ℕ → CommandLine
   -- the history and the replies that come of the bundle that comes in
   sequence : CommandLine
+  -- the same, by this many workers
+  batch : ℕ → CommandLine
   -- the words are those of no command
   usage : CommandLine
   -- this word breaks the rule of its place
@@ -23,16 +27,55 @@ pub data CommandLine : Type 0 where
 abbrev pub manifest_for : List ℕ → CommandLine
 manifest_for node = if is_node_name node then manifest node else bad_word node
 
+-- as many workers as a number says, where there are any such
+abbrev pub workers_or : List ℕ → Option ℕ → CommandLine
+workers_or word None = bad_word word
+workers_or word (Some workers) = batch workers
+
+abbrev pub batch_by : List ℕ → CommandLine
+batch_by word = workers_or word (number_within 1 MOST_WORKERS word)
+
+abbrev pub is_word : List ℕ → List ℕ → Bool
+is_word = pointwise nat_eq
+
 -- what the words ask for, which come without the program's name
 abbrev pub asked_of : List (List ℕ) → CommandLine
-asked_of (command ∷ []) = if pointwise nat_eq command (codes "sequence") then sequence else usage
-asked_of (command ∷ node ∷ []) = if pointwise nat_eq command (codes "manifest") then manifest_for node else usage
+asked_of (command ∷ []) =
+    if is_word command (codes "sequence") then sequence else if is_word command (codes "batch") then batch 1 else usage
+asked_of (command ∷ node ∷ []) = if is_word command (codes "manifest") then manifest_for node else usage
+asked_of (command ∷ option ∷ count ∷ []) =
+    if is_word command (codes "batch") && is_word option (codes "--workers") then batch_by count else usage
 asked_of words = usage
+
+-- a batch has workers, and not too many
+abbrev pub IsWithin : CommandLine → Type 0
+IsWithin (manifest node) = Unit {0}
+IsWithin sequence = Unit {0}
+IsWithin (batch workers) = (1 ≤ workers) × (workers ≤ MOST_WORKERS)
+IsWithin usage = Unit {0}
+IsWithin (bad_word word) = Unit {0}
+
+-- it waits for nobody
+abbrev pub IsPlain : CommandLine → Type 0
+IsPlain (manifest node) = Unit {0}
+IsPlain sequence = Unit {0}
+IsPlain (batch workers) = ⊥
+IsPlain usage = ⊥
+IsPlain (bad_word word) = ⊥
+
+-- it may wait
+abbrev pub IsShared : CommandLine → Type 0
+IsShared (manifest node) = ⊥
+IsShared sequence = ⊥
+IsShared (batch workers) = Unit {0}
+IsShared usage = ⊥
+IsShared (bad_word word) = ⊥
 
 -- what a command asks for
 abbrev pub asked_by : Command → CommandLine
 asked_by (c.Manifest node) = manifest node.now
 asked_by c.Sequence = sequence
+asked_by (c.Batch workers) = batch workers
 
 -- what a reading of the words says of them
 abbrev pub reading : Result Command Complaint → CommandLine

@@ -5,7 +5,7 @@ ghost use Rattle.res_core.specs.RequestViews.{all_asked};
 ghost use Rattle.res_core.specs.AskedFacts.{give_facts};
 ghost use Rattle.site_bundle.specs.declared.limits.TheConstants.{MOST_REQUESTS};
 ghost use Rattle.site_bundle.specs.Bundles.{bundle_of};
-ghost use Rattle.site_commands.specs.Outputs.{HasRun, IsBundleOutput, is_refusal, output_of, sequence_text, reply_lines};
+ghost use Rattle.site_commands.specs.Outputs.{HasRun, TellsOf, is_refusal, output_of, run_text, reply_lines};
 ghost use Rattle.site_sequence.specs.SequenceLaws.{is_memory};
 ghost use Rattle.site_commands.specs.Stops.{TellsStop};
 
@@ -19,18 +19,20 @@ use res_core::requests::Requests;
 use site_bundle::bundle::Bundle;
 use site_bundle::bundle_stop::BundleStop;
 use site_bundle::reading::read_bundle;
+use site_bundle::site::Site;
 use site_bundle::stop_lines::stop_text;
+use site_core::history::History;
 use site_core::language::Language;
 use site_core::reply::{Reply, ReplyOf};
 use site_docs::journals::write_journal;
 use site_docs::replies::write_reply;
-use site_sequence::replies::Replies;
-use site_sequence::sequence::{SequenceResult, run_sequence};
+use site_replies::Replies;
+use site_sequence::run_sequence;
 use std::alloc::Global;
 
 /// The output to a bundle of these bytes.
 pub fn bundle_output(alloc: Global, input: &[u8]) -> Result<Output, Memory>
-    ensures { IfOk result (λ output. IsBundleOutput output (bundle_of input.now)) }
+    ensures { IfOk result (λ output. TellsOf HasRun output (bundle_of input.now)) }
 {
     match read_bundle(alloc, input) {
         Ok(bundle) => run_bundle(alloc, bundle),
@@ -38,7 +40,8 @@ pub fn bundle_output(alloc: Global, input: &[u8]) -> Result<Output, Memory>
     }
 }
 
-fn refuse_bundle(alloc: Global, stop: &BundleStop) -> Result<Output, Memory>
+/// Tells why the input is no bundle.
+pub(crate) fn refuse_bundle(alloc: Global, stop: &BundleStop) -> Result<Output, Memory>
     ensures { IfOk result (λ output. TellsStop output stop.now) }
 {
     match stop {
@@ -54,26 +57,22 @@ fn run_bundle(alloc: Global, bundle: Bundle) -> Result<Output, Memory>
 {
     let Bundle { site, requests } = bundle;
     let came = run_sequence(alloc, &PuppetLanguage, site, &requests)?;
-    let text = sequence_text(alloc, &requests, &came)?;
+    let text = run_text(alloc, &requests, &came.history, &came.replies)?;
     Ok(output_of(&came.replies, text))
 }
 
 /// The journal, and then the lines of the replies.
-fn sequence_text(
+pub(crate) fn run_text(
     alloc: Global,
     requests: &Requests,
-    made: &SequenceResult<PuppetLanguage>,
+    history: &History<Site>,
+    replies: &Replies<PuppetLanguage>,
 ) -> Result<Text, Memory>
     requires { length requests.now ≤ MOST_REQUESTS }
-    ensures { IfOk result (λ text. text ≡ sequence_text requests.now made.now.replies made.now.history.entries) }
+    ensures { IfOk result (λ text. text ≡ run_text requests.now replies.now history.now.entries) }
 {
-    let mut out = write_journal(alloc, &made.history)?.into_string();
-    write_replies(
-        alloc,
-        &mut out,
-        requests.as_slice(),
-        made.replies.as_slice(),
-    )?;
+    let mut out = write_journal(alloc, history)?.into_string();
+    write_replies(alloc, &mut out, requests.as_slice(), replies.as_slice())?;
     Ok(Text::new(out))
 }
 
@@ -105,7 +104,7 @@ fn write_replies(
 }
 
 /// The output, by what its replies tell of.
-fn output_of<L: Language>(replies: &Replies<L>, text: Text) -> Output
+pub(crate) fn output_of<L: Language>(replies: &Replies<L>, text: Text) -> Output
     ensures { result ≡ output_of replies.now text }
 {
     if want_memory(replies.as_slice()) {

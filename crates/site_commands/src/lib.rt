@@ -1,10 +1,12 @@
 //! The commands of the site's program: words and streams in, a status out.
 #![tactic(auto)]
 
+pub mod batch_output;
 pub mod bundle_output;
 pub mod ending;
 mod lines;
 pub mod manifest_output;
+mod numbers;
 pub mod output;
 pub mod program;
 mod say;
@@ -13,4 +15,4 @@ pub mod words;
 
 pub use ending::Ending;
 pub use program::run_program;
-pub use site::site_main;
+pub use site::{plain_command, shared_command, site_main};

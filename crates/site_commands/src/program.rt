@@ -6,30 +6,37 @@ ghost use Rattle.site_commands.specs.World.{world, line, Says};
 
 use crate::ending::Ending;
 use crate::site::{refuse, site_main};
-use site_io::{Sink, Source};
+use site_io::{Gate, Sink, Source};
 use std::alloc::Global;
 use std::io;
 use std::io::ErrorKind;
 use std::process::ExitCode;
+use std::sync::Wait;
+use std::thread::Threads;
 
 /// Runs the program on its command line, whose first word is the program's name, and gives the code to exit with.
 ///
 /// A word that is no text makes them faulty words.
-pub fn run_program<S: Source, K: Sink, E: Sink>(
+pub fn run_program<S: Source, K: Sink, E: Sink, G: Gate + Sync, R: Threads + Wait + Sync>(
+    rt: &R,
     alloc: Global,
     line: io::Result<Vec<String>>,
     source: &mut S,
     out: &mut K,
     err: &mut E,
+    gate: &G,
 ) -> ExitCode
     ensures { HasRunOn (exit_status result) line
         (world (S.stream source.old) (K.stream out.old) (E.stream err.old))
         (world (S.stream source.new) (K.stream out.new) (E.stream err.new)) }
 {
     let status = match line {
-        Ok(line) => site_main(alloc, without_name(line.as_slice()), source, out, err),
+        Ok(line) => {
+            let words = without_name(line.as_slice());
+            site_main(rt, alloc, words, source, out, err, gate)
+        }
         Err(error) if error.kind() == ErrorKind::OutOfMemory => lack_memory(err),
-        Err(_) => site_main(alloc, &[], source, out, err),
+        Err(_) => site_main(rt, alloc, &[], source, out, err, gate),
     };
     ExitCode::from(status)
 }

@@ -1,5 +1,5 @@
 ghost use Rattle.std.specs.Prelude.{◌≡◌, ◌↔◌, ◌⊎◌, ◌≤◌, List, ℕ, IfOk, length, Some};
-ghost use Rattle.site_commands.specs.Words.{asked_of, asked_by, texts_of};
+ghost use Rattle.site_commands.specs.Words.{asked_of, asked_by, texts_of, IsWithin, IsPlain, IsShared};
 ghost use Rattle.site_io.specs.Stream.{Rose};
 ghost use Rattle.site_commands.specs.World.{world, line, Says};
 ghost use Rattle.site_commands.specs.Status.{IsStatus};
@@ -9,6 +9,7 @@ ghost use Rattle.site_commands.specs.Limits.{limit_of};
 ghost use Rattle.site_commands.specs.Program.{HasEnded};
 ghost use Rattle.site_commands.specs.Endings.{Ends, IsComplaint, IsSettled};
 
+use crate::batch_output::batch_output;
 use crate::bundle_output::bundle_output;
 use crate::ending::Ending;
 use crate::manifest_output::manifest_output;
@@ -18,8 +19,10 @@ use crate::words::{Command, Complaint, read_words};
 use pp_values::memory::Memory;
 use pp_values::place::MAIN_MANIFEST;
 use site_bundle::limits::{MOST_BUNDLE_BYTES, MOST_FILE_BYTES};
-use site_io::{Bytes, ReadStop, Sink, Source, read_all, write_all};
+use site_io::{Bytes, Gate, ReadStop, Sink, Source, read_all, write_all};
 use std::alloc::Global;
+use std::sync::Wait;
+use std::thread::Threads;
 
 /// Runs the program on its words, which come without the program's name, and gives the exit status.
 ///
@@ -30,19 +33,21 @@ use std::alloc::Global;
 /// | 1 | journal and replies were written, one of which is a refusal | none |
 /// | 10 | the words are faulty | `usage: manifest NODE` or `bad word WORD` |
 /// | 11 | the manifest is longer than 4 MiB, or no text in UTF-8 | `B3 manifests/site.pp`, `B2 manifests/site.pp` |
-/// | 11 | the input of `sequence` is no bundle | `B1`, `B2 PATH` or `B3 PATH` |
+/// | 11 | the input of `sequence` or `batch` is no bundle | `B1`, `B2 PATH` or `B3 PATH` |
 /// | 12 | the input could not be read | `read fault` |
 /// | 13 | the output, or the line of a fault, could not be written | none, or a front of the fault's line |
 /// | 16 | want of memory, in the program or in a reply that was written | `memory` |
 ///
 /// The first that is met decides, in the order: words (10), input (12, 11), work, output (0, 1 or 13).
 /// An error line of statuses 10, 11, 12 and 16 that can't be written changes no status.
-pub fn site_main<S: Source, K: Sink, E: Sink>(
+pub fn site_main<S: Source, K: Sink, E: Sink, G: Gate + Sync, R: Threads + Wait + Sync>(
+    rt: &R,
     alloc: Global,
     words: &[String],
     source: &mut S,
     out: &mut K,
     err: &mut E,
+    gate: &G,
 ) -> u8
     // What each status means: what was asked, what was read, and what was written.
     ensures done { result ≡ 0 → Ends Ending.Done (texts_of words.now)
@@ -81,22 +86,24 @@ pub fn site_main<S: Source, K: Sink, E: Sink>(
     ensures sink_rose { result ≡ 13 → Rose (K.stream out.old).faults (K.stream out.new).faults
         ⊎ Rose (E.stream err.old).faults (E.stream err.new).faults }
 {
-    run(alloc, words, source, out, err).status()
+    run(rt, alloc, words, source, out, err, gate).status()
 }
 
-fn run<S: Source, K: Sink, E: Sink>(
+fn run<S: Source, K: Sink, E: Sink, G: Gate + Sync, R: Threads + Wait + Sync>(
+    rt: &R,
     alloc: Global,
     words: &[String],
     source: &mut S,
     out: &mut K,
     err: &mut E,
+    gate: &G,
 ) -> Ending
     ensures { Ends result (texts_of words.now)
         (world (S.stream source.old) (K.stream out.old) (E.stream err.old))
         (world (S.stream source.new) (K.stream out.new) (E.stream err.new)) }
 {
     match read_words(words) {
-        Ok(command) => run_command(alloc, command, source, out, err),
+        Ok(command) => run_command(rt, alloc, command, source, out, err, gate),
         Err(Complaint::Usage) => {
             say(err, "usage: manifest NODE\n");
             Ending::BadWords
@@ -108,13 +115,37 @@ fn run<S: Source, K: Sink, E: Sink>(
     }
 }
 
-fn run_command<S: Source, K: Sink, E: Sink>(
+fn run_command<S: Source, K: Sink, E: Sink, G: Gate + Sync, R: Threads + Wait + Sync>(
+    rt: &R,
+    alloc: Global,
+    command: Command<'_>,
+    source: &mut S,
+    out: &mut K,
+    err: &mut E,
+    gate: &G,
+) -> Ending
+    requires { IsWithin (asked_by command) }
+    ensures { (words : List (List ℕ)) → asked_of words ≡ asked_by command.entry → Ends result words
+        (world (S.stream source.old) (K.stream out.old) (E.stream err.old))
+        (world (S.stream source.new) (K.stream out.new) (E.stream err.new)) }
+{
+    match command {
+        Command::Manifest { .. } | Command::Sequence => {
+            plain_command(alloc, command, source, out, err)
+        }
+        Command::Batch { .. } => shared_command(rt, alloc, command, source, out, err, gate),
+    }
+}
+
+/// Runs a command that waits for nobody.
+pub fn plain_command<S: Source, K: Sink, E: Sink>(
     alloc: Global,
     command: Command<'_>,
     source: &mut S,
     out: &mut K,
     err: &mut E,
 ) -> Ending
+    requires { IsPlain (asked_by command) }
     ensures { (words : List (List ℕ)) → asked_of words ≡ asked_by command.entry → Ends result words
         (world (S.stream source.old) (K.stream out.old) (E.stream err.old))
         (world (S.stream source.new) (K.stream out.new) (E.stream err.new)) }
@@ -125,13 +156,35 @@ fn run_command<S: Source, K: Sink, E: Sink>(
     }
 }
 
+/// Runs a command that may wait, for threads of its own and for what the gate waits for.
+pub fn shared_command<S: Source, K: Sink, E: Sink, G: Gate + Sync, R: Threads + Wait + Sync>(
+    rt: &R,
+    alloc: Global,
+    command: Command<'_>,
+    source: &mut S,
+    out: &mut K,
+    err: &mut E,
+    gate: &G,
+) -> Ending
+    requires shared { IsShared (asked_by command) }
+    requires within { IsWithin (asked_by command) }
+    ensures { (words : List (List ℕ)) → asked_of words ≡ asked_by command.entry → Ends result words
+        (world (S.stream source.old) (K.stream out.old) (E.stream err.old))
+        (world (S.stream source.new) (K.stream out.new) (E.stream err.new)) }
+{
+    match read_all(alloc, source, limit_of(command)) {
+        Ok(input) => share_work(rt, alloc, command, input, out, err, gate),
+        Err(stop) => give_up(command, stop, err),
+    }
+}
+
 /// The most bytes that a command reads.
 fn limit_of(command: Command<'_>) -> usize
     ensures { result ≡ limit_of (asked_by command.entry) }
 {
     match command {
         Command::Manifest { .. } => MOST_FILE_BYTES,
-        Command::Sequence => MOST_BUNDLE_BYTES,
+        Command::Sequence | Command::Batch { .. } => MOST_BUNDLE_BYTES,
     }
 }
 
@@ -143,24 +196,66 @@ fn work<K: Sink, E: Sink>(
     out: &mut K,
     err: &mut E,
 ) -> Ending
-    requires { length input ≤ limit_of (asked_by command) }
+    requires plain { IsPlain (asked_by command) }
+    requires read { length input ≤ limit_of (asked_by command) }
     ensures { Works result (asked_by command.entry) input (K.stream out.old) (K.stream out.new) (E.stream err.old)
         (E.stream err.new) }
 {
-    match output_for(alloc, command, input) {
+    match plain_output(alloc, command, input) {
+        Ok(output) => deliver(&output, out, err),
+        Err(_) => refuse(err, Ending::Memory, "memory\n"),
+    }
+}
+
+/// Shares out the work on the input that was read, and writes what comes of it.
+fn share_work<K: Sink, E: Sink, G: Gate + Sync, R: Threads + Wait + Sync>(
+    rt: &R,
+    alloc: Global,
+    command: Command<'_>,
+    input: Bytes,
+    out: &mut K,
+    err: &mut E,
+    gate: &G,
+) -> Ending
+    requires shared { IsShared (asked_by command) }
+    requires within { IsWithin (asked_by command) }
+    ensures { Works result (asked_by command.entry) input (K.stream out.old) (K.stream out.new) (E.stream err.old)
+        (E.stream err.new) }
+{
+    match shared_output(rt, alloc, command, input, gate) {
         Ok(output) => deliver(&output, out, err),
         Err(_) => refuse(err, Ending::Memory, "memory\n"),
     }
 }
 
 /// The output to a command by this input.
-fn output_for(alloc: Global, command: Command<'_>, input: Bytes) -> Result<Output, Memory>
-    requires { length input ≤ limit_of (asked_by command) }
+fn plain_output(alloc: Global, command: Command<'_>, input: Bytes) -> Result<Output, Memory>
+    requires plain { IsPlain (asked_by command) }
+    requires read { length input ≤ limit_of (asked_by command) }
     ensures { IfOk result (λ output. IsOutput (asked_by command.entry) output input) }
 {
     match command {
         Command::Manifest { node } => manifest_output(alloc, node, input),
         Command::Sequence => bundle_output(alloc, input.as_slice()),
+        Command::Batch { .. } => unreachable!(),
+    }
+}
+
+/// The output to a command by this input, which threads work on.
+fn shared_output<G: Gate + Sync, R: Threads + Wait + Sync>(
+    rt: &R,
+    alloc: Global,
+    command: Command<'_>,
+    input: Bytes,
+    gate: &G,
+) -> Result<Output, Memory>
+    requires shared { IsShared (asked_by command) }
+    requires within { IsWithin (asked_by command) }
+    ensures { IfOk result (λ output. IsOutput (asked_by command.entry) output input) }
+{
+    match command {
+        Command::Batch { workers } => batch_output(rt, alloc, input.as_slice(), workers, gate),
+        Command::Manifest { .. } | Command::Sequence => unreachable!(),
     }
 }
 
@@ -181,7 +276,7 @@ fn refuse_long<E: Sink>(command: Command<'_>, err: &mut E) -> Ending
 {
     match command {
         Command::Manifest { .. } => say_word(err, "B3 ", MAIN_MANIFEST),
-        Command::Sequence => say_word(err, "B3 ", "bundle"),
+        Command::Sequence | Command::Batch { .. } => say_word(err, "B3 ", "bundle"),
     }
     Ending::BadInput
 }

@@ -1,6 +1,8 @@
-ghost use Rattle.std.specs.Prelude.{◌≡◌};
-ghost use Rattle.site_commands.specs.Words.{asked_of, reading, texts_of};
+ghost use Rattle.std.specs.Prelude.{◌≡◌, IfOk};
+ghost use Rattle.site_commands.specs.Words.{asked_by, asked_of, batch_by, reading, texts_of, IsWithin};
 
+use crate::numbers::number_within;
+use site_batch::MOST_WORKERS;
 use site_bundle::node_name::is_node_name;
 
 /// What the words of a command line ask for.
@@ -9,8 +11,11 @@ pub enum Command<'a> {
     /// The catalog of this node under the manifest that comes in.
     Manifest { node: &'a str },
 
-    /// The history and the replies that come of the bundle that comes in.
+    /// The history and the replies that come of the bundle that comes in, whose requests are answered one after another.
     Sequence,
+
+    /// The history and the replies that come of the bundle that comes in, whose requests this many workers share out.
+    Batch { workers: u32 },
 }
 
 /// What is wrong with the words of a command line.
@@ -25,10 +30,14 @@ pub enum Complaint<'a> {
 
 /// Reads the words, which come without the program's name.
 pub fn read_words(words: &[String]) -> Result<Command<'_>, Complaint<'_>>
-    ensures { reading result ≡ asked_of (texts_of words.now) }
+    ensures words { reading result ≡ asked_of (texts_of words.now) }
+    ensures within { IfOk result (λ command. IsWithin (asked_by command)) }
 {
     match words {
         [command] if command.as_str() == "sequence" => Ok(Command::Sequence),
+        [command] if command.as_str() == "batch" => Ok(Command::Batch { workers: 1 }),
+        [command, option, count] if command.as_str() == "batch" && option.as_str() == "--workers" =>
+            { read_workers(count.as_str()) }
         [command, node] if command.as_str() == "manifest" => {
             if is_node_name(node.as_str()) {
                 Ok(Command::Manifest {
@@ -39,5 +48,16 @@ pub fn read_words(words: &[String]) -> Result<Command<'_>, Complaint<'_>>
             }
         }
         _ => Err(Complaint::Usage),
+    }
+}
+
+/// A batch by as many workers as the word says.
+fn read_workers(word: &str) -> Result<Command<'_>, Complaint<'_>>
+    ensures words { reading result ≡ batch_by word.now }
+    ensures within { IfOk result (λ command. IsWithin (asked_by command)) }
+{
+    match number_within(word, 1, MOST_WORKERS) {
+        Some(workers) => Ok(Command::Batch { workers }),
+        None => Err(Complaint::BadWord(word)),
     }
 }

@@ -1,10 +1,9 @@
 //! The program of the site: `manifest NODE` reads a manifest and writes the node's catalog; `sequence` reads a bundle,
-//! answers its
-//! requests one after another, and writes the history and the replies.
+//! answers its requests one after another, and writes the history and the replies; `batch` has workers share them out.
 #![tactic(auto)]
 
 use site_commands::run_program;
-use site_io::{StandardError, StandardInput, StandardOutput};
+use site_io::{OpenGate, StandardError, StandardInput, StandardOutput};
 use std::process::ExitCode;
 use std::{env, io};
 use work_pool::on_large_stack;
@@ -16,11 +15,13 @@ fn main(rt: HostRuntime) -> ExitCode {
 
 fn run(rt: &HostRuntime) -> ExitCode {
     run_program(
+        rt,
         rt.alloc(),
         command_line(rt),
         &mut StandardInput::new(rt.stdin()),
         &mut StandardOutput::new(rt.stdout()),
         &mut StandardError::new(rt.stderr()),
+        &OpenGate,
     )
 }
 

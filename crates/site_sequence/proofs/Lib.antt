@@ -1,3 +1,4 @@
 mod GoingOn
+pub mod OneAuthor
 mod TurnExamples
 pub mod Turns

@@ -1,10 +1,12 @@
 -- What holds of requests that are answered in turn.
-use Rattle.std.specs.Prelude.{◌≡◌, ℕ, ◌+◌, Bool, true, false, ◌==◌, ◌&&◌, IsTrue, List, [], ◌∷◌, length, Option, None, Some}
+use Rattle.std.specs.Prelude.{◌≡◌, ℕ, ◌+◌, ◌≤◌, Bool, true, false, ◌==◌, ◌&&◌, IsTrue, List, [], ◌∷◌, length, Option, None, Some}
 use Rattle.std.specs.List.{list_any, filter_map}
 use Rattle.pp_values.specs.Datum.{Datum}
 use Rattle.res_core.specs.Asked.{Asked}
 use Rattle.site_core.specs.Meaning.{Meaning}
 use Rattle.site_core.specs.Events.{Event, opens, publishes, deactivates}
+use Rattle.site_core.specs.Legal.{Legal}
+use Rattle.site_core.specs.Runs.{Whole}
 use Rattle.site_core.specs.declared.reply.ReplyOf.{ReplyOf}
 use Rattle.site_core.specs.declared.reply.ReplyOf.TheVariants as a
 use Rattle.site_sequence.specs.Sequence.{AnsweredInTurn, Outcome, outcome_of}
@@ -74,3 +76,10 @@ module _ {S C F : Type 0} (meaning : Meaning S C F) (listed : S → List ℕ →
       (h after : List (Event S)) (requests : List Asked) (replies : List (ReplyOf C F)) →
       AnsweredInTurn meaning listed limit h requests replies after →
       IsTrue (are_made_in_turn 0 h) → IsTrue (are_made_in_turn 0 after)
+
+  -- what was answered in turn behind the opening of a site, and left a legal history, is the whole work of one author
+  abbrev pub TurnsAreWhole : Type 0
+  TurnsAreWhole =
+      (site : S) (after : List (Event S)) (requests : List Asked) (replies : List (ReplyOf C F)) → 1 ≤ limit →
+      AnsweredInTurn meaning listed limit (opens site ∷ []) requests replies after → Legal meaning after →
+      Whole meaning listed limit 1 site requests replies after

@@ -1,6 +1,6 @@
 //! What holds of requests that are answered one after another, whatever the language.
 ghost use Rattle.site_core.specs.declared.history.TheConstants.{MOST_ENTRIES};
-ghost use Rattle.site_sequence.specs.SequenceLaws.{AnswersAreMeant, MeantIsAnswered, RepliesNameEntries, PublicationsAreInTurn};
+ghost use Rattle.site_sequence.specs.SequenceLaws.{AnswersAreMeant, MeantIsAnswered, RepliesNameEntries, PublicationsAreInTurn, TurnsAreWhole};
 
 use site_core::language::Language;
 
@@ -18,4 +18,9 @@ pub fn replies_name_entries<L: Language>()
 /// Each publication was made from all entries before it: its `k` is its number.
 pub fn publications_are_made_in_turn<L: Language>()
     ensures { PublicationsAreInTurn L.meaning L.listed MOST_ENTRIES }
+{}
+
+/// Requests that are answered in turn over a new site are the whole work of one author.
+pub fn turns_are_whole<L: Language>()
+    ensures { TurnsAreWhole L.meaning L.listed MOST_ENTRIES }
 {}

@@ -2,8 +2,6 @@
 #![tactic(auto)]
 
 pub mod laws;
-pub mod replies;
 pub mod sequence;
 
-pub use replies::Replies;
 pub use sequence::{SequenceResult, run_sequence};

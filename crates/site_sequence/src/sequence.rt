@@ -8,13 +8,13 @@ ghost use Rattle.pp_values.specs.Facts.{are_facts};
 ghost use Rattle.site_core.specs.Meaning.{HasExports};
 ghost use Rattle.site_core.specs.Events.{opens};
 ghost use Rattle.site_core.specs.Legal.{Legal};
+ghost use Rattle.site_core.specs.Runs.{Whole};
 ghost use Rattle.site_core.specs.Snapshots.{Of};
 ghost use Rattle.res_core.specs.AskedFacts.{has_facts, asks_with_facts, give_facts};
 ghost use Rattle.site_core.specs.Fits.{facts_for};
 ghost use Rattle.site_sequence.specs.Sequence.{turn_meant, turn_known, turn_removed, turn_for, Takes, AnsweredInTurn};
 ghost use Rattle.site_sequence.specs.Attempts.{Gives};
 
-use crate::replies::Replies;
 use pp_values::copying::copy;
 use pp_values::memory::Memory;
 use pp_values::text::Text;
@@ -29,6 +29,7 @@ use site_core::language::Language;
 use site_core::reply::{Reply, ReplyOf};
 use site_core::snapshot::Snapshot;
 use site_core::state::CoreState;
+use site_replies::Replies;
 use std::alloc::Global;
 
 /// Who asks, and so makes the entries.
@@ -41,7 +42,7 @@ pub struct SequenceResult<L: Language> {
     pub replies: Replies<L>,
 }
 
-/// Opens the site and answers the requests one after another, as author 0.
+/// Opens the site and answers the requests one after another, as author 0, whose work all of it is.
 ///
 /// A request that meets want of memory is answered so, and the next one goes on.
 pub fn run_sequence<L: Language>(
@@ -54,6 +55,8 @@ pub fn run_sequence<L: Language>(
     ensures in_turn { IfOk result (λ r.
         AnsweredInTurn L.meaning L.listed MOST_ENTRIES (opens site ∷ []) requests.now r.replies r.history.entries) }
     ensures legal { IfOk result (λ r. Legal L.meaning r.history.entries) }
+    ensures whole { IfOk result (λ r.
+        Whole L.meaning L.listed MOST_ENTRIES 1 site requests.now r.replies r.history.entries) }
 {
     let mut core = CoreState::open(alloc, site, MOST_ENTRIES)?;
     let mut replies = Replies::new(alloc);

@@ -1,6 +1,6 @@
 //! The commands of the program, over streams in memory.
 use site_commands::site_main;
-use site_io::{Bytes, MemSink, MemSource};
+use site_io::{Bytes, MemSink, MemSource, OpenGate};
 use std::alloc::{AllocError, Global};
 use std::test::Fail;
 
@@ -31,13 +31,20 @@ fn words_of(alloc: Global, words: &str) -> Result<Vec<String>, AllocError> {
     Ok(found)
 }
 
-fn run(alloc: Global, words: &str, input: &[u8], failing: Failing) -> Result<Outcome, AllocError> {
+fn run(
+    rt: &HostRuntime,
+    words: &str,
+    input: &[u8],
+    failing: Failing,
+) -> Result<Outcome, AllocError> {
+    let alloc = rt.alloc();
     let words = words_of(alloc, words)?;
     let (source, out, err) = failing;
     let mut source = MemSource::new(alloc, input, &[source])?;
     let mut out = MemSink::new(alloc, 4096, &[out])?;
     let mut err = MemSink::new(alloc, 4096, &[err])?;
-    let status = site_main(alloc, words.as_slice(), &mut source, &mut out, &mut err);
+    let words = words.as_slice();
+    let status = site_main(rt, alloc, words, &mut source, &mut out, &mut err, &OpenGate);
     Ok(Outcome {
         status,
         out: out.into_written(),
@@ -53,14 +60,14 @@ fn is_outcome(outcome: &Outcome, status: u8, out: &str, err: &str) -> bool {
 
 /// Whether a run whose streams do not fail ends so.
 fn ends_as(
-    alloc: Global,
+    rt: &HostRuntime,
     words: &str,
     input: &[u8],
     status: u8,
     out: &str,
     err: &str,
 ) -> Result<bool, AllocError> {
-    let outcome = run(alloc, words, input, NONE)?;
+    let outcome = run(rt, words, input, NONE)?;
     Ok(is_outcome(&outcome, status, out, err))
 }
 
@@ -72,14 +79,14 @@ fn catalog(alloc: Global, node: &str, resources: &str) -> Result<String, AllocEr
 }
 
 fn writes_catalog(
-    alloc: Global,
+    rt: &HostRuntime,
     words: &str,
     node: &str,
     manifest: &str,
     resources: &str,
 ) -> Result<bool, AllocError> {
-    let line = catalog(alloc, node, resources)?;
-    ends_as(alloc, words, manifest.as_bytes(), 0, line.as_str(), "")
+    let line = catalog(rt.alloc(), node, resources)?;
+    ends_as(rt, words, manifest.as_bytes(), 0, line.as_str(), "")
 }
 
 const CATALOGS: [(&str, &str, &str, &str); 4] = [
@@ -108,15 +115,15 @@ const CATALOGS: [(&str, &str, &str, &str); 4] = [
 fn catalogs_are_written(rt: HostRuntime) -> Result<(), Fail> {
     for (words, node, manifest, resources) in CATALOGS.iter() {
         assert!(rt;
-            writes_catalog(rt.alloc(), words, node, manifest, resources)?,
+            writes_catalog(&rt, words, node, manifest, resources)?,
             "{manifest}"
         );
     }
     Ok(())
 }
 
-fn tells_fault(alloc: Global, manifest: &str, line: &str) -> Result<bool, AllocError> {
-    ends_as(alloc, "manifest|n", manifest.as_bytes(), 1, "", line)
+fn tells_fault(rt: &HostRuntime, manifest: &str, line: &str) -> Result<bool, AllocError> {
+    ends_as(rt, "manifest|n", manifest.as_bytes(), 1, "", line)
 }
 
 const FAULTS: [(&str, &str); 7] = [
@@ -138,7 +145,7 @@ const FAULTS: [(&str, &str); 7] = [
 #[test]
 fn faults_are_told(rt: HostRuntime) -> Result<(), Fail> {
     for (manifest, line) in FAULTS.iter() {
-        assert!(rt; tells_fault(rt.alloc(), manifest, line)?, "{line}");
+        assert!(rt; tells_fault(&rt, manifest, line)?, "{line}");
     }
     Ok(())
 }
@@ -156,9 +163,9 @@ fn nested_message(alloc: Global, lists: usize) -> Result<String, AllocError> {
     Ok(manifest)
 }
 
-fn tells_nested(alloc: Global, lists: usize, line: &str) -> Result<bool, AllocError> {
-    let manifest = nested_message(alloc, lists)?;
-    tells_fault(alloc, manifest.as_str(), line)
+fn tells_nested(rt: &HostRuntime, lists: usize, line: &str) -> Result<bool, AllocError> {
+    let manifest = nested_message(rt.alloc(), lists)?;
+    tells_fault(rt, manifest.as_str(), line)
 }
 
 const NESTED: [(usize, &str); 2] = [
@@ -169,14 +176,14 @@ const NESTED: [(usize, &str); 2] = [
 #[test]
 fn nesting_is_bounded(rt: HostRuntime) -> Result<(), Fail> {
     for (lists, line) in NESTED.iter() {
-        assert!(rt; tells_nested(rt.alloc(), *lists, line)?, "{lists}");
+        assert!(rt; tells_nested(&rt, *lists, line)?, "{lists}");
     }
     Ok(())
 }
 
 const USAGE: &str = "usage: manifest NODE\n";
 
-const WORDS: [(&str, &str); 9] = [
+const WORDS: [(&str, &str); 18] = [
     ("", USAGE),
     ("manifest", USAGE),
     ("manifest|n|n", USAGE),
@@ -186,12 +193,21 @@ const WORDS: [(&str, &str); 9] = [
     ("manifest|Web", "bad word Web\n"),
     ("manifest|", "bad word \n"),
     ("manifest|a/b", "bad word a/b\n"),
+    ("Batch", USAGE),
+    ("batch|2", USAGE),
+    ("batch|--workers", USAGE),
+    ("batch|--worker|2", USAGE),
+    ("batch|--workers|2|2", USAGE),
+    ("batch|--workers|0", "bad word 0\n"),
+    ("batch|--workers|65", "bad word 65\n"),
+    ("batch|--workers|02", "bad word 02\n"),
+    ("batch|--workers|", "bad word \n"),
 ];
 
 #[test]
 fn words_are_refused(rt: HostRuntime) -> Result<(), Fail> {
     for (words, line) in WORDS.iter() {
-        assert!(rt; ends_as(rt.alloc(), words, b"", 10, "", line)?, "{words}");
+        assert!(rt; ends_as(&rt, words, b"", 10, "", line)?, "{words}");
     }
     Ok(())
 }
@@ -205,9 +221,9 @@ fn long_name(alloc: Global, count: usize) -> Result<String, AllocError> {
     Ok(words)
 }
 
-fn ends_long_name(alloc: Global, count: usize, status: u8) -> Result<bool, AllocError> {
-    let words = long_name(alloc, count)?;
-    Ok(run(alloc, words.as_str(), b"", NONE)?.status == status)
+fn ends_long_name(rt: &HostRuntime, count: usize, status: u8) -> Result<bool, AllocError> {
+    let words = long_name(rt.alloc(), count)?;
+    Ok(run(rt, words.as_str(), b"", NONE)?.status == status)
 }
 
 const LENGTHS: [(usize, u8); 2] = [(255, 0), (256, 10)];
@@ -215,7 +231,7 @@ const LENGTHS: [(usize, u8); 2] = [(255, 0), (256, 10)];
 #[test]
 fn the_length_of_a_name_is_bounded(rt: HostRuntime) -> Result<(), Fail> {
     for (count, status) in LENGTHS.iter() {
-        assert!(rt; ends_long_name(rt.alloc(), *count, *status)?, "{count}");
+        assert!(rt; ends_long_name(&rt, *count, *status)?, "{count}");
     }
     Ok(())
 }
@@ -229,12 +245,17 @@ fn bytes_of(alloc: Global, text: &str) -> Result<Vec<u8>, AllocError> {
     Ok(bytes)
 }
 
-fn refuses_input(alloc: Global, words: &str, input: &str, line: &str) -> Result<bool, AllocError> {
-    let bytes = bytes_of(alloc, input)?;
-    ends_as(alloc, words, bytes.as_slice(), 11, "", line)
+fn refuses_input(
+    rt: &HostRuntime,
+    words: &str,
+    input: &str,
+    line: &str,
+) -> Result<bool, AllocError> {
+    let bytes = bytes_of(rt.alloc(), input)?;
+    ends_as(rt, words, bytes.as_slice(), 11, "", line)
 }
 
-const INPUTS: [(&str, &str, &str); 9] = [
+const INPUTS: [(&str, &str, &str); 12] = [
     ("manifest|n", "notify { '\u{c3}", "B2 manifests/site.pp\n"),
     ("manifest|n", "\u{ff}", "B2 manifests/site.pp\n"),
     ("sequence", "", "B1\n"),
@@ -248,25 +269,28 @@ const INPUTS: [(&str, &str, &str); 9] = [
         "{\"bundle\":1,\"files\":{\"manifests/site.pp\":\"\"},\"requests\":[{}]}",
         "B2 requests.0\n",
     ),
+    ("batch", "{", "B1\n"),
+    ("batch|--workers|64", "[]", "B2 bundle\n"),
+    ("batch|--workers|64", "{\"bundle\":1}", "B2 files\n"),
 ];
 
 #[test]
 fn input_is_refused(rt: HostRuntime) -> Result<(), Fail> {
     for (words, input, line) in INPUTS.iter() {
-        assert!(rt; refuses_input(rt.alloc(), words, input, line)?, "{input}");
+        assert!(rt; refuses_input(&rt, words, input, line)?, "{input}");
     }
     Ok(())
 }
 
 fn ends_long_input(
-    alloc: Global,
+    rt: &HostRuntime,
     byte: u8,
     count: usize,
     status: u8,
     line: &str,
 ) -> Result<bool, AllocError> {
-    let input = vec![in alloc; byte; count]?;
-    let outcome = run(alloc, "manifest|n", input.as_slice(), NONE)?;
+    let input = vec![in rt.alloc(); byte; count]?;
+    let outcome = run(rt, "manifest|n", input.as_slice(), NONE)?;
     Ok(outcome.status == status && outcome.err.as_slice() == line.as_bytes())
 }
 
@@ -280,7 +304,7 @@ const LONG: [(u8, usize, u8, &str); 3] = [
 fn the_length_of_input_is_bounded(rt: HostRuntime) -> Result<(), Fail> {
     for (byte, count, status, line) in LONG.iter() {
         assert!(rt;
-            ends_long_input(rt.alloc(), *byte, *count, *status, line)?,
+            ends_long_input(&rt, *byte, *count, *status, line)?,
             "{byte} {count}"
         );
     }
@@ -339,31 +363,41 @@ const BUNDLES: [(&str, u8, &str); 5] = [
     ),
 ];
 
-fn answers_bundle(alloc: Global, bundle: &str, status: u8, out: &str) -> Result<bool, AllocError> {
-    ends_as(alloc, "sequence", bundle.as_bytes(), status, out, "")
+/// One worker writes what requests in turn come to.
+const IN_TURN: [&str; 3] = ["sequence", "batch", "batch|--workers|1"];
+
+fn answers_bundle(
+    rt: &HostRuntime,
+    bundle: &str,
+    status: u8,
+    out: &str,
+) -> Result<bool, AllocError> {
+    for words in IN_TURN.iter() {
+        if !ends_as(rt, words, bundle.as_bytes(), status, out, "")? {
+            return Ok(false);
+        }
+    }
+    Ok(true)
 }
 
 #[test]
 fn bundles_are_answered(rt: HostRuntime) -> Result<(), Fail> {
     for (bundle, status, out) in BUNDLES.iter() {
-        assert!(rt;
-            answers_bundle(rt.alloc(), bundle, *status, out)?,
-            "{bundle}"
-        );
+        assert!(rt; answers_bundle(&rt, bundle, *status, out)?, "{bundle}");
     }
     Ok(())
 }
 
 /// Whether a run whose streams fail so ends with this status and line; there is output with status 0 and 1 alone.
 fn fails_as(
-    alloc: Global,
+    rt: &HostRuntime,
     words: &str,
     input: &str,
     failing: Failing,
     status: u8,
     line: &str,
 ) -> Result<bool, AllocError> {
-    let outcome = run(alloc, words, input.as_bytes(), failing)?;
+    let outcome = run(rt, words, input.as_bytes(), failing)?;
     let is_told = outcome.err.as_slice() == line.as_bytes();
     Ok(outcome.status == status && is_told && outcome.out.is_empty() != (status == 0))
 }
@@ -374,7 +408,7 @@ const BAD: &str = "notify { 'a'";
 
 const BUNDLE: &str = r#"{"bundle": 1, "files": {"manifests/site.pp": ""}, "nodes": {"a": {}}}"#;
 
-const STREAMS: [(&str, &str, Failing, u8, &str); 13] = [
+const STREAMS: [(&str, &str, Failing, u8, &str); 17] = [
     ("manifest|n", GOOD, (1, 0, 0), 12, "read fault\n"),
     ("manifest|n", GOOD, (2, 0, 0), 12, "read fault\n"),
     ("manifest|n", GOOD, (0, 1, 0), 13, ""),
@@ -395,13 +429,17 @@ const STREAMS: [(&str, &str, Failing, u8, &str); 13] = [
     ("sequence", BUNDLE, (0, 1, 0), 13, ""),
     ("sequence", BUNDLE, (0, 0, 1), 0, ""),
     ("sequence", "{", (0, 0, 1), 11, ""),
+    ("batch", BUNDLE, (1, 0, 0), 12, "read fault\n"),
+    ("batch|--workers|64", BUNDLE, (0, 1, 0), 13, ""),
+    ("batch|--workers|64", BUNDLE, (0, 0, 1), 0, ""),
+    ("batch", "{", (0, 0, 1), 11, ""),
 ];
 
 #[test]
 fn faults_of_streams_are_told(rt: HostRuntime) -> Result<(), Fail> {
     for (words, input, failing, status, line) in STREAMS.iter() {
         assert!(rt;
-            fails_as(rt.alloc(), words, input, *failing, *status, line)?,
+            fails_as(&rt, words, input, *failing, *status, line)?,
             "{words} {status}"
         );
     }
@@ -414,27 +452,30 @@ const UNKNOWN: &str =
 
 /// The status and whether there is output, where a reply is a refusal.
 fn refuses_as(
-    alloc: Global,
+    rt: &HostRuntime,
+    words: &str,
     failing: Failing,
     status: u8,
     is_written: bool,
 ) -> Result<bool, AllocError> {
-    let outcome = run(alloc, "sequence", UNKNOWN.as_bytes(), failing)?;
+    let outcome = run(rt, words, UNKNOWN.as_bytes(), failing)?;
     Ok(outcome.status == status && outcome.out.is_empty() != is_written)
 }
 
-const REFUSED: [(Failing, u8, bool); 3] = [
-    ((0, 0, 0), 1, true),
-    ((0, 1, 0), 13, false),
-    ((0, 0, 1), 1, true),
+const REFUSED: [(&str, Failing, u8, bool); 5] = [
+    ("sequence", (0, 0, 0), 1, true),
+    ("sequence", (0, 1, 0), 13, false),
+    ("sequence", (0, 0, 1), 1, true),
+    ("batch|--workers|4", (0, 0, 0), 1, true),
+    ("batch|--workers|4", (0, 1, 0), 13, false),
 ];
 
 #[test]
 fn refusals_are_written(rt: HostRuntime) -> Result<(), Fail> {
-    for (failing, status, is_written) in REFUSED.iter() {
+    for (words, failing, status, is_written) in REFUSED.iter() {
         assert!(rt;
-            refuses_as(rt.alloc(), *failing, *status, *is_written)?,
-            "{status}"
+            refuses_as(&rt, words, *failing, *status, *is_written)?,
+            "{words} {status}"
         );
     }
     Ok(())

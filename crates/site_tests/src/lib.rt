@@ -16,6 +16,4 @@ mod replies;
 #[cfg(test)]
 mod samples;
 #[cfg(test)]
-mod shared;
-#[cfg(test)]
 mod sites;

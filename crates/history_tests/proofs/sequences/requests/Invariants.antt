@@ -1,6 +1,0 @@
-use Rattle.std.specs.Prelude.{IsTrue}
-use Rattle.res_core.specs.AskedFacts.{give_facts}
-use Rattle.history_tests.proofs.sequences.requests.Given as goal
-
-abbrev pub invariant-loop-word : goal.invariant-loop-word
-invariant-loop-word l = IsTrue (give_facts l.requests)

@@ -1,0 +1,9 @@
+pub mod Gathering
+pub mod Jobs
+pub mod Opened
+pub mod Requested
+pub mod Sent
+pub mod Slots
+pub mod Splitting
+pub mod Turns
+pub mod Wholes

@@ -1,0 +1,4 @@
+pub mod Answers
+pub mod Work
+pub mod Shares
+pub mod Gathered

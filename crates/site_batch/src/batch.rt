@@ -1,0 +1,162 @@
+//! Requests that workers share out.
+ghost use Rattle.std.specs.Prelude.{◌≡◌, ℕ, ◌+◌, ◌≤◌, length, IfOk, IsTrue};
+ghost use Rattle.list_sums.specs.Counts.{times, below};
+ghost use Rattle.res_core.specs.AskedFacts.{give_facts};
+ghost use Rattle.site_core.specs.Runs.{Whole};
+ghost use Rattle.site_core.specs.declared.history.TheConstants.{MOST_ENTRIES};
+ghost use Rattle.work_pool.specs.Seats.{first_seat};
+ghost use Rattle.site_batch.specs.Answers.{Each};
+ghost use Rattle.site_batch.specs.Shares.{IsFirstPass, IsIdle, AreShares};
+ghost use Rattle.site_batch.specs.Gathered.{AreWorked, shown};
+ghost use Rattle.site_batch.specs.Work.{HasWorked};
+ghost use Rattle.std.specs.List.{AllZip};
+
+use crate::gather::gather;
+use crate::order::in_order;
+use crate::worker::{Work, Worker};
+use pp_values::memory::Memory;
+use res_core::requests::Requests;
+use shared_site::{SharedSite, SitePass};
+use site_core::history::{History, MOST_ENTRIES};
+use site_core::language::Language;
+use site_io::Gate;
+use site_replies::Replies;
+use std::alloc::Global;
+use std::sync::Wait;
+use std::thread::Threads;
+use work_pool::{ClaimSeat, Claims, run_waiting};
+
+/// The most workers of a batch.
+pub const MOST_WORKERS: u32 = 64;
+
+/// What came of requests to a site: its history, and the replies in the order of the requests.
+#[derive(Drop)]
+pub struct BatchResult<L: Language> {
+    pub history: History<L::Site>,
+    pub replies: Replies<L>,
+}
+
+/// A pass and a seat for each worker.
+type Shares<L> = Vec<(SitePass<L>, ClaimSeat)>;
+
+/// Opens the site and answers the requests, which so many workers share out, side by side where threads can be had.
+///
+/// A worker draws the number of a request, answers it and draws the next one. Worker `w` is author `w` of the history.
+pub fn run_batch<L: Language + Drop + Sync, G: Gate + Sync, R: Threads + Wait + Sync>(
+    rt: &R,
+    alloc: Global,
+    language: L,
+    site: L::Site,
+    requests: &Requests,
+    workers: u32,
+    gate: &G,
+) -> Result<BatchResult<L>, Memory>
+where
+    L::Site: Send + Sync,
+    L::Catalog: Send,
+    L::Fault: Send,
+    requires some { 1 ≤ workers }
+    requires few { workers ≤ MOST_WORKERS }
+    requires short { length requests.now ≤ MOST_ENTRIES }
+    requires facts { IsTrue (give_facts requests.now) }
+    ensures { IfOk result (λ r.
+        Whole L.meaning L.listed MOST_ENTRIES workers site requests.now r.replies r.history.entries) }
+{
+    let (shared, pass) = SharedSite::open(alloc, language, site, MOST_ENTRIES)?;
+    let (claims, seat) = Claims::new(alloc, requests.len() as u32)?;
+    let shares = shares(rt, alloc, &shared, &claims, pass, seat, workers)?;
+    let works = work(rt, alloc, &shared, &claims, requests, gate, shares)?;
+    let (pass, seat, answers) = gather(&shared, &claims, MOST_ENTRIES, works)?;
+    all_drawn(&claims, seat);
+    let replies = in_order(alloc, answers, requests.len())?;
+    Ok(BatchResult {
+        history: shared.close(pass),
+        replies: Replies::from_vec(replies),
+    })
+}
+
+/// A share for each worker, the first pass and seat among them.
+fn shares<L: Language + Drop, R: Wait>(
+    rt: &R,
+    alloc: Global,
+    site: &SharedSite<L>,
+    claims: &Claims,
+    mut pass: SitePass<L>,
+    mut seat: ClaimSeat,
+    workers: u32,
+) -> Result<Shares<L>, Memory>
+    requires pass { IsFirstPass site.now MOST_ENTRIES pass }
+    requires seat { seat ≡ first_seat claims.now }
+    requires some { 1 ≤ workers }
+    requires few { workers ≤ MOST_WORKERS }
+    ensures { IfOk result (λ r. AreShares site.now MOST_ENTRIES pass.front claims.now workers r.items) }
+{
+    let mut shares = Vec::with_capacity(alloc, workers as usize)?;
+    for _worker in 1..workers {
+        let other = site.split(rt, &mut pass)?;
+        let spare = claims.split(&mut seat)?;
+        shares.push((other, spare))?;
+    }
+    shares.push((pass, seat))?;
+    Ok(shares)
+}
+
+/// Has each share worked with.
+fn work<L: Language + Drop + Sync, G: Gate + Sync, R: Threads + Wait + Sync>(
+    rt: &R,
+    alloc: Global,
+    site: &SharedSite<L>,
+    claims: &Claims,
+    requests: &Requests,
+    gate: &G,
+    shares: Shares<L>,
+) -> Result<Vec<Work<L>>, Memory>
+where
+    L::Site: Send + Sync,
+    L::Catalog: Send,
+    L::Fault: Send,
+    requires shares { Each (IsIdle site.now claims.now) shares.items }
+    requires numbers { claims.now.count ≡ length requests.now }
+    requires facts { IsTrue (give_facts requests.now) }
+    ensures { IfOk result (λ r. AreWorked L.meaning L.listed requests.now shares.items r.items) }
+{
+    let mut jobs = Vec::with_capacity(alloc, shares.len())?;
+    for (pass, seat) in shares {
+        jobs.push(Worker {
+            alloc,
+            site,
+            claims,
+            requests,
+            gate,
+            pass,
+            seat,
+        })?;
+    }
+    run_jobs(rt, alloc, jobs)
+}
+
+/// Runs the jobs, side by side where threads can be had.
+fn run_jobs<'a, L: Language + Drop + Sync, G: Gate + Sync, R: Threads + Wait + Sync>(
+    rt: &R,
+    alloc: Global,
+    jobs: Vec<Worker<'a, L, G>>,
+) -> Result<Vec<Work<L>>, Memory>
+where
+    L::Site: Send + Sync,
+    L::Catalog: Send,
+    L::Fault: Send,
+    ensures { IfOk result (λ done. AllZip (λ w out. HasWorked L.meaning L.listed w.requests.now w.pass w.seat out.pass out.seat
+        (shown out.answers)) jobs.entry.items done.items) }
+{
+    Ok(run_waiting(rt, alloc, jobs)?)
+}
+
+/// A seat that stands for all seats, and found that no number is left, has each number once. It does nothing else.
+fn all_drawn(claims: &Claims, mut seat: ClaimSeat)
+    requires claims { seat.claims ≡ claims.now }
+    requires all { seat.room + seat.held ≡ 65536 }
+    requires past { claims.now.count ≤ seat.known }
+    ensures { (i : ℕ) → times i seat.numbers ≡ below claims.now.count i }
+{
+    let _ = claims.next(&mut seat);
+}

@@ -1,0 +1,51 @@
+//! What all workers come back with, as one.
+ghost use Rattle.std.specs.Prelude.{◌≡◌, IfOk};
+ghost use Rattle.site_batch.specs.Answers.{Each};
+ghost use Rattle.site_batch.specs.Gathered.{IsOf, AreGathered};
+
+use crate::answered::Answered;
+use crate::worked::Worked;
+use crate::worker::Work;
+use pp_values::memory::Memory;
+use shared_site::{SharedSite, SitePass};
+use site_core::language::Language;
+use site_core::reply::Reply;
+use work_pool::{ClaimSeat, Claims};
+
+/// A pass and a seat that stand for those of all workers, and all answers, where memory was had to keep each of them.
+pub fn gather<L: Language + Drop>(
+    site: &SharedSite<L>,
+    claims: &Claims,
+    limit: u32,
+    mut works: Vec<Work<L>>,
+) -> Result<(SitePass<L>, ClaimSeat, Vec<Answered<Reply<L>>>), Memory>
+    requires { Each (IsOf site.now limit claims.now) works.items }
+    ensures gathered { IfOk result (λ r. AreGathered works.items r.0 r.1 r.2.items) }
+    ensures of { IfOk result (λ r. (r.0.site ≡ site.now) × (r.0.limit ≡ limit) × (r.1.claims ≡ claims.now)) }
+{
+    let Some(first) = works.pop() else {
+        return Err(Memory);
+    };
+    let Worked {
+        mut pass,
+        mut seat,
+        answers: kept,
+    } = first;
+    let Some(mut answers) = kept else {
+        return Err(Memory);
+    };
+    while let Some(next) = works.pop() {
+        let Worked {
+            pass: other,
+            seat: spent,
+            answers: given,
+        } = next;
+        let Some(mut more) = given else {
+            return Err(Memory);
+        };
+        site.join(&mut pass, other);
+        claims.join(&mut seat, spent);
+        answers.append(&mut more)?;
+    }
+    Ok((pass, seat, answers))
+}

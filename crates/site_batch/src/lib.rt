@@ -1,0 +1,11 @@
+//! Requests to a site that workers share out, over any language.
+#![tactic(auto)]
+
+mod answered;
+pub mod batch;
+mod gather;
+mod order;
+mod worked;
+mod worker;
+
+pub use batch::{BatchResult, MOST_WORKERS, run_batch};

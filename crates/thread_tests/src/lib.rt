@@ -1,0 +1,11 @@
+//! The tests of sites that threads share, and of batches, over the toy language.
+#![tactic(auto)]
+
+#[cfg(test)]
+mod accounts;
+#[cfg(test)]
+mod batches;
+#[cfg(test)]
+mod crowds;
+#[cfg(test)]
+mod shared;

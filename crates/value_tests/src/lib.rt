@@ -1,4 +1,4 @@
-//! The tests of values: data types, operators, functions, scopes, and their text as JSON.
+//! The tests of values: data types, operators, functions, and their text as JSON.
 #![tactic(auto)]
 
 #[cfg(test)]
@@ -15,8 +15,6 @@ mod hashes;
 mod json;
 #[cfg(test)]
 mod operators;
-#[cfg(test)]
-mod scopes;
 #[cfg(test)]
 mod types;
 #[cfg(test)]

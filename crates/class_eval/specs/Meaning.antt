@@ -1,8 +1,10 @@
 -- What each part of a manifest means, with so many levels left.
 use Rattle.std.specs.Prelude.{ℕ, zero, suc, List}
 use Rattle.pp_tree.specs.Building.{form_of, line_of}
-use Rattle.pp_tree.specs.Layers.{FormLayer, Form-F, out-Form}
+use Rattle.pp_tree.specs.Layers.{FormLayer}
+use Rattle.pp_tree.specs.declared.collector.Test.TheOpen.{Form-F}
 use Rattle.pp_tree.specs.declared.expr.Expr.{Expr}
+use Rattle.pp_tree.specs.declared.expr.Form.{out-Form}
 use Rattle.pp_values.specs.Datum as d
 use Rattle.pp_values.specs.Datum.{Datum}
 use Rattle.pp_values.specs.declared.fault.What.TheVariants as what

@@ -1,13 +1,11 @@
 -- Statements and blocks.
 use Rattle.std.specs.Prelude.{ℕ, List, [], ◌∷◌, Option, Some, None}
-use Rattle.pp_tree.specs.Layers.{OperandLayer, StatementLayer, Operand-F, Statement-F, out-Operand, out-Statement}
-use Rattle.pp_tree.specs.declared.collector.Collector.{Collector}
-use Rattle.pp_tree.specs.declared.expr.Expr.{Expr}
-use Rattle.pp_tree.specs.declared.resource.Resource.{Resource}
+use Rattle.pp_tree.specs.Layers.{OperandLayer, StatementLayer}
+use Rattle.pp_tree.specs.declared.collector.Test.TheOpen.{Operand-F, Statement-F}
 use Rattle.pp_tree.specs.declared.statement.Chain.{Chain}
 use Rattle.pp_tree.specs.declared.statement.Link.{Link}
-use Rattle.pp_tree.specs.declared.statement.Operand.{Operand}
-use Rattle.pp_tree.specs.declared.statement.Statement.{Statement}
+use Rattle.pp_tree.specs.declared.statement.Operand.{Operand, out-Operand}
+use Rattle.pp_tree.specs.declared.statement.Statement.{Statement, out-Statement}
 use Rattle.pp_values.specs.Datum as d
 use Rattle.pp_values.specs.Datum.{Datum}
 use Rattle.eval_resources.specs.Resources.{resource_rule}

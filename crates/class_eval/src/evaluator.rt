@@ -30,7 +30,7 @@ pub struct Evaluator<'a> {
 impl<'a> Evaluator<'a> {
     /// Before any statement of the main manifest, for a node with these facts.
     pub fn start(alloc: Global, manifests: Manifests<'a>, node: &Text, facts: &Value) -> Result<Evaluator<'a>, Memory>
-        ensures { IfOk result (λ e. e.world ≡ started alloc manifests node.now (view facts.now)) }
+        ensures { IfOk result (λ e. e.world ≡ started alloc manifests.entry node.now (view facts.now)) }
     {
         Ok(Evaluator {
             world: start_world(alloc, manifests, node, facts)?,

@@ -37,7 +37,7 @@ pub fn form<F: Fn(&mut World<'_>, Goal<'_>, Here, u32) -> Result<Evaluated, Stop
     requires { Nests (M.within forms.now.left) forms.now.left (F.pre forms.now.inner) (F.post forms.now.inner) }
     ensures { Gives same (spec.value_rule (M.within forms.now.left) expr.now here world.old) result world.new }
 {
-    match expr.form.as_ref() {
+    match expr.form.get() {
         Form::Undef => Ok(Evaluated::new(Value::Undef)),
         Form::Flag(flag) => Ok(Evaluated::new(Value::Flag(*flag))),
         Form::Default => Ok(Evaluated::new(Value::Default)),
@@ -49,15 +49,15 @@ pub fn form<F: Fn(&mut World<'_>, Goal<'_>, Here, u32) -> Result<Evaluated, Stop
         Form::Type(name) => type_of(world, name, expr.at, here),
         Form::List(items) => list(forms, world, items, here),
         Form::Hash(pairs) => hash(forms, world, pairs, expr.at, here),
-        Form::Parentheses(within) => forms.value(world, within.as_ref(), here),
+        Form::Parentheses(within) => forms.value(world, within.get(), here),
         Form::Call(called) => call(forms, world, called, expr.at, here),
         Form::If(choice) => if_of(forms, world, choice, expr.at, here),
         Form::Unless(choice) => unless_of(forms, world, choice, expr.at, here),
         Form::Case(choice) => case_of(forms, world, choice, expr.at, here),
-        Form::Postfix(first, more) => postfixed(forms, world, first.as_ref(), more, expr.at, here),
-        Form::Prefix(operator, operand) => prefix(forms, world, *operator, operand.as_ref(), expr.at, here),
-        Form::Binary(first, more) => binary(forms, world, first.as_ref(), more, expr.at, here),
-        Form::Assign(name, value) => assigned(forms, world, name, value.as_ref(), expr.at, here),
+        Form::Postfix(first, more) => postfixed(forms, world, first.get(), more, expr.at, here),
+        Form::Prefix(operator, operand) => prefix(forms, world, *operator, operand.get(), expr.at, here),
+        Form::Binary(first, more) => binary(forms, world, first.get(), more, expr.at, here),
+        Form::Assign(name, value) => assigned(forms, world, name, value.get(), expr.at, here),
     }
 }
 

@@ -1,1 +1,3 @@
 mod Levels
+mod Nodes
+mod Pairs

@@ -1,8 +1,7 @@
 -- What top scope holds before evaluation.
 use Rattle.std.specs.Prelude.{ℕ, nat_lt, ◌==◌, Bool, false, ◌&&◌, ◌||◌, if◌then◌else◌, List, [], ◌∷◌, length, codes}
 use Rattle.std.specs.Char.{is_ascii_lowercase, is_ascii_alphanumeric}
-use Rattle.std.specs.List.{list_all}
-use Rattle.std.specs.Slice.{before_first, after_first, position_or_len}
+use Rattle.std.specs.List.{list_all, before_first, after_first, position_or_len}
 use Rattle.pp_values.specs.Datum as d
 use Rattle.pp_values.specs.Datum.{Datum, Pair, entries_of, pairs_of}
 use Rattle.scope_core.specs.Names.{Name}

@@ -36,8 +36,8 @@ abbrev pub main_row : Row
 main_row = record (new_row main_class mode.Plain) { bound = Some [] }
 
 -- `Class[main]` is declaration 0, and top scope has its names
+abbrev pub begun : Name → Datum → World → World
+begun node facts w = record w { scopes = with_top_names node facts w.scopes; book = main_row ∷ [] }
+
 abbrev pub started : Global → Manifests → Name → Datum → World
-started alloc manifests node facts = record (empty alloc manifests) {
-  scopes = with_top_names node facts (empty alloc manifests).scopes;
-  book = main_row ∷ [];
-}
+started alloc manifests node facts = begun node facts (empty alloc manifests)

@@ -7,10 +7,10 @@ ghost use Rattle.class_eval.specs.Starting.{started};
 ghost use Rattle.eval_world.specs.Outcomes.{Gives, nothing, same};
 
 use crate::knot::{Whole, evaluate};
+use crate::nodes::first_node;
 use crate::starting::start_world;
 use crate::statements::block;
 use eval_world::{Evaluated, Forms, Goal, Here, Manifests, World};
-use pp_tree::definition::Definition;
 use pp_tree::expr::Expr;
 use pp_tree::statement::Block;
 use pp_tree::table::Table;

@@ -19,10 +19,17 @@ pub fn start_world<'a>(
     ensures { IfOk result (λ w. w ≡ spec.started alloc manifests.entry node.now (view facts.now)) }
 {
     let mut world = World::new(alloc, manifests)?;
-    let at = main_place(alloc)?;
-    put_top_names(alloc, &mut world.scopes, node, facts, &at)?;
-    declare_main(alloc, &mut world.book)?;
+    begin(&mut world, node, facts)?;
     Ok(world)
+}
+
+fn begin(world: &mut World<'_>, node: &Text, facts: &Value) -> Result<(), Memory>
+    requires { world.old.book ≡ [] }
+    ensures { OnOk result (world.new ≡ spec.begun node.now (view facts.now) world.old) }
+{
+    let at = main_place(world.alloc)?;
+    put_top_names(world.alloc, &mut world.scopes, node, facts, &at)?;
+    declare_main(world.alloc, &mut world.book)
 }
 
 fn main_place(alloc: Global) -> Result<Place, Memory>

@@ -22,7 +22,7 @@ pub fn put_top_names(
     ensures { OnOk result (scopes.new ≡ spec.with_top_names node.now (view facts.now) scopes.old) }
 {
     put_given(alloc, scopes, node, facts, at)?;
-    put_facts_within(alloc, scopes, facts, at)
+    put_facts(alloc, scopes, pairs_within(facts), at)
 }
 
 fn put_given(alloc: Global, scopes: &mut Scopes, node: &Text, facts: &Value, at: &Place) -> Result<(), Memory>
@@ -53,12 +53,13 @@ fn put_new(alloc: Global, scopes: &mut Scopes, name: &Text, value: Value, at: &P
     }
 }
 
-fn put_facts_within(alloc: Global, scopes: &mut Scopes, facts: &Value, at: &Place) -> Result<(), Memory>
-    ensures { OnOk result (scopes.new ≡ spec.with_facts (spec.pairs_within (view facts.now)) scopes.old) }
+#[tactic(auto, using(crate::proofs::Pairs::pairs_back))]
+fn pairs_within(facts: &Value) -> &[(Value, Value)]
+    ensures { pair_views result.now ≡ spec.pairs_within (view facts.now) }
 {
     match facts {
-        Value::Hash(pairs) => put_facts(alloc, scopes, pairs.as_slice(), at),
-        _ => Ok(()),
+        Value::Hash(pairs) => pairs.as_slice(),
+        _ => &[],
     }
 }
 
@@ -91,8 +92,14 @@ fn is_variable(name: &[u8]) -> bool
 {
     match name {
         [] => false,
-        [first, more @ ..] => begins_variable(*first) && more.iter().all(|byte| goes_on(*byte)),
+        [first, more @ ..] => begins_variable(*first) && all_go_on(more),
     }
+}
+
+fn all_go_on(bytes: &[u8]) -> bool
+    ensures { result ≡ list_all spec.goes_on bytes.now }
+{
+    bytes.iter().all(|byte| goes_on(*byte))
 }
 
 fn begins_variable(byte: u8) -> bool

@@ -1,3 +1,3 @@
 mod Levels
-mod Nodes
+mod NodeLines
 mod Pairs

@@ -1,5 +1,5 @@
 -- What the calls of an evaluator mean.
-use Rattle.std.specs.Prelude.{ℕ, ◌-◌, List, [], ◌∷◌, Option, None, Some, option_map, unwrap_or}
+use Rattle.std.specs.Prelude.{ℕ, ◌+◌, ◌-◌, List, [], ◌∷◌, Option, None, Some, option_map, unwrap_or}
 use Rattle.std.specs.Option.{option_or}
 use Rattle.pp_tree.specs.Tables.{Entries}
 use Rattle.pp_tree.specs.declared.definition.Definition.{Definition}

@@ -25,4 +25,4 @@ returns-in-Class t c =
 pub returns-in-Instance : goal.returns-in-Instance
 returns-in-Instance t c =
     rw (one_level c.args.left c.args.goal c.args.here c.args.world.now c.if-left-eq0.false, c.in-Instance.is)
-    c.not_built.ensures
+    c.not_built-in-Instance.ensures

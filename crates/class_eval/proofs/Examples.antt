@@ -36,7 +36,7 @@ variable = refl
 
 no_variables : (is_variable (codes "Os") ≡ false) × (is_variable (codes "2os") ≡ false)
     × (is_variable (codes "o-s") ≡ false) × (is_variable []) ≡ false
-no_variables = refl, refl, refl, refl
+no_variables = (refl, refl, refl, refl)
 
 -- ---- depth
 

@@ -138,10 +138,17 @@ impl Scopes {
     ) -> Result<&Value, Stop>
         ensures { Reads (spec.read scope.number name.now at.now self.now) result }
     {
-        match self.found(scope.number, name.as_str().as_bytes()) {
+        match self.get(scope, name) {
             Some(value) => Ok(value),
             None => Err(Stop::from(unknown(alloc, name, at)?)),
         }
+    }
+
+    /// The value of a name as it is written after `$`, where it has one.
+    pub fn get(&self, scope: ScopeId, name: &Text) -> Option<&Value>
+        ensures { option_map (λ v. view v.now) result ≡ spec.found scope.number name.now self.now }
+    {
+        self.found(scope.number, name.as_str().as_bytes())
     }
 
     #[tactic(auto, unfolding(crate::specs::Scopes::found))]

@@ -1,0 +1,72 @@
+-- The definitions at worked examples. Each line with `refl` holds by computing.
+use Rattle.std.proofs.Common.{◌≡◌, ℕ, true, false, List, [], ◌∷◌, None, Some, Ok, Err, refl, codes, pos}
+use Rattle.pp_tree.specs.Building.{expr_at}
+use Rattle.pp_tree.specs.declared.expr.Expr.{Expr}
+use Rattle.pp_tree.specs.declared.expr.Form as forms
+use Rattle.pp_tree.specs.declared.expr.Form.TheVariants as f
+use Rattle.pp_values.specs.Datum as d
+use Rattle.pp_values.specs.Datum.{Datum}
+use Rattle.pp_values.specs.Faults.{fault}
+use Rattle.pp_values.specs.declared.fault.What.TheVariants as what
+use Rattle.class_eval.specs.Evaluating.{value_at, block_at}
+use Rattle.class_eval.specs.Facts.{host_of, domain_of, is_variable}
+use Rattle.class_eval.specs.Meaning.{within, value_rule}
+use Rattle.class_eval.specs.Statements.{statements_from, or_before}
+use Rattle.eval_world.specs.Worlds.{top, place_at}
+use Rattle.eval_world.specs.declared.world.World.{World}
+
+-- ---- the name of a node
+
+host : host_of (codes "web1.example.com") ≡ d.text (codes "web1")
+host = refl
+
+domain : domain_of (codes "web1.example.com") ≡ d.text (codes "example.com")
+domain = refl
+
+no_domain : domain_of (codes "web1") ≡ d.undef
+no_domain = refl
+
+-- ---- names of top scope
+
+variable : is_variable (codes "os_2") ≡ true
+variable = refl
+
+no_variables : (is_variable (codes "Os") ≡ false) × (is_variable (codes "2os") ≡ false)
+    × (is_variable (codes "o-s") ≡ false) × (is_variable []) ≡ false
+no_variables = (refl, refl, refl, refl)
+
+-- ---- depth
+
+-- `1` on line 7, and the same in parentheses on line 6
+abbrev one : Expr
+one = expr_at 7 (f.Number (pos 1))
+
+abbrev deeper : Expr
+deeper = expr_at 6 (f.Parentheses one)
+
+deepest_value : (w : World) → value_at one top 1000 w ≡ Ok (d.int (pos 1), w)
+unfolding within value_rule forms.out-Form denote.Hole.Carrier.out
+deepest_value w = refl
+
+-- no level is left
+too_deep : (w : World) → value_at deeper top 1001 w ≡ Err (fault (place_at w top 6) what.DepthLimit)
+unfolding within
+too_deep w = refl
+
+-- ---- blocks
+
+empty_block : (w : World) → block_at [] 5 top 1000 w ≡ Ok (d.undef, w)
+unfolding within statements_from
+empty_block w = refl
+
+-- it is refused at the line of what it belongs to
+block_too_deep : (w : World) → block_at [] 5 top 1001 w ≡ Err (fault (place_at w top 5) what.DepthLimit)
+unfolding within
+block_too_deep w = refl
+
+-- the value of a statement that gives none is that of the one before
+no_value : or_before None (d.flag true) ≡ d.flag true
+no_value = refl
+
+a_value : or_before (Some d.undef) (d.flag true) ≡ d.undef
+a_value = refl

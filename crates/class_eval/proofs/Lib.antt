@@ -1,0 +1,4 @@
+mod Examples
+mod Levels
+mod NodeLines
+mod Pairs

@@ -1,0 +1,6 @@
+pub mod Arguments
+pub mod Inner
+pub mod Nests
+pub mod Outcomes
+pub mod Owners
+pub mod Worlds

@@ -1,0 +1,81 @@
+-- The steps that read and change one table of the world.
+use Rattle.std.specs.Prelude.{ℕ, List, [], ◌∷◌, ◌++◌, length, Result, Ok, Err}
+use Rattle.std.specs.declared.alloc.Global.{Global}
+use Rattle.pp_values.specs.Answers.{and_then}
+use Rattle.pp_values.specs.Datum.{Datum}
+use Rattle.pp_values.specs.Faults as faults
+use Rattle.pp_values.specs.declared.fault.Fault.{Fault}
+use Rattle.pp_values.specs.declared.fault.What.{What}
+use Rattle.pp_values.specs.declared.fault.What.TheVariants as what
+use Rattle.pp_values.specs.declared.place.Place.{Place}
+use Rattle.res_book.specs.Relations.{no_relations}
+use Rattle.scope_core.specs.Scopes as scopes
+use Rattle.scope_core.specs.Scopes.{Scopes}
+use Rattle.scope_core.specs.declared.scope_kind.ScopeKind.TheVariants as kind
+use Rattle.eval_world.specs.Outcomes.{Outcome, Step, answered}
+use Rattle.eval_world.specs.Owners.{owner_at, main_alone}
+use Rattle.eval_world.specs.declared.here.Here.{Here}
+use Rattle.eval_world.specs.declared.manifests.Manifests.{Manifests}
+use Rattle.eval_world.specs.declared.world.World.{World}
+
+-- before anything was evaluated
+abbrev pub empty : Global → Manifests → World
+empty alloc manifests = record {
+  alloc = alloc;
+  manifests = manifests;
+  scopes = scopes.top_alone;
+  owners = main_alone;
+  book = [];
+  overrides = record { lines = []; scopes = []; defaults = [] };
+  relations = no_relations;
+  log = [];
+}
+
+-- where the statements of the main manifest are evaluated
+abbrev pub top : Here
+top = record { scope = record { number = 0 }; owner = 0 }
+
+-- ---- places and faults
+
+-- a line of the file whose code is evaluated
+abbrev pub place_at : World → Here → ℕ → Place
+place_at w here line = record { file = (owner_at here.owner w.owners).file; line = line }
+
+-- this fault, at a line of that file
+abbrev pub fault : {A : Type 0} → Here → ℕ → What → Step A
+fault here line details = λ w. Err (faults.fault (place_at w here line) details)
+
+-- a form that is read and not evaluated yet
+abbrev pub not_built : {A : Type 0} → Here → ℕ → Step A
+not_built here line = fault here line what.NotBuilt
+
+-- ---- variables
+
+unfoldable pub read : Here → List ℕ → ℕ → Step Datum
+read here x line = λ w. answered (scopes.read here.scope.number x (place_at w here line) w.scopes) w
+
+abbrev pub with_scopes : Result Scopes Fault → Step (Unit {0})
+with_scopes (Ok s) = λ w. Ok (tt, record w { scopes = s })
+with_scopes (Err f) = λ w. Err f
+
+unfoldable pub assign : Here → List ℕ → Datum → ℕ → Step (Unit {0})
+assign here x d line = λ w. with_scopes (scopes.assign here.scope.number x d (place_at w here line) w.scopes) w
+
+-- ---- calls of lambdas
+
+-- where the body of a lambda that stands here is evaluated
+unfoldable pub enter_lambda : Here → Step Here
+enter_lambda here = λ w. Ok (
+  record { scope = record { number = length w.scopes.scopes }; owner = here.owner },
+  record w { scopes = scopes.entered kind.Lambda here.scope.number w.scopes })
+
+abbrev pub left : Here → World → World
+left here w = record w { scopes = scopes.left here.scope.number w.scopes }
+
+abbrev pub leave : Here → Step (Unit {0})
+leave here = λ w. Ok (tt, left here w)
+
+-- ---- the log
+
+unfoldable pub write_log : List ℕ → List ℕ → Step (Unit {0})
+write_log level text = λ w. Ok (tt, record w { log = w.log ++ record { level = level; text = text } ∷ [] })

@@ -1,0 +1,74 @@
+//! Arguments, and the members of a list.
+ghost use Rattle.std.specs.Prelude.{◌≡◌, ◌++◌, [], IfOk};
+ghost use Rattle.pp_values.specs.Views.{view, views};
+ghost use Rattle.eval_world.specs.Arguments as spec;
+ghost use Rattle.eval_world.specs.Nests.{Nests};
+ghost use Rattle.eval_world.specs.Outcomes.{Gives, same};
+
+use crate::evaluated::Evaluated;
+use crate::forms::Forms;
+use crate::goal::Goal;
+use crate::here::Here;
+use crate::meaning::Meaning;
+use crate::world::World;
+use expr_eval::splice;
+use pp_tree::expr::{Args, Expr, Form};
+use pp_tree::operators::PrefixOperator;
+use pp_values::{Memory, Stop, Value, Values};
+use std::alloc::Global;
+
+impl<F: Fn(&mut World<'_>, Goal<'_>, Here, u32) -> Result<Evaluated, Stop>, M: Meaning> Forms<F, M> {
+    /// The values of arguments or of a list's members, in order, where `*` splices.
+    #[tactic(auto, unfolding(crate::specs::Arguments::values_from))]
+    pub fn values(&self, world: &mut World<'_>, args: &Args, here: Here) -> Result<Values, Stop>
+        requires { Nests (M.within self.now.left) self.now.left (F.pre self.now.inner) (F.post self.now.inner) }
+        ensures { Gives same (spec.values_from (M.within self.now.left) [] args.now here world.old) result world.new }
+    {
+        let mut done = Values::new(world.alloc);
+        let mut rest = args.as_slice();
+        while let Some((arg, more)) = rest.split_first() {
+            done = self.with_argument(world, done, arg, here)?;
+            rest = more;
+        }
+        Ok(done)
+    }
+
+    #[tactic(auto, unfolding(crate::specs::Arguments::argument_rule))]
+    fn with_argument(&self, world: &mut World<'_>, done: Values, arg: &Expr, here: Here) -> Result<Values, Stop>
+        requires { Nests (M.within self.now.left) self.now.left (F.pre self.now.inner) (F.post self.now.inner) }
+        ensures { Gives same (spec.argument_rule (M.within self.now.left) done arg.now here world.old) result world.new }
+    {
+        let value = self.value(world, arg, here)?;
+        Ok(with_given(world.alloc, done, is_splat(arg), value)?)
+    }
+}
+
+/// Whether an argument is written with `*`.
+fn is_splat(arg: &Expr) -> bool
+    ensures { result ≡ spec.is_splat arg.now }
+{
+    match arg.form.get() {
+        Form::Prefix(PrefixOperator::Splat, _) => true,
+        _ => false,
+    }
+}
+
+/// The values and this one, or its members where it is spliced.
+fn with_given(alloc: Global, mut done: Values, is_spliced: bool, value: Evaluated) -> Result<Values, Memory>
+    ensures { IfOk result (λ l. l ≡ done ++ spec.given is_spliced value) }
+{
+    if is_spliced {
+        return appended(done, splice(alloc, value.as_value())?);
+    }
+    done.push(value.into_value())?;
+    Ok(done)
+}
+
+/// The values and these behind them.
+fn appended(done: Values, more: Values) -> Result<Values, Memory>
+    ensures { IfOk result (λ l. l ≡ done ++ more) }
+{
+    let mut items = done.into_vec();
+    items.append(&mut more.into_vec())?;
+    Ok(Values::from_vec(items))
+}

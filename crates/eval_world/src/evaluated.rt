@@ -1,0 +1,59 @@
+ghost use Rattle.std.specs.Prelude.{◌≡◌, IfOk};
+ghost use Rattle.pp_values.specs.Views.{view};
+
+use pp_values::{Memory, Value, copy};
+use std::alloc::Global;
+use std::marker::Model;
+
+/// A value that an evaluation gave. Contracts see what it says.
+pub struct Evaluated {
+    value: Value,
+}
+
+// By hand, so that letting one go is one step for whoever holds it.
+impl Drop for Evaluated {
+    fn drop(self) {
+        let Evaluated { value: _value } = self;
+    }
+}
+
+impl Model for Evaluated {
+    ghost use Rattle.pp_values.specs.Codes.{coded_datum};
+    ghost use Rattle.pp_values.specs.Datum.{Datum};
+
+    ghost Value = { Datum };
+
+    ghost coded = { coded_datum };
+
+    ghost use Rattle.pp_values.specs.Views.{view as said};
+
+    ghost view = { λ e. said e.value };
+}
+
+impl Evaluated {
+    pub fn new(value: Value) -> Evaluated
+        ensures { result ≡ view value }
+    {
+        Evaluated { value }
+    }
+
+    /// A value like this one.
+    pub fn copy_of(alloc: Global, value: &Value) -> Result<Evaluated, Memory>
+        ensures { IfOk result (λ e. e ≡ view value.now) }
+    {
+        Ok(Evaluated::new(copy(alloc, value)?))
+    }
+
+    pub fn as_value(&self) -> &Value
+        ensures { view result.now ≡ self.now }
+    {
+        &self.value
+    }
+
+    pub fn into_value(self) -> Value
+        ensures { view result ≡ self }
+    {
+        let Evaluated { value } = self;
+        value
+    }
+}

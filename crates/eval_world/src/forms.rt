@@ -1,0 +1,62 @@
+ghost use Rattle.eval_world.specs.Nests.{Nests};
+ghost use Rattle.eval_world.specs.Outcomes.{Gives, same};
+
+use crate::evaluated::Evaluated;
+use crate::goal::Goal;
+use crate::here::Here;
+use crate::meaning::Meaning;
+use crate::world::World;
+use pp_tree::expr::Expr;
+use pp_tree::statement::{Block, Words};
+use pp_values::Stop;
+use std::marker::PhantomData;
+
+/// What a form of the language is given: the function that evaluates its parts, and how many levels are left for them.
+#[derive(Clone, Copy)]
+pub struct Forms<F, M> {
+    pub left: u32,
+    pub inner: F,
+    pub meaning: PhantomData<M>,
+}
+
+impl<F: Fn(&mut World<'_>, Goal<'_>, Here, u32) -> Result<Evaluated, Stop>, M: Meaning> Forms<F, M> {
+    /// The value of an expression that stands one level further in.
+    pub fn value(&self, world: &mut World<'_>, expr: &Expr, here: Here) -> Result<Evaluated, Stop>
+        requires { Nests (M.within self.now.left) self.now.left (F.pre self.now.inner) (F.post self.now.inner) }
+        ensures { Gives same ((M.within self.now.left).value expr.now here world.old) result world.new }
+    {
+        (self.inner)(world, Goal::Value(expr), here, self.left)
+    }
+
+    /// The value of a block that stands one level further in, and belongs to what begins at this line.
+    pub fn block(&self, world: &mut World<'_>, block: &Block, line: u32, here: Here) -> Result<Evaluated, Stop>
+        requires { Nests (M.within self.now.left) self.now.left (F.pre self.now.inner) (F.post self.now.inner) }
+        ensures { Gives same ((M.within self.now.left).block block.now line here world.old) result world.new }
+    {
+        (self.inner)(world, Goal::Block(block, line), here, self.left)
+    }
+
+    /// The value of a call without parentheses.
+    pub fn words(&self, world: &mut World<'_>, words: &Words, here: Here) -> Result<Evaluated, Stop>
+        requires { Nests (M.within self.now.left) self.now.left (F.pre self.now.inner) (F.post self.now.inner) }
+        ensures { Gives same ((M.within self.now.left).words words.now here world.old) result world.new }
+    {
+        (self.inner)(world, Goal::Words(words), here, self.left)
+    }
+
+    /// The body of the class of this declaration.
+    pub fn class(&self, world: &mut World<'_>, number: u32, line: u32, here: Here) -> Result<Evaluated, Stop>
+        requires { Nests (M.within self.now.left) self.now.left (F.pre self.now.inner) (F.post self.now.inner) }
+        ensures { Gives same ((M.within self.now.left).class number line here world.old) result world.new }
+    {
+        (self.inner)(world, Goal::Class(number, line), here, self.left)
+    }
+
+    /// The instance of this declaration.
+    pub fn instance(&self, world: &mut World<'_>, number: u32, line: u32, here: Here) -> Result<Evaluated, Stop>
+        requires { Nests (M.within self.now.left) self.now.left (F.pre self.now.inner) (F.post self.now.inner) }
+        ensures { Gives same ((M.within self.now.left).instance number line here world.old) result world.new }
+    {
+        (self.inner)(world, Goal::Instance(number, line), here, self.left)
+    }
+}

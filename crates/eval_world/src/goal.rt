@@ -1,0 +1,15 @@
+use pp_tree::expr::Expr;
+use pp_tree::statement::{Block, Words};
+
+/// What is evaluated one level further in. A block, a class body and an instance come with the line at which they are
+/// refused where they stand too deep: that of the expression, statement or definition that they belong to.
+#[derive(Clone, Copy)]
+pub enum Goal<'t> {
+    Value(&'t Expr),
+    Block(&'t Block, u32),
+    Words(&'t Words),
+    /// The body of a class, by the number of its declaration.
+    Class(u32, u32),
+    /// An instance of a define, by the number of its declaration.
+    Instance(u32, u32),
+}

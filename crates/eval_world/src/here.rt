@@ -1,0 +1,24 @@
+ghost use Rattle.std.specs.Prelude.{◌≡◌};
+ghost use Rattle.eval_world.specs.Worlds.{top};
+
+use scope_core::ScopeId;
+
+/// Where an evaluation stands: the scope that names are read in, and the number of the owner whose code is evaluated.
+/// A lambda has a scope of its own and the owner that it is within.
+#[derive(Clone, Copy, Debug, PartialEq, Eq)]
+pub struct Here {
+    pub scope: ScopeId,
+    pub owner: u32,
+}
+
+impl Here {
+    /// Where the statements of the main manifest are evaluated.
+    pub fn top() -> Here
+        ensures { result ≡ top }
+    {
+        Here {
+            scope: ScopeId { number: 0 },
+            owner: 0,
+        }
+    }
+}

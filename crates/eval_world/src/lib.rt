@@ -1,0 +1,24 @@
+//! The world of an evaluation: what a compile has made so far, and what each form of the language is given to evaluate
+//! the parts that stand one level further in.
+#![tactic(auto)]
+
+mod arguments;
+mod evaluated;
+mod forms;
+mod goal;
+mod here;
+mod manifests;
+mod meaning;
+mod owner;
+mod owners;
+mod world;
+
+pub use evaluated::Evaluated;
+pub use forms::Forms;
+pub use goal::Goal;
+pub use here::Here;
+pub use manifests::Manifests;
+pub use meaning::Meaning;
+pub use owner::Owner;
+pub use owners::{MAIN_SOURCE, Owners};
+pub use world::World;

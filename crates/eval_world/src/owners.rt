@@ -1,0 +1,73 @@
+ghost use Rattle.std.specs.Prelude.{◌≡◌, ◌+◌, length, is_ok, if◌then◌else◌, IfOk};
+ghost use Rattle.eval_world.specs.Owners.{owner_at, main_alone, with_owner};
+
+use crate::owner::Owner;
+use pp_values::{MAIN_MANIFEST, Memory, Text};
+use std::alloc::Global;
+use std::marker::Model;
+
+/// The source of what stands in no class, define or node.
+pub const MAIN_SOURCE: &str = "class main";
+
+/// The owners of a compile by number. The first is the main manifest.
+#[derive(Drop)]
+pub struct Owners {
+    main: Owner,
+    others: Vec<Owner>,
+}
+
+impl Model for Owners {
+    ghost use Rattle.eval_world.specs.Owners.{Owners as Seen, coded_owners};
+
+    ghost Value = { Seen };
+
+    ghost coded = { coded_owners };
+
+    ghost view = { λ o. record { main = o.main; others = o.others.items } };
+}
+
+impl Owners {
+    /// The main manifest alone, whose container is declaration 0.
+    pub fn new(alloc: Global) -> Result<Owners, Memory>
+        ensures { IfOk result (λ o. o ≡ main_alone) }
+    {
+        let file = Text::from_str(alloc, MAIN_MANIFEST)?;
+        let source = Text::from_str(alloc, MAIN_SOURCE)?;
+        Ok(Owners {
+            main: Owner {
+                file,
+                source,
+                resource: 0,
+                scope: 0,
+            },
+            others: Vec::new(alloc),
+        })
+    }
+
+    /// The owner of this number, and the main manifest where there is none.
+    #[tactic(auto, unfolding(crate::specs::Owners::owner_at))]
+    pub fn get(&self, number: u32) -> &Owner
+        ensures { result.now ≡ owner_at number self.now }
+    {
+        if number == 0 {
+            return &self.main;
+        }
+        match self.others.get(number as usize - 1) {
+            Some(owner) => owner,
+            None => &self.main,
+        }
+    }
+
+    /// Adds an owner. The answer is its number. Where there is no memory, all stays as it was.
+    pub fn add(&mut self, owner: Owner) -> Result<u32, Memory>
+        ensures number { IfOk result (λ n. n ≡ length self.old.others + 1) }
+        ensures owners { self.new ≡ (if is_ok result then with_owner owner self.old else self.old) }
+    {
+        let number = self.others.len() + 1;
+        let Ok(number) = u32::try_from(number) else {
+            return Err(Memory);
+        };
+        self.others.push(owner)?;
+        Ok(number)
+    }
+}

@@ -1,0 +1,156 @@
+ghost use Rattle.std.specs.Prelude.{◌≡◌, IfOk};
+ghost use Rattle.pp_values.specs.Faults.{fault};
+ghost use Rattle.eval_world.specs.Outcomes.{Gives, nothing, same};
+ghost use Rattle.eval_world.specs.Worlds as spec;
+
+use crate::evaluated::Evaluated;
+use crate::here::Here;
+use crate::manifests::Manifests;
+use crate::owners::Owners;
+use override_rules::Overrides;
+use pp_values::{Fault, Memory, Place, Stop, Text, What};
+use res_book::{Book, Relations};
+use res_core::{LogLine, LogLines};
+use scope_core::{ScopeKind, Scopes};
+use std::alloc::Global;
+
+/// All that a compile has made so far. Nothing in it is replaced: its lists only grow, but for the scopes of calls of
+/// lambdas that have ended.
+pub struct World<'a> {
+    pub alloc: Global,
+    pub manifests: Manifests<'a>,
+    pub scopes: Scopes,
+    pub owners: Owners,
+    pub book: Book,
+    pub overrides: Overrides,
+    pub relations: Relations,
+    pub log: LogLines,
+}
+
+// By hand, so that no crate above proves the drops of the tables again.
+impl<'a> Drop for World<'a> {
+    fn drop(self) {
+        let World {
+            alloc: _alloc,
+            manifests: _manifests,
+            scopes: _scopes,
+            owners: _owners,
+            book: _book,
+            overrides: _overrides,
+            relations: _relations,
+            log: _log,
+        } = self;
+    }
+}
+
+impl<'a> World<'a> {
+    /// The world before anything was evaluated: the empty top scope, the main manifest as the one owner, and no
+    /// declaration.
+    pub fn new(alloc: Global, manifests: Manifests<'a>) -> Result<World<'a>, Memory>
+        ensures { IfOk result (λ w. w ≡ spec.empty alloc manifests.entry) }
+    {
+        Ok(World {
+            alloc,
+            manifests,
+            scopes: Scopes::new(alloc)?,
+            owners: Owners::new(alloc)?,
+            book: Book::new(alloc),
+            overrides: Overrides::new(alloc),
+            relations: Relations::new(alloc),
+            log: LogLines::new(alloc),
+        })
+    }
+
+    /// The tables that finishing reads, and the lines of the log.
+    pub fn into_parts(self) -> (Book, Overrides, Relations, LogLines)
+        ensures book { result.0 ≡ self.entry.book }
+        ensures overrides { result.1 ≡ self.entry.overrides }
+        ensures relations { result.2 ≡ self.entry.relations }
+        ensures log { result.3 ≡ self.entry.log }
+    {
+        let World {
+            alloc: _alloc,
+            manifests: _manifests,
+            scopes: _scopes,
+            owners: _owners,
+            book,
+            overrides,
+            relations,
+            log,
+        } = self;
+        (book, overrides, relations, log)
+    }
+
+    /// A line of the file whose code is evaluated.
+    pub fn place(&self, here: Here, line: u32) -> Result<Place, Memory>
+        ensures { IfOk result (λ p. p ≡ spec.place_at self.now here line) }
+    {
+        Ok(Place {
+            file: self.owners.get(here.owner).file.copy(self.alloc)?,
+            line,
+        })
+    }
+
+    /// A fault at a line of the file whose code is evaluated.
+    pub fn fault(&self, here: Here, line: u32, what: What) -> Result<Fault, Memory>
+        ensures { IfOk result (λ f. f ≡ fault (spec.place_at self.now here line) what) }
+    {
+        let at = self.place(here, line)?;
+        Fault::new(self.alloc, at, what)
+    }
+
+    /// A form of the language that is read and not evaluated yet.
+    pub fn not_built(&self, here: Here, line: u32) -> Result<Evaluated, Stop>
+        ensures { Gives same (spec.not_built here line self.now) result self.now }
+    {
+        Err(Stop::Fault(self.fault(here, line, What::NotBuilt)?))
+    }
+
+    /// The value of a variable, by its name as it is written after `$`.
+    #[tactic(auto, unfolding(crate::specs::Worlds::read, scope_core::specs::Scopes::read))]
+    pub fn read(&self, here: Here, name: &Text, line: u32) -> Result<Evaluated, Stop>
+        ensures { Gives same (spec.read here name.now line self.now) result self.now }
+    {
+        match self.scopes.get(here.scope, name) {
+            Some(value) => Ok(Evaluated::copy_of(self.alloc, value)?),
+            None => {
+                let name = name.copy(self.alloc)?;
+                Err(Stop::Fault(self.fault(here, line, What::UnknownVariable(name))?))
+            }
+        }
+    }
+
+    /// Sets a variable. F3 is placed at this line.
+    #[tactic(auto, unfolding(crate::specs::Worlds::assign))]
+    pub fn assign(&mut self, here: Here, name: &Text, value: Evaluated, line: u32) -> Result<(), Stop>
+        ensures { Gives nothing (spec.assign here name.now value line self.old) result self.new }
+    {
+        let at = self.place(here, line)?;
+        self.scopes.assign(self.alloc, here.scope, name, value.into_value(), &at)
+    }
+
+    /// The scope of one call of a lambda that stands here.
+    #[tactic(auto, unfolding(crate::specs::Worlds::enter_lambda))]
+    pub fn enter_lambda(&mut self, here: Here) -> Result<Here, Stop>
+        ensures { Gives same (spec.enter_lambda here self.old) result self.new }
+    {
+        let scope = self.scopes.enter(self.alloc, ScopeKind::Lambda, here.scope)?;
+        Ok(Here { scope, owner: here.owner })
+    }
+
+    /// Ends the scope of a call of a lambda.
+    pub fn leave(&mut self, here: Here)
+        ensures { self.new ≡ spec.left here self.old }
+    {
+        self.scopes.leave(here.scope);
+    }
+
+    /// Writes a line of the log.
+    #[tactic(auto, unfolding(crate::specs::Worlds::write_log))]
+    pub fn write_log(&mut self, level: Text, text: Text) -> Result<(), Stop>
+        ensures { Gives nothing (spec.write_log level text self.old) result self.new }
+    {
+        self.log.push(LogLine { level, text })?;
+        Ok(())
+    }
+}

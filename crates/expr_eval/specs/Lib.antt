@@ -1,0 +1,12 @@
+pub mod Truth
+pub mod Faults
+pub mod TypeValues
+pub mod Heads
+pub mod Combining
+pub mod Testing
+pub mod Spreading
+pub mod Names
+pub mod Turns
+pub mod Gathering
+pub mod Kept
+pub mod Texts

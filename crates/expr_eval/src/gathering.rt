@@ -1,0 +1,155 @@
+//! What the functions that go through a list or a hash make of what their lambda gave.
+ghost use Rattle.std.specs.Prelude.{◌≡◌, ◌++◌, ◌∷◌, [], IfOk, OnOk};
+ghost use Rattle.std.specs.List.{list_all, list_any};
+ghost use Rattle.pp_values.specs.Views.{view, views, pair_views};
+ghost use Rattle.expr_eval.specs.Gathering.{kept, filtered, gathered, decides};
+ghost use Rattle.expr_eval.specs.Kept.{told_member, told_pair};
+ghost use Rattle.expr_eval.specs.Truth.{is_true};
+
+use crate::functions::Iteration;
+use crate::truth::is_true;
+use pp_values::copying::{copy, copy_values};
+use pp_values::memory::Memory;
+use pp_values::pairs::Pairs;
+use pp_values::value::Value;
+use pp_values::values::Values;
+use std::alloc::Global;
+
+/// The value of `each`, `map`, `filter`, `any` or `all` of this value, where the lambda gave these results, in the order
+/// of the turns: all of them, or for `any` and `all` those up to the one that decides.
+pub fn gather(
+    alloc: Global,
+    function: Iteration,
+    value: &Value,
+    results: &Values,
+) -> Result<Value, Memory>
+    ensures { IfOk result (λ v. view v ≡ gathered function (view value.now) results.now) }
+{
+    match function {
+        Iteration::Each => copy(alloc, value),
+        Iteration::Map => Ok(Value::List(copy_values(alloc, results)?)),
+        Iteration::Filter => filtered(alloc, value, results.as_slice()),
+        Iteration::Any => Ok(Value::Flag(some_true(results.as_slice()))),
+        Iteration::All => Ok(Value::Flag(all_true(results.as_slice()))),
+    }
+}
+
+/// Whether this result ends the call, so that no further turn is taken: one that is true ends `any`, and one that is
+/// not ends `all`.
+pub fn decides(function: Iteration, result: &Value) -> bool
+    ensures { result ≡ decides function (view result.now) }
+{
+    match function {
+        Iteration::Any => is_true(result),
+        Iteration::All => !is_true(result),
+        _ => false,
+    }
+}
+
+fn some_true(results: &[Value]) -> bool
+    ensures { result ≡ list_any is_true (views results.now) }
+{
+    for value in results {
+        if is_true(value) {
+            return true;
+        }
+    }
+    false
+}
+
+fn all_true(results: &[Value]) -> bool
+    ensures { result ≡ list_all is_true (views results.now) }
+{
+    for value in results {
+        if !is_true(value) {
+            return false;
+        }
+    }
+    true
+}
+
+fn filtered(alloc: Global, value: &Value, results: &[Value]) -> Result<Value, Memory>
+    ensures { IfOk result (λ v. view v ≡ filtered (view value.now) (views results.now)) }
+{
+    match value {
+        Value::List(items) => Ok(Value::List(kept_members(alloc, items.as_slice(), results)?)),
+        Value::Hash(pairs) => Ok(Value::Hash(kept_pairs(alloc, pairs, results)?)),
+        _ => copy(alloc, value),
+    }
+}
+
+fn kept_members(alloc: Global, items: &[Value], results: &[Value]) -> Result<Values, Memory>
+    ensures { IfOk result (λ l. l ≡ kept (views items.now) (views results.now)) }
+{
+    let mut kept = Values::new(alloc);
+    for (place, result) in results.iter().enumerate() {
+        add_member(alloc, &mut kept, items.get(place), result)?;
+    }
+    Ok(kept)
+}
+
+/// Appends a copy of the member, where there is one and its result is true.
+fn add_member(
+    alloc: Global,
+    kept: &mut Values,
+    item: Option<&Value>,
+    result: &Value,
+) -> Result<(), Memory>
+    ensures { OnOk result (kept.new ≡ kept.old ++ kept (told_member item.entry) (view result.now ∷ [])) }
+{
+    match item {
+        Some(item) if is_true(result) => kept.push(copy(alloc, item)?),
+        _ => Ok(()),
+    }
+}
+
+#[tactic(auto, using(crate::proofs::Kept::distinct_kept))]
+fn kept_pairs(alloc: Global, pairs: &Pairs, results: &[Value]) -> Result<Pairs, Memory>
+    ensures { IfOk result (λ l. l ≡ kept pairs.now (views results.now)) }
+{
+    let mut kept = Vec::new(alloc);
+    add_kept(alloc, &mut kept, pairs.as_slice(), results)?;
+    Ok(Pairs::from_vec(kept))
+}
+
+fn add_kept(
+    alloc: Global,
+    kept: &mut Vec<(Value, Value)>,
+    pairs: &[(Value, Value)],
+    results: &[Value],
+) -> Result<(), Memory>
+    ensures { OnOk result (pair_views kept.new.items
+        ≡ pair_views kept.old.items ++ kept (pair_views pairs.now) (views results.now)) }
+{
+    for (place, result) in results.iter().enumerate() {
+        add_pair(alloc, kept, pairs.get(place), result)?;
+    }
+    Ok(())
+}
+
+/// Appends a copy of the pair, where there is one and its result is true.
+fn add_pair(
+    alloc: Global,
+    kept: &mut Vec<(Value, Value)>,
+    pair: Option<&(Value, Value)>,
+    result: &Value,
+) -> Result<(), Memory>
+    ensures { OnOk result (pair_views kept.new.items
+        ≡ pair_views kept.old.items ++ kept (told_pair pair.entry) (view result.now ∷ [])) }
+{
+    match pair {
+        Some((key, value)) if is_true(result) => {
+            kept.push(copied(alloc, key, value)?)?;
+            Ok(())
+        }
+        _ => Ok(()),
+    }
+}
+
+fn copied(alloc: Global, key: &Value, value: &Value) -> Result<(Value, Value), Memory>
+    ensures { IfOk result (λ p. (view p.0 ≡ view key.now) × (view p.1 ≡ view value.now)) }
+{
+    let key = copy(alloc, key)?;
+    let value = copy(alloc, value)?;
+    Ok((key, value))
+}

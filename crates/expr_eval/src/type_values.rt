@@ -39,6 +39,7 @@ pub enum Head<'a> {
 
 /// What the name of a type gives in an expression: the type without arguments, to which `combine` gives the arguments
 /// by access. No name is refused, and the place is not used but where memory fails.
+#[tactic(auto, using(crate::proofs::TypeNames::bare_kind))]
 pub fn type_value(alloc: Global, name: &Text, at: &Place) -> Result<Value, Stop>
     requires { IsTrue (is_type_name name.now) }
     ensures { Answers (said result) (Ok (bare_type name.now)) }
@@ -49,6 +50,7 @@ pub fn type_value(alloc: Global, name: &Text, at: &Place) -> Result<Value, Stop>
 }
 
 /// Access to a type: the type with these arguments, or a reference.
+#[tactic(auto, using(crate::proofs::Back::members_back))]
 pub fn accessed(alloc: Global, kind: &PType, arguments: &Value, at: &Place) -> Result<Value, Stop>
     ensures { Answers (said result) (type_accessed (sort kind.now) (view arguments.now) at.now) }
 {
@@ -80,6 +82,7 @@ fn with_arguments(
     }
 }
 
+#[tactic(auto, using(crate::proofs::TypeNames::is_name, crate::proofs::TypeNames::named_back))]
 fn data_type_with(
     alloc: Global,
     data_type: DataType,

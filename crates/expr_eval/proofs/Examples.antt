@@ -1,6 +1,7 @@
 -- The definitions at worked examples. Each line holds by computing.
 use Rattle.std.proofs.Common.{◌≡◌, ℕ, Bool, true, false, Option, None, Some, List, [], ◌∷◌, map, pos, negsuc, refl, codes, Result, Ok, Err}
 use Rattle.std.specs.Fmt.{digits}
+use Rattle.std.specs.Str.{chars}
 use Rattle.pp_values.specs.declared.bounds.Bound.TheVariants.{Number}
 use Rattle.pp_values.specs.declared.fault.Fault.{Fault}
 use Rattle.pp_values.specs.declared.fault.What.TheVariants as what
@@ -161,7 +162,7 @@ access_of_list = refl
 
 -- `in` with a type on the left: some member of a list, or some key of a hash; else not
 abbrev within : Sort → Datum → Result Datum Fault
-within s d = combined op.Member (d.kind s) d at
+within s whole = combined op.Member (d.kind s) whole at
 
 types_in : map (within (bare n.integer)) (list (a ∷ one ∷ []) ∷ hash ((a, one) ∷ (two, a) ∷ []) ∷ [])
     ≡ Ok yes ∷ Ok yes ∷ []
@@ -209,6 +210,7 @@ of_others = refl
 -- options of `case` and selectors: equal with letters folded, or a type that accepts the control value
 options : map (λ o. option_takes o a) (big_a ∷ b ∷ d.kind (bare n.string) ∷ d.kind (bare n.integer) ∷ d.default ∷ d.undef ∷ list (a ∷ []) ∷ [])
     ≡ true ∷ false ∷ true ∷ false ∷ false ∷ false ∷ false ∷ []
+unfolding chars
 options = refl
 
 -- a type takes itself, and a reference itself alone
@@ -271,8 +273,8 @@ turns_of_nothing : turns_of iteration.Any (list []) 1 at ∷ turns_of iteration.
 turns_of_nothing = refl
 
 -- another number of parameters, of an empty list too, and other values
-no_turns : map (λ m. turns_of iteration.Filter letters m at) (0 ∷ 3 ∷ [])
-    ≡ map (λ m. Err (fault at (what.WrongArguments (codes "filter")))) (0 ∷ 3 ∷ [])
+no_turns : turns_of iteration.Filter letters 0 at ∷ turns_of iteration.Filter letters 3 at ∷ []
+    ≡ Err (fault at (what.WrongArguments (codes "filter"))) ∷ Err (fault at (what.WrongArguments (codes "filter"))) ∷ []
 no_turns = refl
 
 no_turns_of_nothing : map (λ i. turns_of i (list []) 0 at) every
@@ -297,9 +299,12 @@ reduces : map (λ arguments. reduced_over arguments 2 at)
     Ok (d.undef ∷ list (b ∷ one ∷ []) ∷ list (a ∷ two ∷ []) ∷ []) ∷ Ok [] ∷ Ok (three ∷ []) ∷ []
 reduces = refl
 
+abbrev not_by_reduce : Result (List Datum) Fault
+not_by_reduce = Err (fault at (what.WrongArguments (codes "reduce")))
+
 not_reduced : reduced_over (letters ∷ []) 1 at ∷ reduced_over (list [] ∷ []) 3 at ∷ reduced_over [] 2 at ∷
     reduced_over (letters ∷ one ∷ two ∷ []) 2 at ∷ reduced_over (a ∷ []) 2 at ∷ reduced_over (d.undef ∷ one ∷ []) 2 at ∷ []
-    ≡ map (λ m. Err (fault at (what.WrongArguments (codes "reduce")))) (0 ∷ 0 ∷ 0 ∷ 0 ∷ 0 ∷ 0 ∷ [])
+    ≡ not_by_reduce ∷ not_by_reduce ∷ not_by_reduce ∷ not_by_reduce ∷ not_by_reduce ∷ not_by_reduce ∷ []
 not_reduced = refl
 
 -- `with`

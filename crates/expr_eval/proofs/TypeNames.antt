@@ -1,5 +1,6 @@
 -- The names of the data types as they are printed, and types without arguments.
 use Rattle.std.proofs.Common.{◌≡◌, ℕ, IsTrue, List, [], Result, Ok, Err, refl, sym, ap, ◌∙◌}
+use Rattle.pp_values.specs.declared.fault.Fault.{Fault}
 use Rattle.pp_values.specs.declared.fault.Stop.{Stop}
 use Rattle.pp_values.specs.declared.fault.Stop.TheVariants as stop
 use Rattle.pp_values.specs.declared.place.Place.{Place}
@@ -97,8 +98,13 @@ bare (n.kind_of_resource k) at = refl
 bare_kind : (name : List ℕ) (at : Place) → kind_of name [] at ≡ Ok (of (type_named name) none)
 bare_kind name at = bare (type_named name) at
 
-pub bare_is : (name : List ℕ) (at : Place) (s : Sort) → kind_of name [] at ≡ Ok s → Ok (bare_type name) ≡ Ok (d.kind s)
-bare_is name at s h = ap (λ r. and_then r (λ t. Ok (d.kind t))) (sym (bare_kind name at) ∙ h)
+abbrev as_kind : Result Sort Fault → Result Datum Fault
+as_kind (Ok s) = Ok (d.kind s)
+as_kind (Err f) = Err f
+
+pub bare_is : (name : List ℕ) (at : Place) (s : Sort) → kind_of name [] at ≡ Ok s →
+    ◌≡◌ {A = Result Datum Fault} (Ok (bare_type name)) (Ok (d.kind s))
+bare_is name at s h = ap as_kind (sym (bare_kind name at) ∙ h)
 
 pub bare_stops : (name : List ℕ) (at : Place) (e : Stop) → Answers {T = Sort} (Err e) (kind_of name [] at) →
     Answers {T = Datum} (Err e) (Ok (bare_type name))

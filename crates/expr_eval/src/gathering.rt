@@ -33,14 +33,14 @@ pub fn gather(
     }
 }
 
-/// Whether this result ends the call, so that no further turn is taken: one that is true ends `any`, and one that is
-/// not ends `all`.
-pub fn decides(function: Iteration, result: &Value) -> bool
-    ensures { result ≡ decides function (view result.now) }
+/// Whether this result of the lambda ends the call, so that no further turn is taken: one that is true ends `any`, and
+/// one that is not ends `all`.
+pub fn decides(function: Iteration, given: &Value) -> bool
+    ensures { result ≡ decides function (view given.now) }
 {
     match function {
-        Iteration::Any => is_true(result),
-        Iteration::All => !is_true(result),
+        Iteration::Any => is_true(given),
+        Iteration::All => !is_true(given),
         _ => false,
     }
 }
@@ -82,16 +82,16 @@ fn kept_members(alloc: Global, items: &[Value], results: &[Value]) -> Result<Val
     ensures { IfOk result (λ l. l ≡ kept (views items.now) (views results.now)) }
 {
     let mut kept = Values::new(alloc);
-    let mut rest = items;
-    for result in results {
+    let mut rest = results;
+    for item in items {
         match rest {
-            [item, after @ ..] => {
+            [given, after @ ..] => {
                 rest = after;
-                if is_true(result) {
+                if is_true(given) {
                     kept.push(copy(alloc, item)?)?;
                 }
             }
-            [] => {}
+            [] => return Ok(kept),
         }
     }
     Ok(kept)
@@ -108,23 +108,23 @@ fn kept_pairs(alloc: Global, pairs: &Pairs, results: &[Value]) -> Result<Pairs, 
 
 fn add_kept(
     alloc: Global,
-    kept: &mut Vec<(Value, Value)>,
+    out: &mut Vec<(Value, Value)>,
     pairs: &[(Value, Value)],
     results: &[Value],
 ) -> Result<(), Memory>
-    ensures { OnOk result (pair_views kept.new.items
-        ≡ pair_views kept.old.items ++ kept (pair_views pairs.now) (views results.now)) }
+    ensures { OnOk result (pair_views out.new.items
+        ≡ pair_views out.old.items ++ kept (pair_views pairs.now) (views results.now)) }
 {
-    let mut rest = pairs;
-    for result in results {
+    let mut rest = results;
+    for (key, value) in pairs {
         match rest {
-            [(key, value), after @ ..] => {
+            [given, after @ ..] => {
                 rest = after;
-                if is_true(result) {
-                    kept.push(copied(alloc, key, value)?)?;
+                if is_true(given) {
+                    out.push(copied(alloc, key, value)?)?;
                 }
             }
-            [] => {}
+            [] => return Ok(()),
         }
     }
     Ok(())

@@ -77,7 +77,7 @@ fn with_arguments(
 ) -> Result<TypeBox, Stop>
     ensures { Answers result (with_arguments (sort kind.now) arguments.now at.now) }
 {
-    match head(kind) {
+    match head_of(kind) {
         Head::Data(data_type) => data_type_with(alloc, data_type, arguments, at),
         Head::Resource(kind) => resource_with(alloc, kind, arguments, at),
     }
@@ -166,7 +166,7 @@ fn resource_reference(alloc: Global, kind: &Kind, title: &Text) -> Result<Refere
     Ok(Reference { kind, title })
 }
 
-fn head(kind: &PType) -> Head<'_>
+fn head_of(kind: &PType) -> Head<'_>
     ensures { head_name result ≡ type_name (sort kind.now) }
 {
     match kind {

@@ -4,6 +4,6 @@ use Rattle.pp_values.specs.Views.{views}
 use Rattle.expr_eval.specs.Gathering.{kept}
 use Rattle.expr_eval.proofs.gathering.kept_members.Given as goal
 
-abbrev pub invariant-loop-result : goal.invariant-loop-result
-invariant-loop-result l = l.kept ++ kept (views l.rest) (views (drop l.result-index l.results))
+abbrev pub invariant-loop-item : goal.invariant-loop-item
+invariant-loop-item l = l.kept ++ kept (views (drop l.item-index l.items)) (views l.rest)
     ≡ kept (views l.items) (views l.results)

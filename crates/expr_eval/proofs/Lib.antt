@@ -1,1 +1,7 @@
+pub mod Back
+pub mod Distinct
+mod Examples
+mod Laws
+pub mod References
 mod Tables
+pub mod TypeNames

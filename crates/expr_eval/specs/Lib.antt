@@ -8,5 +8,4 @@ pub mod Spreading
 pub mod Names
 pub mod Turns
 pub mod Gathering
-pub mod Kept
 pub mod Texts

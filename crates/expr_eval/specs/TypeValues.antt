@@ -24,10 +24,13 @@ type_name (of n xs) = n
 abbrev pub with_arguments : Sort → List Datum → Place → Result Sort Fault
 with_arguments s arguments at = or_wrong (type_name s) at (made (type_name s) arguments)
 
+abbrev pub titled : List ℕ → List ℕ → Reference
+titled k t = record { kind = k; title = t }
+
 -- the reference that a type is, if it is one: `Class['a']`, `File['/tmp']`
 abbrev pub reference_of : Sort → Option Reference
-reference_of (of n.class (text name none)) = Some (record { kind = codes "class"; title = name })
-reference_of (of (n.kind_of_resource k) (text title none)) = Some (record { kind = k; title = title })
+reference_of (of n.class (text name none)) = Some (titled (codes "class") name)
+reference_of (of (n.kind_of_resource k) (text title none)) = Some (titled k title)
 reference_of s = None
 
 abbrev pub reference_or_type : Sort → Option Reference → Datum

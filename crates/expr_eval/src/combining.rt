@@ -40,6 +40,7 @@ pub fn combine(
 }
 
 /// Whether the type accepts some member of a list, or some key of a hash.
+#[tactic(auto, using(crate::proofs::Back::members_back, crate::proofs::Back::pairs_back))]
 fn accepts_some(kind: &PType, whole: &Value) -> bool
     ensures { result ≡ accepts_some (sort kind.now) (view whole.now) }
 {

@@ -1,9 +1,8 @@
 //! What the functions that go through a list or a hash make of what their lambda gave.
-ghost use Rattle.std.specs.Prelude.{◌≡◌, ◌++◌, ◌∷◌, [], IfOk, OnOk};
+ghost use Rattle.std.specs.Prelude.{◌≡◌, ◌++◌, IfOk, OnOk};
 ghost use Rattle.std.specs.List.{list_all, list_any};
 ghost use Rattle.pp_values.specs.Views.{view, views, pair_views};
 ghost use Rattle.expr_eval.specs.Gathering.{kept, filtered, gathered, decides};
-ghost use Rattle.expr_eval.specs.Kept.{told_member, told_pair};
 ghost use Rattle.expr_eval.specs.Truth.{is_true};
 
 use crate::functions::Iteration;
@@ -34,14 +33,14 @@ pub fn gather(
     }
 }
 
-/// Whether this result ends the call, so that no further turn is taken: one that is true ends `any`, and one that is
-/// not ends `all`.
-pub fn decides(function: Iteration, result: &Value) -> bool
-    ensures { result ≡ decides function (view result.now) }
+/// Whether this result of the lambda ends the call, so that no further turn is taken: one that is true ends `any`, and
+/// one that is not ends `all`.
+pub fn decides(function: Iteration, given: &Value) -> bool
+    ensures { result ≡ decides function (view given.now) }
 {
     match function {
-        Iteration::Any => is_true(result),
-        Iteration::All => !is_true(result),
+        Iteration::Any => is_true(given),
+        Iteration::All => !is_true(given),
         _ => false,
     }
 }
@@ -68,6 +67,7 @@ fn all_true(results: &[Value]) -> bool
     true
 }
 
+#[tactic(auto, using(crate::proofs::Back::members_back, crate::proofs::Back::pairs_back))]
 fn filtered(alloc: Global, value: &Value, results: &[Value]) -> Result<Value, Memory>
     ensures { IfOk result (λ v. view v ≡ filtered (view value.now) (views results.now)) }
 {
@@ -82,28 +82,22 @@ fn kept_members(alloc: Global, items: &[Value], results: &[Value]) -> Result<Val
     ensures { IfOk result (λ l. l ≡ kept (views items.now) (views results.now)) }
 {
     let mut kept = Values::new(alloc);
-    for (place, result) in results.iter().enumerate() {
-        add_member(alloc, &mut kept, items.get(place), result)?;
+    let mut rest = results;
+    for item in items {
+        match rest {
+            [given, after @ ..] => {
+                rest = after;
+                if is_true(given) {
+                    kept.push(copy(alloc, item)?)?;
+                }
+            }
+            [] => return Ok(kept),
+        }
     }
     Ok(kept)
 }
 
-/// Appends a copy of the member, where there is one and its result is true.
-fn add_member(
-    alloc: Global,
-    kept: &mut Values,
-    item: Option<&Value>,
-    result: &Value,
-) -> Result<(), Memory>
-    ensures { OnOk result (kept.new ≡ kept.old ++ kept (told_member item.entry) (view result.now ∷ [])) }
-{
-    match item {
-        Some(item) if is_true(result) => kept.push(copy(alloc, item)?),
-        _ => Ok(()),
-    }
-}
-
-#[tactic(auto, using(crate::proofs::Kept::distinct_kept))]
+#[tactic(auto, using(crate::proofs::Distinct::distinct_kept))]
 fn kept_pairs(alloc: Global, pairs: &Pairs, results: &[Value]) -> Result<Pairs, Memory>
     ensures { IfOk result (λ l. l ≡ kept pairs.now (views results.now)) }
 {
@@ -114,36 +108,26 @@ fn kept_pairs(alloc: Global, pairs: &Pairs, results: &[Value]) -> Result<Pairs, 
 
 fn add_kept(
     alloc: Global,
-    kept: &mut Vec<(Value, Value)>,
+    out: &mut Vec<(Value, Value)>,
     pairs: &[(Value, Value)],
     results: &[Value],
 ) -> Result<(), Memory>
-    ensures { OnOk result (pair_views kept.new.items
-        ≡ pair_views kept.old.items ++ kept (pair_views pairs.now) (views results.now)) }
+    ensures { OnOk result (pair_views out.new.items
+        ≡ pair_views out.old.items ++ kept (pair_views pairs.now) (views results.now)) }
 {
-    for (place, result) in results.iter().enumerate() {
-        add_pair(alloc, kept, pairs.get(place), result)?;
+    let mut rest = results;
+    for (key, value) in pairs {
+        match rest {
+            [given, after @ ..] => {
+                rest = after;
+                if is_true(given) {
+                    out.push(copied(alloc, key, value)?)?;
+                }
+            }
+            [] => return Ok(()),
+        }
     }
     Ok(())
-}
-
-/// Appends a copy of the pair, where there is one and its result is true.
-fn add_pair(
-    alloc: Global,
-    kept: &mut Vec<(Value, Value)>,
-    pair: Option<&(Value, Value)>,
-    result: &Value,
-) -> Result<(), Memory>
-    ensures { OnOk result (pair_views kept.new.items
-        ≡ pair_views kept.old.items ++ kept (told_pair pair.entry) (view result.now ∷ [])) }
-{
-    match pair {
-        Some((key, value)) if is_true(result) => {
-            kept.push(copied(alloc, key, value)?)?;
-            Ok(())
-        }
-        _ => Ok(()),
-    }
 }
 
 fn copied(alloc: Global, key: &Value, value: &Value) -> Result<(Value, Value), Memory>

@@ -16,6 +16,7 @@ use std::alloc::Global;
 ///
 /// The right side is a data type or a reference. A reference counts as the type of its kind and title, which accepts no
 /// value.
+#[tactic(auto, using(crate::proofs::References::no_value_is_of))]
 pub fn is_of(alloc: Global, value: &Value, kind: &Value, at: &Place) -> Result<bool, Stop>
     ensures { Answers result (is_of (view value.now) (view kind.now) at.now) }
 {

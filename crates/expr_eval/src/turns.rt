@@ -50,6 +50,7 @@ fn turns(alloc: Global, value: &Value, params: u32) -> Result<Option<Turns>, Mem
     }
 }
 
+#[tactic(auto, using(crate::proofs::Back::members_back, crate::proofs::Back::pairs_back))]
 fn turns_of_one(alloc: Global, value: &Value) -> Result<Option<Turns>, Memory>
     ensures { IfOk result (λ t. t ≡ turns_of_one (view value.now)) }
 {
@@ -60,6 +61,7 @@ fn turns_of_one(alloc: Global, value: &Value) -> Result<Option<Turns>, Memory>
     }
 }
 
+#[tactic(auto, using(crate::proofs::Back::members_back, crate::proofs::Back::pairs_back))]
 fn turns_of_two(alloc: Global, value: &Value) -> Result<Option<Turns>, Memory>
     ensures { IfOk result (λ t. t ≡ turns_of_two (view value.now)) }
 {

@@ -11,7 +11,7 @@ ghost use Rattle.pp_values.specs.Views.{view};
 ghost use Rattle.pp_values.specs.Words.{kind_text};
 ghost use Rattle.expr_eval.specs.Faults.{wrong_arguments};
 ghost use Rattle.expr_eval.specs.Heads.{head_name};
-ghost use Rattle.expr_eval.specs.TypeValues.{bare_type, type_name, with_arguments, reference_of, as_value, type_accessed};
+ghost use Rattle.expr_eval.specs.TypeValues.{bare_type, type_name, with_arguments, titled, reference_of, as_value, type_accessed};
 
 use crate::faults::{bad_operand, wrong_arguments};
 use pp_types::arguments::title;
@@ -39,6 +39,7 @@ pub enum Head<'a> {
 
 /// What the name of a type gives in an expression: the type without arguments, to which `combine` gives the arguments
 /// by access. No name is refused, and the place is not used but where memory fails.
+#[tactic(auto, using(crate::proofs::TypeNames::bare_is, crate::proofs::TypeNames::bare_stops))]
 pub fn type_value(alloc: Global, name: &Text, at: &Place) -> Result<Value, Stop>
     requires { IsTrue (is_type_name name.now) }
     ensures { Answers (said result) (Ok (bare_type name.now)) }
@@ -49,6 +50,7 @@ pub fn type_value(alloc: Global, name: &Text, at: &Place) -> Result<Value, Stop>
 }
 
 /// Access to a type: the type with these arguments, or a reference.
+#[tactic(auto, using(crate::proofs::Back::members_back))]
 pub fn accessed(alloc: Global, kind: &PType, arguments: &Value, at: &Place) -> Result<Value, Stop>
     ensures { Answers (said result) (type_accessed (sort kind.now) (view arguments.now) at.now) }
 {
@@ -58,6 +60,7 @@ pub fn accessed(alloc: Global, kind: &PType, arguments: &Value, at: &Place) -> R
     }
 }
 
+#[tactic(auto, using(crate::proofs::TypeNames::value_stops))]
 fn accessed_by(alloc: Global, kind: &PType, arguments: &Values, at: &Place) -> Result<Value, Stop>
     ensures { Answers (said result) (and_then (with_arguments (sort kind.now) arguments.now at.now)
         (λ t. Ok (as_value t))) }
@@ -74,12 +77,13 @@ fn with_arguments(
 ) -> Result<TypeBox, Stop>
     ensures { Answers result (with_arguments (sort kind.now) arguments.now at.now) }
 {
-    match head(kind) {
+    match head_of(kind) {
         Head::Data(data_type) => data_type_with(alloc, data_type, arguments, at),
         Head::Resource(kind) => resource_with(alloc, kind, arguments, at),
     }
 }
 
+#[tactic(auto, using(crate::proofs::TypeNames::is_name, crate::proofs::TypeNames::kind_back))]
 fn data_type_with(
     alloc: Global,
     data_type: DataType,
@@ -147,7 +151,7 @@ fn reference_of(alloc: Global, kind: &PType) -> Result<Option<Reference>, Memory
 }
 
 fn class_reference(alloc: Global, name: &Text) -> Result<Reference, Memory>
-    ensures { IfOk result (λ r. r ≡ record { kind = codes "class"; title = name.now }) }
+    ensures { IfOk result (λ r. r ≡ titled (codes "class") name.now) }
 {
     let kind = Kind::from_str(alloc, "class")?;
     let title = name.copy(alloc)?;
@@ -155,14 +159,14 @@ fn class_reference(alloc: Global, name: &Text) -> Result<Reference, Memory>
 }
 
 fn resource_reference(alloc: Global, kind: &Kind, title: &Text) -> Result<Reference, Memory>
-    ensures { IfOk result (λ r. r ≡ record { kind = kind.now; title = title.now }) }
+    ensures { IfOk result (λ r. r ≡ titled kind.now title.now) }
 {
     let kind = kind.copy(alloc)?;
     let title = title.copy(alloc)?;
     Ok(Reference { kind, title })
 }
 
-fn head(kind: &PType) -> Head<'_>
+fn head_of(kind: &PType) -> Head<'_>
     ensures { head_name result ≡ type_name (sort kind.now) }
 {
     match kind {

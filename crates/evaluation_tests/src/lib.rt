@@ -1,0 +1,5 @@
+//! The tests of what the crates of evaluation offer to callers.
+#![tactic(auto)]
+
+#[cfg(test)]
+mod steps;

@@ -1,0 +1,9 @@
+-- What the rest from the index on adds to what is there is what all of it adds.
+use Rattle.std.proofs.Common.{◌≡◌, ◌++◌, drop, map}
+use Rattle.pp_values.specs.Views.{pair_views}
+use Rattle.expr_eval.specs.Turns.{two}
+use Rattle.expr_eval.proofs.turns.keys_and_values.Given as goal
+
+abbrev pub invariant-loop-key : goal.invariant-loop-key
+invariant-loop-key l =
+    l.turns.items ++ map two (pair_views (drop l.key-index l.pairs)) ≡ map two (pair_views l.pairs)

@@ -1,0 +1,100 @@
+-- Operators before and between values, and assignments.
+use Rattle.std.specs.Prelude.{ℕ, Bool, true, false, not, if◌then◌else◌, List, [], ◌∷◌}
+use Rattle.expr_eval.specs.Spreading.{spread}
+use Rattle.expr_eval.specs.Testing.{is_of}
+use Rattle.expr_eval.specs.Truth.{is_true}
+use Rattle.pp_ops.specs.declared.op.Op.{Op}
+use Rattle.pp_ops.specs.declared.op.Op.TheVariants as op
+use Rattle.pp_tree.specs.declared.expr.Expr.{Expr}
+use Rattle.pp_tree.specs.declared.expr.Operation.{Operation}
+use Rattle.pp_tree.specs.declared.operators.BinaryOperator.{BinaryOperator}
+use Rattle.pp_tree.specs.declared.operators.BinaryOperator.TheVariants as binary
+use Rattle.pp_tree.specs.declared.operators.PrefixOperator.{PrefixOperator}
+use Rattle.pp_tree.specs.declared.operators.PrefixOperator.TheVariants as prefix
+use Rattle.pp_values.specs.Datum.{Datum, undef, flag}
+use Rattle.eval_world.specs.Inner.{Inner}
+use Rattle.eval_world.specs.Outcomes.{Step, ◌>>=◌, ◌>>◌, pure}
+use Rattle.eval_world.specs.Worlds.{assign}
+use Rattle.eval_world.specs.declared.here.Here.{Here}
+use Rattle.eval_forms.specs.Answering.{answered_at, combined}
+
+-- an operator before a value; `*` among arguments and in a list splices what this gives
+abbrev pub prefixed : PrefixOperator → Datum → ℕ → Here → Step Datum
+prefixed prefix.Not d line here = pure (flag (not (is_true d)))
+prefixed prefix.Negate d line here = combined op.Negate d undef line here
+prefixed prefix.Splat d line here = pure (spread d)
+
+-- `!$a`, `-$a`, `*$a`
+unfoldable pub prefix_rule : Inner → PrefixOperator → Expr → ℕ → Here → Step Datum
+prefix_rule inner o e line here = do
+  d ← inner.value e here
+  prefixed o d line here
+
+-- whether an expression counts as true
+unfoldable pub truth_rule : Inner → Expr → Here → Step Bool
+truth_rule inner e here = do
+  d ← inner.value e here
+  pure (is_true d)
+
+-- `and` and `or` give a truth value, and ask the right side only where the left one leaves it open
+unfoldable pub open_rule : Inner → Bool → Bool → Expr → Here → Step Datum
+open_rule inner false answer e here = pure (flag answer)
+open_rule inner true answer e here = do
+  truth ← truth_rule inner e here
+  pure (flag truth)
+
+-- `=~` and `!~`: the value is of the type, or it is not
+unfoldable pub match_rule : Inner → Bool → Datum → Expr → ℕ → Here → Step Datum
+match_rule inner wanted left e line here = do
+  right ← inner.value e here
+  is_one ← answered_at (is_of left right) line here
+  pure (flag (if wanted then is_one else not is_one))
+
+-- the other operators
+unfoldable pub both_rule : Inner → Op → Datum → Expr → ℕ → Here → Step Datum
+both_rule inner o left e line here = do
+  right ← inner.value e here
+  combined o left right line here
+
+-- an operator behind a value, and its right operand
+abbrev pub operation_by : Inner → Datum → BinaryOperator → Expr → ℕ → Here → Step Datum
+operation_by inner left binary.In e line here = both_rule inner op.Member left e line here
+operation_by inner left binary.Match e line here = match_rule inner true left e line here
+operation_by inner left binary.NoMatch e line here = match_rule inner false left e line here
+operation_by inner left binary.Multiply e line here = both_rule inner op.Multiply left e line here
+operation_by inner left binary.Divide e line here = both_rule inner op.Divide left e line here
+operation_by inner left binary.Modulo e line here = both_rule inner op.Modulo left e line here
+operation_by inner left binary.Add e line here = both_rule inner op.Add left e line here
+operation_by inner left binary.Subtract e line here = both_rule inner op.Subtract left e line here
+operation_by inner left binary.Append e line here = both_rule inner op.Append left e line here
+operation_by inner left binary.Equal e line here = both_rule inner op.Equal left e line here
+operation_by inner left binary.NotEqual e line here = both_rule inner op.NotEqual left e line here
+operation_by inner left binary.AtLeast e line here = both_rule inner op.AtLeast left e line here
+operation_by inner left binary.AtMost e line here = both_rule inner op.AtMost left e line here
+operation_by inner left binary.Greater e line here = both_rule inner op.Greater left e line here
+operation_by inner left binary.Less e line here = both_rule inner op.Less left e line here
+operation_by inner left binary.And e line here = open_rule inner (is_true left) false e here
+operation_by inner left binary.Or e line here = open_rule inner (not (is_true left)) true e here
+
+unfoldable pub operation_rule : Inner → Datum → Operation Expr → ℕ → Here → Step Datum
+operation_rule inner left o line here = operation_by inner left o.operator o.right line here
+
+-- operations of one strength, from the left; `line` is that of the chain's first token
+unfoldable pub operations_from : Inner → Datum → List (Operation Expr) → ℕ → Here → Step Datum
+operations_from inner done [] line here = pure done
+operations_from inner done (o ∷ os) line here = do
+  more ← operation_rule inner done o line here
+  operations_from inner more os line here
+
+-- `$a + 1 - $b`
+unfoldable pub binary_rule : Inner → Expr → List (Operation Expr) → ℕ → Here → Step Datum
+binary_rule inner first os line here = do
+  d ← inner.value first here
+  operations_from inner d os line here
+
+-- `$a = 1`: the value first, and then the fault where the name has one already. It gives the value.
+unfoldable pub assign_rule : Inner → List ℕ → Expr → ℕ → Here → Step Datum
+assign_rule inner name e line here = do
+  d ← inner.value e here
+  assign here name d line
+  pure d

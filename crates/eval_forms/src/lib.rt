@@ -1,0 +1,2 @@
+//! The forms of expressions that are no calls.
+#![tactic(auto)]

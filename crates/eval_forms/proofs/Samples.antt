@@ -1,6 +1,5 @@
 -- Small trees, and what they mean one level further in, for the examples.
-use Rattle.std.specs.Prelude.{ℕ, Bool, List, [], ◌∷◌, ◌++◌, length, ℤ, pos, codes}
-use Rattle.std.specs.declared.alloc.Global.{Global}
+use Rattle.std.specs.Prelude.{◌≡◌, ℕ, Bool, List, [], ◌∷◌, ◌++◌, length, Ok, Err, pos, codes}
 use Rattle.pp_tree.specs.Building.{Block, expr_at, form_of, line_of, words}
 use Rattle.pp_tree.specs.Layers.{FormLayer, Form-F, out-Form}
 use Rattle.pp_tree.specs.declared.expr.Expr.{Expr}
@@ -10,13 +9,14 @@ use Rattle.pp_tree.specs.declared.statement.Statement.{Statement}
 use Rattle.pp_tree.specs.declared.statement.Statement.TheVariants as s
 use Rattle.pp_values.specs.Datum as d
 use Rattle.pp_values.specs.Datum.{Datum, Pair, data_of, entries_of}
+use Rattle.pp_values.specs.Faults as faults
 use Rattle.pp_values.specs.Sort as n
+use Rattle.pp_values.specs.declared.fault.What.{What}
 use Rattle.pp_values.specs.declared.fault.What.TheVariants as what
 use Rattle.eval_world.specs.Inner.{Inner}
-use Rattle.eval_world.specs.Outcomes.{Outcome, Step, ◌>>=◌, ◌>>◌, pure}
-use Rattle.eval_world.specs.Worlds.{empty, fault, write_log}
+use Rattle.eval_world.specs.Outcomes.{Step, ◌>>=◌, ◌>>◌, pure}
+use Rattle.eval_world.specs.Worlds.{fault, place_at, write_log}
 use Rattle.eval_world.specs.declared.here.Here.{Here}
-use Rattle.eval_world.specs.declared.manifests.Manifests.{Manifests}
 use Rattle.eval_world.specs.declared.world.World.{World}
 
 -- ---- values
@@ -58,13 +58,16 @@ num k = expr_at 1 (f.Number (pos k))
 abbrev pub word : List ℕ → Expr
 word t = expr_at 1 (f.Name t)
 
--- it leaves a line in the log, which shows that it was evaluated, and when
+-- it leaves a line in the log, which shows when it is evaluated
 abbrev pub told : List ℕ → Expr
 told t = expr_at 1 (f.Text t)
 
--- a variable without a value, at this line
-abbrev pub var : List ℕ → ℕ → Expr
-var x line = expr_at line (f.Variable x)
+-- `$x` and `$y`, which have no value: at lines 8 and 9
+abbrev pub x : Expr
+x = expr_at 8 (f.Variable (codes "x"))
+
+abbrev pub y : Expr
+y = expr_at 9 (f.Variable (codes "y"))
 
 -- `[1, 2]`
 abbrev pub one_two : Expr
@@ -79,8 +82,8 @@ abbrev pub spliced : Expr
 spliced = expr_at 1 (f.Prefix prefix.Splat one_two)
 
 -- `(default)`
-abbrev pub default_in_parentheses : Expr
-default_in_parentheses = expr_at 1 (f.Parentheses default)
+abbrev pub in_parentheses : Expr
+in_parentheses = expr_at 1 (f.Parentheses default)
 
 -- `Any`
 abbrev pub any_name : Expr
@@ -128,14 +131,32 @@ sample = record {
   instance = λ n line here. pure d.undef;
 }
 
--- the world with one more line in the log
-abbrev pub after : List ℕ → World → World
-after t w = record w { log = w.log ++ record { level = []; text = t } ∷ [] }
+-- ---- what the examples say of a form; each is evaluated at line 7
 
--- ---- the beginning of a compile
+-- the world with these lines at the end of the log
+abbrev pub logged : List (List ℕ) → World → World
+logged [] w = w
+logged (t ∷ ts) w = logged ts (record w { log = w.log ++ record { level = []; text = t } ∷ [] })
 
-abbrev pub start : Global → Manifests → World
-start alloc manifests = empty alloc manifests
+-- it gives this value, and evaluates texts in this order
+abbrev pub Tells : (Here → Step Datum) → Datum → List (List ℕ) → Type 0
+Tells step d texts = (here : Here) (w : World) → step here w ≡ Ok (d, logged texts w)
 
-abbrev pub top : Here
-top = record { scope = record { number = 0 }; owner = 0 }
+-- it gives this value, and changes nothing
+abbrev pub Makes : (Here → Step Datum) → Datum → Type 0
+Makes step d = Tells step d []
+
+-- it is refused, with this fault at this line
+abbrev pub Refuses : (Here → Step Datum) → ℕ → What → Type 0
+Refuses step line details = (here : Here) (w : World) → step here w ≡ Err (faults.fault (place_at w here line) details)
+
+-- `$x` is asked for and has no value
+abbrev pub RefusesX : (Here → Step Datum) → Type 0
+RefusesX step = Refuses step 8 (what.UnknownVariable (codes "x"))
+
+abbrev pub RefusesY : (Here → Step Datum) → Type 0
+RefusesY step = Refuses step 9 (what.UnknownVariable (codes "y"))
+
+-- an operator does not take what it is given
+abbrev pub RefusesOperand : (Here → Step Datum) → List ℕ → Type 0
+RefusesOperand step operator = Refuses step 7 (what.BadOperand operator)

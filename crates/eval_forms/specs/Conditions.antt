@@ -27,7 +27,7 @@ unfoldable pub if_rule : Inner → If → ℕ → Here → Step Datum
 if_rule inner c line here = do
   truth ← truth_rule inner (out-If c).condition here
   if truth then inner.block (out-If c).block line here
-    else elsifs_from inner (out-If c).elsifs (out-If c).otherwise line here
+      else elsifs_from inner (out-If c).elsifs (out-If c).otherwise line here
 
 -- `unless $a { } else { }`
 unfoldable pub unless_rule : Inner → Unless → ℕ → Here → Step Datum

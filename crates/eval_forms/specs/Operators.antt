@@ -17,6 +17,8 @@ use Rattle.eval_world.specs.Outcomes.{Step, ◌>>=◌, ◌>>◌, pure}
 use Rattle.eval_world.specs.Worlds.{assign}
 use Rattle.eval_world.specs.declared.here.Here.{Here}
 use Rattle.eval_forms.specs.Answering.{answered_at, combined}
+use Rattle.eval_forms.specs.declared.operator_kind.OperatorKind.{OperatorKind}
+use Rattle.eval_forms.specs.declared.operator_kind.OperatorKind.TheVariants as kind
 
 -- an operator before a value; `*` among arguments and in a list splices what this gives
 abbrev pub prefixed : PrefixOperator → Datum → ℕ → Here → Step Datum
@@ -56,28 +58,35 @@ both_rule inner o left e line here = do
   right ← inner.value e here
   combined o left right line here
 
+-- how each operator between values goes
+abbrev pub kind_of : BinaryOperator → OperatorKind
+kind_of binary.In = kind.Combine op.Member
+kind_of binary.Match = kind.Match true
+kind_of binary.NoMatch = kind.Match false
+kind_of binary.Multiply = kind.Combine op.Multiply
+kind_of binary.Divide = kind.Combine op.Divide
+kind_of binary.Modulo = kind.Combine op.Modulo
+kind_of binary.Add = kind.Combine op.Add
+kind_of binary.Subtract = kind.Combine op.Subtract
+kind_of binary.Append = kind.Combine op.Append
+kind_of binary.Equal = kind.Combine op.Equal
+kind_of binary.NotEqual = kind.Combine op.NotEqual
+kind_of binary.AtLeast = kind.Combine op.AtLeast
+kind_of binary.AtMost = kind.Combine op.AtMost
+kind_of binary.Greater = kind.Combine op.Greater
+kind_of binary.Less = kind.Combine op.Less
+kind_of binary.And = kind.And
+kind_of binary.Or = kind.Or
+
 -- an operator behind a value, and its right operand
-abbrev pub operation_by : Inner → Datum → BinaryOperator → Expr → ℕ → Here → Step Datum
-operation_by inner left binary.In e line here = both_rule inner op.Member left e line here
-operation_by inner left binary.Match e line here = match_rule inner true left e line here
-operation_by inner left binary.NoMatch e line here = match_rule inner false left e line here
-operation_by inner left binary.Multiply e line here = both_rule inner op.Multiply left e line here
-operation_by inner left binary.Divide e line here = both_rule inner op.Divide left e line here
-operation_by inner left binary.Modulo e line here = both_rule inner op.Modulo left e line here
-operation_by inner left binary.Add e line here = both_rule inner op.Add left e line here
-operation_by inner left binary.Subtract e line here = both_rule inner op.Subtract left e line here
-operation_by inner left binary.Append e line here = both_rule inner op.Append left e line here
-operation_by inner left binary.Equal e line here = both_rule inner op.Equal left e line here
-operation_by inner left binary.NotEqual e line here = both_rule inner op.NotEqual left e line here
-operation_by inner left binary.AtLeast e line here = both_rule inner op.AtLeast left e line here
-operation_by inner left binary.AtMost e line here = both_rule inner op.AtMost left e line here
-operation_by inner left binary.Greater e line here = both_rule inner op.Greater left e line here
-operation_by inner left binary.Less e line here = both_rule inner op.Less left e line here
-operation_by inner left binary.And e line here = open_rule inner (is_true left) false e here
-operation_by inner left binary.Or e line here = open_rule inner (not (is_true left)) true e here
+abbrev pub operation_by : Inner → OperatorKind → Datum → Expr → ℕ → Here → Step Datum
+operation_by inner (kind.Combine o) left e line here = both_rule inner o left e line here
+operation_by inner (kind.Match wanted) left e line here = match_rule inner wanted left e line here
+operation_by inner kind.And left e line here = open_rule inner (is_true left) false e here
+operation_by inner kind.Or left e line here = open_rule inner (not (is_true left)) true e here
 
 unfoldable pub operation_rule : Inner → Datum → Operation Expr → ℕ → Here → Step Datum
-operation_rule inner left o line here = operation_by inner left o.operator o.right line here
+operation_rule inner left o line here = operation_by inner (kind_of o.operator) left o.right line here
 
 -- operations of one strength, from the left; `line` is that of the chain's first token
 unfoldable pub operations_from : Inner → Datum → List (Operation Expr) → ℕ → Here → Step Datum

@@ -35,8 +35,9 @@ use Rattle.eval_forms.specs.Operators.{binary_rule, operations_from, operation_r
 use Rattle.eval_forms.specs.Options.{case_rule, options_from, default_rule, default_option, any_takes, takes_rule}
 use Rattle.eval_forms.specs.Options.{selected_rule, selected_from, unselected_rule, default_pair, key_rule}
 use Rattle.eval_forms.specs.Values.{accessed_rule, type_rule}
-use Rattle.eval_forms.proofs.Samples.{text, int, list, hash, undef, flag, default, num, word, told, x, y, one_two, a_hash}
-use Rattle.eval_forms.proofs.Samples.{spliced, in_parentheses, any_name, first, second, third, ran, sample}
+use Rattle.eval_forms.proofs.Samples.{text, int, list, hash, undef, flag, default, num, word, told, x, y}
+use Rattle.eval_forms.proofs.Samples.{one_two, a_hash, spliced, in_parentheses, any_name}
+use Rattle.eval_forms.proofs.Samples.{first, second, third, ran, sample}
 use Rattle.eval_forms.proofs.Samples.{Tells, Makes, Refuses, RefusesX, RefusesY, RefusesOperand}
 
 -- ---- lists
@@ -71,7 +72,8 @@ abbrev hash_of : List (Pair Expr) → Here → Step Datum
 hash_of ps = hash_rule sample ps 7
 
 -- each key, and then its value
-pairs_in_order : Tells (hash_of (pair (told (codes "k")) (told (codes "v")) ∷ pair (told (codes "l")) (told (codes "u")) ∷ []))
+pairs_in_order : Tells
+    (hash_of (pair (told (codes "k")) (told (codes "v")) ∷ pair (told (codes "l")) (told (codes "u")) ∷ []))
     (hash ((text (codes "k"), text (codes "v")) ∷ (text (codes "l"), text (codes "u")) ∷ []))
     (codes "k" ∷ codes "v" ∷ codes "l" ∷ codes "u" ∷ [])
 unfolding hash_rule pairs_from pair_rule value_rule write_log
@@ -103,7 +105,8 @@ faults_of_pairs = (λ here w. refl, λ here w. refl)
 
 -- `"a${true}b${undef}${'c'}"`
 pieces_in_order : Tells
-    (interpolated_rule sample (piece.Text (codes "a") ∷ piece.Value (flag true) ∷ piece.Text (codes "b") ∷ piece.Value undef
+    (interpolated_rule sample (piece.Text (codes "a") ∷ piece.Value (flag true) ∷ piece.Text (codes "b")
+    ∷ piece.Value undef
     ∷ piece.Value (told (codes "c")) ∷ []))
     (text (codes "atruebc")) (codes "c" ∷ [])
 unfolding interpolated_rule pieces_from piece_rule write_log
@@ -149,7 +152,8 @@ seven o = chain (num 7) (operation o (num 2) ∷ [])
 abbrev twos : BinaryOperator → Here → Step Datum
 twos o = chain (num 2) (operation o (num 2) ∷ [])
 
-arithmetic : Makes (seven binary.Multiply) (int 14) × Makes (seven binary.Divide) (int 3) × Makes (seven binary.Modulo) (int 1)
+arithmetic : Makes (seven binary.Multiply) (int 14) × Makes (seven binary.Divide) (int 3)
+    × Makes (seven binary.Modulo) (int 1)
     × Makes (seven binary.Add) (int 9) × Makes (seven binary.Subtract) (int 5)
 unfolding binary_rule operations_from operation_rule both_rule combined
 arithmetic = (λ here w. refl, λ here w. refl, λ here w. refl, λ here w. refl, λ here w. refl)
@@ -187,14 +191,16 @@ unfolding binary_rule operations_from operation_rule match_rule
 matches = (λ here w. refl, λ here w. refl, λ here w. refl, λ here w. refl)
 
 -- `7 << $x`, `7 << 2`, `$x << $y`, `7 =~ $x`: both operands, and then the operator, at the line of the chain
-operands_first : RefusesX (chain (num 7) (operation binary.Append x ∷ [])) × RefusesOperand (seven binary.Append) (codes "<<")
+operands_first : RefusesX (chain (num 7) (operation binary.Append x ∷ []))
+    × RefusesOperand (seven binary.Append) (codes "<<")
     × RefusesX (chain x (operation binary.Append y ∷ [])) × RefusesX (chain (num 7) (operation binary.Match x ∷ []))
 unfolding binary_rule operations_from operation_rule both_rule match_rule combined
 operands_first = (λ here w. refl, λ here w. refl, λ here w. refl, λ here w. refl)
 
 -- `10 - 2 - 3 + 1`; and `7 << 1 << $x`, whose first operator is refused before `$x` is evaluated
 from_the_left : Makes
-    (chain (num 10) (operation binary.Subtract (num 2) ∷ operation binary.Subtract (num 3) ∷ operation binary.Add (num 1) ∷ []))
+    (chain (num 10)
+    (operation binary.Subtract (num 2) ∷ operation binary.Subtract (num 3) ∷ operation binary.Add (num 1) ∷ []))
     (int 6)
     × RefusesOperand (chain (num 7) (operation binary.Append (num 1) ∷ operation binary.Append x ∷ [])) (codes "<<")
 unfolding binary_rule operations_from operation_rule both_rule combined
@@ -205,7 +211,8 @@ or_values : Makes (chain (num 5) (operation binary.Or x ∷ [])) (d.flag true)
     × Makes (chain undef (operation binary.Or (num 5) ∷ [])) (d.flag true)
     × Makes (chain (flag false) (operation binary.Or undef ∷ [])) (d.flag false)
     × RefusesX (chain undef (operation binary.Or x ∷ []))
-    × Makes (chain undef (operation binary.Or undef ∷ operation binary.Or (num 5) ∷ operation binary.Or x ∷ [])) (d.flag true)
+    × Makes (chain undef (operation binary.Or undef ∷ operation binary.Or (num 5) ∷ operation binary.Or x ∷ []))
+    (d.flag true)
 unfolding binary_rule operations_from operation_rule open_rule truth_rule
 or_values = (λ here w. refl, λ here w. refl, λ here w. refl, λ here w. refl, λ here w. refl)
 
@@ -250,8 +257,10 @@ refused alloc manifests line details = Err (faults.fault (place_at (empty alloc 
 
 -- `$a = 1` and then `$a = 2`, or `$a = $x`, whose value comes first
 assigned_twice : (alloc : Global) (manifests : Manifests)
-    → (and_next (begun alloc manifests (sets_a (num 1))) (sets_a (num 2)) ≡ refused alloc manifests 7 (what.Reassigned (codes "a")))
-    × (and_next (begun alloc manifests (sets_a (num 1))) (sets_a x) ≡ refused alloc manifests 8 (what.UnknownVariable (codes "x")))
+    → (and_next (begun alloc manifests (sets_a (num 1))) (sets_a (num 2))
+    ≡ refused alloc manifests 7 (what.Reassigned (codes "a")))
+    × (and_next (begun alloc manifests (sets_a (num 1))) (sets_a x)
+    ≡ refused alloc manifests 8 (what.UnknownVariable (codes "x")))
 unfolding assign_rule assign scopes.assign
 assigned_twice alloc manifests = (refl, refl)
 
@@ -263,7 +272,8 @@ unfolding if_rule truth_rule
 if_true here w = refl
 
 elsif_true : Makes
-    (if_rule sample (if_of undef first (elsif (flag false) first ∷ elsif (num 5) second ∷ elsif x first ∷ []) (Some third)) 7)
+    (if_rule sample
+    (if_of undef first (elsif (flag false) first ∷ elsif (num 5) second ∷ elsif x first ∷ []) (Some third)) 7)
     (ran second 7)
 unfolding if_rule elsifs_from truth_rule
 elsif_true here w = refl
@@ -340,7 +350,8 @@ unfolding case_rule options_from default_rule any_takes takes_rule default_optio
 nothing_taken = (λ here w. refl, λ here w. refl)
 
 -- `case $x { $y: .. }`, `case 3 { $x: .. 3: .. }`
-faults_of_case : RefusesX (case x (option (y ∷ []) ∷ [])) × RefusesX (case (num 3) (option (x ∷ []) ∷ other (num 3 ∷ []) ∷ []))
+faults_of_case : RefusesX (case x (option (y ∷ []) ∷ []))
+    × RefusesX (case (num 3) (option (x ∷ []) ∷ other (num 3 ∷ []) ∷ []))
 unfolding case_rule options_from any_takes takes_rule default_option
 faults_of_case = (λ here w. refl, λ here w. refl)
 

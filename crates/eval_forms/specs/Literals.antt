@@ -1,4 +1,4 @@
--- Literals with parts: lists, hashes, and texts with interpolation. Parts are evaluated in the order that they stand in.
+-- Literals with parts: lists, hashes, and texts with interpolation. Parts are evaluated in order.
 use Rattle.std.specs.Prelude.{ℕ, Bool, true, false, List, [], ◌∷◌, ◌++◌, codes}
 use Rattle.pp_tree.specs.declared.expr.Expr.{Expr}
 use Rattle.pp_tree.specs.declared.expr.Pair as tree
@@ -19,8 +19,8 @@ list_rule inner es here = do
   ds ← values_from inner [] es here
   pure (list (data_of ds))
 
--- The value of a pair, where its key is a text or an integer. It is set behind the pairs that are there, or where one of
--- them has exactly this key in the place of its value.
+-- The value of a pair, where its key is a text or an integer. It is set behind the pairs that are there, or, where one
+-- of them has exactly this key, in the place of its value.
 unfoldable pub value_rule : Inner → List Pair → Bool → Datum → Expr → ℕ → Here → Step (List Pair)
 value_rule inner done false key e line here = bad_operand (codes "=>") line here
 value_rule inner done true key e line here = do

@@ -29,7 +29,7 @@ pub fn case_of<F: Fn(&mut World<'_>, Goal<'_>, Here, u32) -> Result<Evaluated, S
     requires { Nests (M.within forms.now.left) forms.now.left (F.pre forms.now.inner) (F.post forms.now.inner) }
     ensures { Gives same (spec.case_rule (M.within forms.now.left) choice.now line here world.old) result world.new }
 {
-    let control = forms.value(world, choice.control.as_ref(), here)?;
+    let control = forms.value(world, choice.control.get(), here)?;
     chosen(forms, world, &control, &choice.options, line, here)
 }
 
@@ -167,7 +167,7 @@ fn has_default(values: &Args) -> bool
 pub fn is_default(expr: &Expr) -> bool
     ensures { result ≡ spec.is_default expr.now }
 {
-    match expr.form.as_ref() {
+    match expr.form.get() {
         Form::Default => true,
         _ => false,
     }
@@ -177,7 +177,7 @@ pub fn is_default(expr: &Expr) -> bool
 fn is_splat(expr: &Expr) -> bool
     ensures { result ≡ is_splat expr.now }
 {
-    match expr.form.as_ref() {
+    match expr.form.get() {
         Form::Prefix(PrefixOperator::Splat, _) => true,
         _ => false,
     }

@@ -26,15 +26,16 @@ use Rattle.eval_world.specs.Outcomes.{Outcome, Step}
 use Rattle.eval_world.specs.Worlds.{assign, empty, read, place_at, write_log}
 use Rattle.eval_world.specs.declared.here.Here.{Here}
 use Rattle.eval_world.specs.declared.manifests.Manifests.{Manifests}
+use Rattle.eval_forms.specs.Accesses.{accessed_rule}
 use Rattle.eval_forms.specs.Answering.{combined}
 use Rattle.eval_forms.specs.Conditions.{if_rule, elsifs_from, otherwise_rule, unless_rule}
+use Rattle.eval_forms.specs.Conditions.{case_rule, options_from, default_rule, default_option, any_takes, takes_rule}
 use Rattle.eval_forms.specs.Literals.{list_rule, hash_rule, pairs_from, pair_rule, value_rule}
 use Rattle.eval_forms.specs.Literals.{interpolated_rule, pieces_from, piece_rule}
 use Rattle.eval_forms.specs.Operators.{prefix_rule, truth_rule, open_rule, match_rule, both_rule}
-use Rattle.eval_forms.specs.Operators.{binary_rule, operations_from, operation_rule, assign_rule}
-use Rattle.eval_forms.specs.Options.{case_rule, options_from, default_rule, default_option, any_takes, takes_rule}
-use Rattle.eval_forms.specs.Options.{selected_rule, selected_from, unselected_rule, default_pair, key_rule}
-use Rattle.eval_forms.specs.Values.{accessed_rule, type_rule}
+use Rattle.eval_forms.specs.Operators.{binary_rule, operations_from, operation_rule, assigned_rule}
+use Rattle.eval_forms.specs.Selectors.{selected_rule, selected_from, unselected_rule, default_pair, key_rule}
+use Rattle.eval_forms.specs.Types.{type_rule}
 use Rattle.eval_forms.proofs.Samples.{text, int, list, hash, undef, flag, default, num, word, told, x, y}
 use Rattle.eval_forms.proofs.Samples.{one_two, a_hash, spliced, in_parentheses, any_name}
 use Rattle.eval_forms.proofs.Samples.{first, second, third, ran, sample}
@@ -232,7 +233,7 @@ top = record { scope = record { number = 0 }; owner = 0 }
 
 -- `$a = e`
 abbrev sets_a : Expr → Here → Step Datum
-sets_a e = assign_rule sample (codes "a") e 7
+sets_a e = assigned_rule sample (codes "a") e 7
 
 -- at the beginning, and then something else there
 abbrev begun : Global → Manifests → (Here → Step Datum) → Outcome Datum
@@ -249,7 +250,7 @@ value_in (Err f) = None
 assigned_value : (alloc : Global) (manifests : Manifests)
     → (value_in (begun alloc manifests (sets_a (num 1))) ≡ Some (int 1))
     × (value_in (and_next (begun alloc manifests (sets_a (num 1))) (λ here. read here (codes "a") 8)) ≡ Some (int 1))
-unfolding assign_rule assign scopes.assign read scopes.read scopes.found scopes.seen_from last_cut
+unfolding assigned_rule assign scopes.assign read scopes.read scopes.found scopes.seen_from last_cut
 assigned_value alloc manifests = (refl, refl)
 
 abbrev refused : Global → Manifests → ℕ → What → Outcome Datum
@@ -261,7 +262,7 @@ assigned_twice : (alloc : Global) (manifests : Manifests)
     ≡ refused alloc manifests 7 (what.Reassigned (codes "a")))
     × (and_next (begun alloc manifests (sets_a (num 1))) (sets_a x)
     ≡ refused alloc manifests 8 (what.UnknownVariable (codes "x")))
-unfolding assign_rule assign scopes.assign
+unfolding assigned_rule assign scopes.assign
 assigned_twice alloc manifests = (refl, refl)
 
 -- ---- `if` and `unless`

@@ -102,8 +102,8 @@ binary_rule inner first os line here = do
   operations_from inner d os line here
 
 -- `$a = 1`: the value first, and then the fault where the name has one already. It gives the value.
-unfoldable pub assign_rule : Inner → List ℕ → Expr → ℕ → Here → Step Datum
-assign_rule inner name e line here = do
+unfoldable pub assigned_rule : Inner → List ℕ → Expr → ℕ → Here → Step Datum
+assigned_rule inner name e line here = do
   d ← inner.value e here
   assign here name d line
   pure d

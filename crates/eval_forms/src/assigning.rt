@@ -8,7 +8,7 @@ use pp_tree::expr::Expr;
 use pp_values::{Stop, Text};
 
 /// `$a = 1`: the value is evaluated first, and then set.
-#[tactic(auto, unfolding(crate::specs::Operators::assign_rule))]
+#[tactic(auto, unfolding(crate::specs::Operators::assigned_rule))]
 pub fn assigned<F: Fn(&mut World<'_>, Goal<'_>, Here, u32) -> Result<Evaluated, Stop>, M: Meaning>(
     forms: &Forms<F, M>,
     world: &mut World<'_>,
@@ -18,7 +18,7 @@ pub fn assigned<F: Fn(&mut World<'_>, Goal<'_>, Here, u32) -> Result<Evaluated, 
     here: Here,
 ) -> Result<Evaluated, Stop>
     requires { Nests (M.within forms.now.left) forms.now.left (F.pre forms.now.inner) (F.post forms.now.inner) }
-    ensures { Gives same (spec.assign_rule (M.within forms.now.left) name.now expr.now line here world.old)
+    ensures { Gives same (spec.assigned_rule (M.within forms.now.left) name.now expr.now line here world.old)
         result world.new }
 {
     let value = forms.value(world, expr, here)?;

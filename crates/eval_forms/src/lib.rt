@@ -2,22 +2,25 @@
 //! that stand one level further in.
 #![tactic(auto)]
 
+mod accesses;
 mod answering;
 mod assigning;
 mod binary;
+mod cases;
 mod conditions;
+mod defaults;
 mod literals;
 mod operator_kind;
-mod options;
 mod prefixes;
 mod selectors;
-mod values;
+mod types;
 
+pub use accesses::accessed;
 pub use assigning::assigned;
 pub use binary::binary;
+pub use cases::case_of;
 pub use conditions::{if_of, unless_of};
 pub use literals::{hash, interpolated, list};
-pub use options::case_of;
 pub use prefixes::prefix;
 pub use selectors::selected;
-pub use values::{accessed, type_of};
+pub use types::type_of;

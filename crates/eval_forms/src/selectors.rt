@@ -1,12 +1,12 @@
 //! Selectors.
 ghost use Rattle.std.specs.Prelude.{◌≡◌};
 ghost use Rattle.std.specs.Option.{option_copied};
-ghost use Rattle.eval_forms.specs.Options as spec;
+ghost use Rattle.eval_forms.specs.Selectors as spec;
 ghost use Rattle.eval_world.specs.Nests.{Nests};
 ghost use Rattle.eval_world.specs.Outcomes.{Gives, same};
 
 use crate::answering::bad_operand;
-use crate::options::is_default;
+use crate::defaults::is_default;
 use eval_world::{Evaluated, Forms, Goal, Here, Meaning, World};
 use expr_eval::option_takes;
 use pp_tree::expr::{Expr, Pair};
@@ -15,7 +15,7 @@ use pp_values::{Items, Stop};
 /// `? { 1 => 'a', default => 'b' }` behind a value that is there: the value of the first option that takes it, or
 /// else that
 /// of `default`. No other value is evaluated.
-#[tactic(auto, unfolding(crate::specs::Options::selected_rule, crate::specs::Options::selected_from))]
+#[tactic(auto, unfolding(crate::specs::Selectors::selected_rule, crate::specs::Selectors::selected_from))]
 pub fn selected<F: Fn(&mut World<'_>, Goal<'_>, Here, u32) -> Result<Evaluated, Stop>, M: Meaning>(
     forms: &Forms<F, M>,
     world: &mut World<'_>,
@@ -39,7 +39,7 @@ pub fn selected<F: Fn(&mut World<'_>, Goal<'_>, Here, u32) -> Result<Evaluated, 
 }
 
 /// Whether the key of an option takes the control value. The word `default` does not: it is taken last.
-#[tactic(auto, unfolding(crate::specs::Options::key_rule))]
+#[tactic(auto, unfolding(crate::specs::Selectors::key_rule))]
 fn takes<F: Fn(&mut World<'_>, Goal<'_>, Here, u32) -> Result<Evaluated, Stop>, M: Meaning>(
     forms: &Forms<F, M>,
     world: &mut World<'_>,
@@ -58,7 +58,7 @@ fn takes<F: Fn(&mut World<'_>, Goal<'_>, Here, u32) -> Result<Evaluated, Stop>, 
 }
 
 /// The value of the option for what no option takes. Without one a selector is refused.
-#[tactic(auto, unfolding(crate::specs::Options::unselected_rule))]
+#[tactic(auto, unfolding(crate::specs::Selectors::unselected_rule))]
 fn unselected<F: Fn(&mut World<'_>, Goal<'_>, Here, u32) -> Result<Evaluated, Stop>, M: Meaning>(
     forms: &Forms<F, M>,
     world: &mut World<'_>,
@@ -77,7 +77,7 @@ fn unselected<F: Fn(&mut World<'_>, Goal<'_>, Here, u32) -> Result<Evaluated, St
 }
 
 /// The first option whose key is the word `default`.
-#[tactic(auto, unfolding(crate::specs::Options::default_pair))]
+#[tactic(auto, unfolding(crate::specs::Selectors::default_pair))]
 fn default_pair(options: &Items<Pair>) -> Option<&Pair>
     ensures { option_copied result ≡ spec.default_pair options.now }
 {

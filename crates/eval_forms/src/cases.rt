@@ -4,7 +4,7 @@ ghost use Rattle.std.specs.List.{list_any};
 ghost use Rattle.std.specs.Option.{option_copied};
 ghost use Rattle.expr_eval.specs.Testing.{option_takes};
 ghost use Rattle.pp_values.specs.Views.{view, views};
-ghost use Rattle.eval_forms.specs.Options as spec;
+ghost use Rattle.eval_forms.specs.Conditions as spec;
 ghost use Rattle.eval_world.specs.Arguments.{is_splat};
 ghost use Rattle.eval_world.specs.Nests.{Nests};
 ghost use Rattle.eval_world.specs.Outcomes.{Gives, same};
@@ -18,7 +18,7 @@ use pp_values::{Items, Memory, Stop, Value};
 use std::alloc::Global;
 
 /// `case $a { 1, 2: { } default: { } }`. A block that stands too deep is refused at the line of the whole.
-#[tactic(auto, unfolding(crate::specs::Options::case_rule))]
+#[tactic(auto, unfolding(crate::specs::Conditions::case_rule))]
 pub fn case_of<F: Fn(&mut World<'_>, Goal<'_>, Here, u32) -> Result<Evaluated, Stop>, M: Meaning>(
     forms: &Forms<F, M>,
     world: &mut World<'_>,
@@ -34,7 +34,7 @@ pub fn case_of<F: Fn(&mut World<'_>, Goal<'_>, Here, u32) -> Result<Evaluated, S
 }
 
 /// The block of the first option that takes the control value, or else that of `default`.
-#[tactic(auto, unfolding(crate::specs::Options::options_from))]
+#[tactic(auto, unfolding(crate::specs::Conditions::options_from))]
 fn chosen<F: Fn(&mut World<'_>, Goal<'_>, Here, u32) -> Result<Evaluated, Stop>, M: Meaning>(
     forms: &Forms<F, M>,
     world: &mut World<'_>,
@@ -58,7 +58,7 @@ fn chosen<F: Fn(&mut World<'_>, Goal<'_>, Here, u32) -> Result<Evaluated, Stop>,
 }
 
 /// Whether some value of an option takes the control value. Those behind it are not evaluated.
-#[tactic(auto, unfolding(crate::specs::Options::any_takes))]
+#[tactic(auto, unfolding(crate::specs::Conditions::any_takes))]
 fn some_takes<F: Fn(&mut World<'_>, Goal<'_>, Here, u32) -> Result<Evaluated, Stop>, M: Meaning>(
     forms: &Forms<F, M>,
     world: &mut World<'_>,
@@ -81,7 +81,7 @@ fn some_takes<F: Fn(&mut World<'_>, Goal<'_>, Here, u32) -> Result<Evaluated, St
 }
 
 /// Whether one value of an option does. The word `default` does not: it is taken last.
-#[tactic(auto, unfolding(crate::specs::Options::takes_rule))]
+#[tactic(auto, unfolding(crate::specs::Conditions::takes_rule))]
 fn takes<F: Fn(&mut World<'_>, Goal<'_>, Here, u32) -> Result<Evaluated, Stop>, M: Meaning>(
     forms: &Forms<F, M>,
     world: &mut World<'_>,
@@ -128,7 +128,7 @@ fn members_take(members: &[Value], control: &Value) -> bool
 }
 
 /// The block of the option for what no option takes, where there is one.
-#[tactic(auto, unfolding(crate::specs::Options::default_rule))]
+#[tactic(auto, unfolding(crate::specs::Conditions::default_rule))]
 fn otherwise<F: Fn(&mut World<'_>, Goal<'_>, Here, u32) -> Result<Evaluated, Stop>, M: Meaning>(
     forms: &Forms<F, M>,
     world: &mut World<'_>,
@@ -147,7 +147,7 @@ fn otherwise<F: Fn(&mut World<'_>, Goal<'_>, Here, u32) -> Result<Evaluated, Sto
 }
 
 /// The first option with the word `default`.
-#[tactic(auto, unfolding(crate::specs::Options::default_option))]
+#[tactic(auto, unfolding(crate::specs::Conditions::default_option))]
 fn default_option(options: &Items<CaseOption>) -> Option<&CaseOption>
     ensures { option_copied result ≡ spec.default_option options.now }
 {
@@ -158,19 +158,9 @@ fn default_option(options: &Items<CaseOption>) -> Option<&CaseOption>
 }
 
 fn has_default(values: &Args) -> bool
-    ensures { result ≡ list_any spec.is_default values.now }
+    ensures { result ≡ list_any is_default values.now }
 {
     values.as_slice().iter().any(|value| is_default(value))
-}
-
-/// Whether an expression is the word `default`.
-pub fn is_default(expr: &Expr) -> bool
-    ensures { result ≡ spec.is_default expr.now }
-{
-    match expr.form.get() {
-        Form::Default => true,
-        _ => false,
-    }
 }
 
 /// Whether a value of an option is written with `*`.

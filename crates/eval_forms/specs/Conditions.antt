@@ -1,6 +1,7 @@
 -- `if`, `unless` and `case`. A block that stands too deep is refused where the whole expression begins.
 use Rattle.std.specs.Prelude.{ℕ, Bool, true, false, if◌then◌else◌, Option, None, Some, find, List, [], ◌∷◌}
 use Rattle.std.specs.List.{list_any}
+use Rattle.expr_eval.specs.Spreading.{spliced}
 use Rattle.expr_eval.specs.Testing.{option_takes}
 use Rattle.pp_tree.specs.declared.conditions.Case.{Case, out-Case}
 use Rattle.pp_tree.specs.declared.conditions.CaseOption.{CaseOption, out-CaseOption}
@@ -10,7 +11,7 @@ use Rattle.pp_tree.specs.declared.conditions.Unless.{Unless, out-Unless}
 use Rattle.pp_tree.specs.declared.expr.Expr.{Expr}
 use Rattle.pp_tree.specs.declared.statement.Statement.{Statement}
 use Rattle.pp_values.specs.Datum.{Datum, undef}
-use Rattle.eval_world.specs.Arguments.{given, is_splat}
+use Rattle.eval_world.specs.Arguments.{is_splat}
 use Rattle.eval_world.specs.Inner.{Inner}
 use Rattle.eval_world.specs.Outcomes.{Step, ◌>>=◌, pure}
 use Rattle.eval_world.specs.declared.here.Here.{Here}
@@ -46,14 +47,15 @@ unless_rule inner c line here = do
 
 -- ---- `case`
 
--- a value of an option takes the control value, or one of its members does, where it is written with `*`
-abbrev pub some_takes : Bool → Datum → Datum → Bool
-some_takes is_spliced option control = list_any (λ d. option_takes d control) (given is_spliced option)
+-- a value of an option takes the control value; where it is written with `*`, one of its members does
+abbrev pub value_takes : Bool → Datum → Datum → Bool
+value_takes true option control = list_any (λ d. option_takes d control) (spliced option)
+value_takes false option control = option_takes option control
 
 unfoldable pub takes_rule : Inner → Datum → Expr → Here → Step Bool
 takes_rule inner control e here = if is_default e then pure false else (do
   option ← inner.value e here
-  pure (some_takes (is_splat e) option control))
+  pure (value_takes (is_splat e) option control))
 
 -- some value of an option does; those behind it are not evaluated
 unfoldable pub any_takes : Inner → Datum → List Expr → Here → Step Bool

@@ -1,5 +1,5 @@
 -- Operators before and between values, and assignments.
-use Rattle.std.specs.Prelude.{ℕ, Bool, true, false, not, if◌then◌else◌, List, [], ◌∷◌}
+use Rattle.std.specs.Prelude.{ℕ, Bool, true, false, not, List, [], ◌∷◌}
 use Rattle.expr_eval.specs.Spreading.{spread}
 use Rattle.expr_eval.specs.Testing.{is_of}
 use Rattle.expr_eval.specs.Truth.{is_true}
@@ -45,12 +45,16 @@ open_rule inner true answer e here = do
   truth ← truth_rule inner e here
   pure (flag truth)
 
--- `=~` and `!~`: the value is of the type, or it is not
+-- what `=~` and `!~` make of whether the value is of the type
+abbrev pub as_wanted : Bool → Bool → Bool
+as_wanted true is_one = is_one
+as_wanted false is_one = not is_one
+
 unfoldable pub match_rule : Inner → Bool → Datum → Expr → ℕ → Here → Step Datum
 match_rule inner wanted left e line here = do
   right ← inner.value e here
   is_one ← answered_at (is_of left right) line here
-  pure (flag (if wanted then is_one else not is_one))
+  pure (flag (as_wanted wanted is_one))
 
 -- the other operators
 unfoldable pub both_rule : Inner → Op → Datum → Expr → ℕ → Here → Step Datum

@@ -96,7 +96,13 @@ fn matched<F: Fn(&mut World<'_>, Goal<'_>, Here, u32) -> Result<Evaluated, Stop>
 {
     let right = forms.value(world, right, here)?;
     let is_one = is_of_type(world, left, &right, line, here)?;
-    Ok(Evaluated::new(Value::Flag(if wanted { is_one } else { !is_one })))
+    Ok(Evaluated::new(Value::Flag(as_wanted(wanted, is_one))))
+}
+
+fn as_wanted(wanted: bool, is_one: bool) -> bool
+    ensures { result ≡ spec.as_wanted wanted is_one }
+{
+    if wanted { is_one } else { !is_one }
 }
 
 /// `and` and `or`, where the value before leaves the answer open or does not.

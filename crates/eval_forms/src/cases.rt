@@ -5,10 +5,12 @@ ghost use Rattle.std.specs.Option.{option_copied};
 ghost use Rattle.expr_eval.specs.Testing.{option_takes};
 ghost use Rattle.pp_values.specs.Views.{view, views};
 ghost use Rattle.eval_forms.specs.Conditions as spec;
+ghost use Rattle.eval_forms.specs.Defaults.{is_default};
 ghost use Rattle.eval_world.specs.Arguments.{is_splat};
 ghost use Rattle.eval_world.specs.Nests.{Nests};
 ghost use Rattle.eval_world.specs.Outcomes.{Gives, same};
 
+use crate::defaults::is_default;
 use eval_world::{Evaluated, Forms, Goal, Here, Meaning, World};
 use expr_eval::{option_takes, splice};
 use pp_tree::conditions::{Case, CaseOption};
@@ -97,17 +99,17 @@ fn takes<F: Fn(&mut World<'_>, Goal<'_>, Here, u32) -> Result<Evaluated, Stop>, 
         return Ok(false);
     }
     let option = forms.value(world, expr, here)?;
-    Ok(one_takes(world.alloc, is_splat(expr), &option, control)?)
+    Ok(value_takes(world.alloc, is_splat(expr), &option, control)?)
 }
 
 /// Whether the value takes the control value, or where it is spliced one of its members.
-fn one_takes(
+fn value_takes(
     alloc: Global,
     is_spliced: bool,
     option: &Evaluated,
     control: &Evaluated,
 ) -> Result<bool, Memory>
-    ensures { IfOk result (λ b. b ≡ spec.some_takes is_spliced option.now control.now) }
+    ensures { IfOk result (λ b. b ≡ spec.value_takes is_spliced option.now control.now) }
 {
     if is_spliced {
         let members = splice(alloc, option.as_value())?;

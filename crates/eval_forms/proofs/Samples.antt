@@ -116,7 +116,7 @@ meant Form-F.Default line here = pure d.default
 meant (Form-F.Number z) line here = pure (d.int z)
 meant (Form-F.Name t) line here = pure (text t)
 meant (Form-F.Text t) line here = write_log [] t >> pure (text t)
-meant (Form-F.Variable x) line here = fault here line (what.UnknownVariable x)
+meant (Form-F.Variable name) line here = fault here line (what.UnknownVariable name)
 meant (Form-F.Type t) line here = pure any
 meant (Form-F.Hash es) line here = pure (hash ((text (codes "a"), int 1) ∷ []))
 meant (Form-F.Parentheses e) line here = pure d.default
@@ -126,7 +126,7 @@ abbrev pub sample : Inner
 sample = record {
   value = λ e here. meant (out-Form (form_of e)) (line_of e) here;
   block = λ b line here. pure (ran b line);
-  words = λ x here. pure d.undef;
+  words = λ said here. pure d.undef;
   class = λ n line here. pure d.undef;
   instance = λ n line here. pure d.undef;
 }

@@ -1,8 +1,10 @@
 -- Small trees, and what they mean one level further in, for the examples.
 use Rattle.std.specs.Prelude.{◌≡◌, ℕ, Bool, List, [], ◌∷◌, ◌++◌, length, Ok, Err, pos, codes}
 use Rattle.pp_tree.specs.Building.{Block, expr_at, form_of, line_of, words}
-use Rattle.pp_tree.specs.Layers.{FormLayer, Form-F, out-Form}
+use Rattle.pp_tree.specs.Layers.{FormLayer}
+use Rattle.pp_tree.specs.declared.collector.Test.TheOpen.{Form-F}
 use Rattle.pp_tree.specs.declared.expr.Expr.{Expr}
+use Rattle.pp_tree.specs.declared.expr.Form.{out-Form}
 use Rattle.pp_tree.specs.declared.expr.Form.TheVariants as f
 use Rattle.pp_tree.specs.declared.operators.PrefixOperator.TheVariants as prefix
 use Rattle.pp_tree.specs.declared.statement.Statement.{Statement}

@@ -5,8 +5,8 @@
 mod accesses;
 mod answering;
 mod assigning;
-mod binary;
 mod cases;
+mod chains;
 mod conditions;
 mod defaults;
 mod literals;
@@ -17,8 +17,8 @@ mod types;
 
 pub use accesses::accessed;
 pub use assigning::assigned;
-pub use binary::binary;
 pub use cases::case_of;
+pub use chains::binary;
 pub use conditions::{if_of, unless_of};
 pub use literals::{hash, interpolated, list};
 pub use prefixes::prefix;

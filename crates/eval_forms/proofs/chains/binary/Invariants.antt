@@ -1,7 +1,7 @@
 -- What is left decides.
 use Rattle.std.proofs.Common.{◌≡◌, length}
 use Rattle.eval_forms.specs.Operators.{binary_rule, operations_from}
-use Rattle.eval_forms.proofs.binary.binary.Given as goal
+use Rattle.eval_forms.proofs.chains.binary.Given as goal
 
 abbrev pub invariant-loop-operation : goal.invariant-loop-operation
 invariant-loop-operation g l =

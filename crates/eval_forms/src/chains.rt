@@ -55,8 +55,8 @@ fn operated<F: Fn(&mut World<'_>, Goal<'_>, Here, u32) -> Result<Evaluated, Stop
     match OperatorKind::of(operation.operator) {
         OperatorKind::Combine(op) => both(forms, world, op, left, right, line, here),
         OperatorKind::Match(wanted) => matched(forms, world, wanted, left, right, line, here),
-        OperatorKind::And => open(forms, world, is_true(left.as_value()), false, right, here),
-        OperatorKind::Or => open(forms, world, !is_true(left.as_value()), true, right, here),
+        OperatorKind::And => if_open(forms, world, is_true(left.as_value()), false, right, here),
+        OperatorKind::Or => if_open(forms, world, !is_true(left.as_value()), true, right, here),
     }
 }
 
@@ -107,7 +107,7 @@ fn as_wanted(wanted: bool, is_one: bool) -> bool
 
 /// `and` and `or`, where the value before leaves the answer open or does not.
 #[tactic(auto, unfolding(crate::specs::Operators::open_rule))]
-fn open<F: Fn(&mut World<'_>, Goal<'_>, Here, u32) -> Result<Evaluated, Stop>, M: Meaning>(
+fn if_open<F: Fn(&mut World<'_>, Goal<'_>, Here, u32) -> Result<Evaluated, Stop>, M: Meaning>(
     forms: &Forms<F, M>,
     world: &mut World<'_>,
     is_open: bool,

@@ -1,7 +1,6 @@
 -- Steps over values that are there already, at the place of an expression.
 use Rattle.std.specs.Prelude.{ℕ, Result, codes, List}
 use Rattle.expr_eval.specs.Combining as steps
-use Rattle.expr_eval.specs.Testing as steps
 use Rattle.eval_world.specs.Outcomes.{Step, answered}
 use Rattle.eval_world.specs.Worlds.{fault, place_at}
 use Rattle.eval_world.specs.declared.here.Here.{Here}

@@ -67,8 +67,8 @@ fn unselected<F: Fn(&mut World<'_>, Goal<'_>, Here, u32) -> Result<Evaluated, St
     here: Here,
 ) -> Result<Evaluated, Stop>
     requires { Nests (M.within forms.now.left) forms.now.left (F.pre forms.now.inner) (F.post forms.now.inner) }
-    ensures { Gives same (spec.unselected_rule (M.within forms.now.left) (option_copied option.entry) line here world.old)
-        result world.new }
+    ensures { Gives same (spec.unselected_rule (M.within forms.now.left) (option_copied option.entry) line here
+        world.old) result world.new }
 {
     match option {
         Some(option) => forms.value(world, &option.value, here),

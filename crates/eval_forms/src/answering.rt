@@ -1,0 +1,56 @@
+//! Steps over values that are there already.
+ghost use Rattle.std.specs.Prelude.{◌≡◌, IfOk};
+ghost use Rattle.expr_eval.specs.Faults.{bad_operand};
+ghost use Rattle.expr_eval.specs.Testing.{is_of};
+ghost use Rattle.eval_forms.specs.Answering as spec;
+ghost use Rattle.eval_world.specs.Outcomes.{Gives, same};
+ghost use Rattle.eval_world.specs.Worlds.{place_at};
+
+use eval_world::{Evaluated, Here, World};
+use expr_eval::{combine, is_of};
+use pp_ops::op::Op;
+use pp_values::{Fault, Memory, Stop};
+
+/// The value of an operator over two values.
+#[tactic(auto, unfolding(crate::specs::Answering::combined))]
+pub fn combined(
+    world: &World<'_>,
+    op: Op,
+    left: &Evaluated,
+    right: &Evaluated,
+    line: u32,
+    here: Here,
+) -> Result<Evaluated, Stop>
+    ensures { Gives same (spec.combined op left.now right.now line here world.now) result world.now }
+{
+    let at = world.place(here, line)?;
+    let value = combine(world.alloc, op, left.as_value(), right.as_value(), &at)?;
+    Ok(Evaluated::new(value))
+}
+
+/// Whether a value is of a type.
+pub fn is_of_type(
+    world: &World<'_>,
+    value: &Evaluated,
+    kind: &Evaluated,
+    line: u32,
+    here: Here,
+) -> Result<bool, Stop>
+    ensures { Gives same (spec.answered_at (is_of value.now kind.now) line here world.now) result world.now }
+{
+    let at = world.place(here, line)?;
+    is_of(world.alloc, value.as_value(), kind.as_value(), &at)
+}
+
+/// The fault that an operator does not take what it is given, at a line of the file whose code is evaluated.
+pub fn bad_operand(
+    world: &World<'_>,
+    operator: &str,
+    line: u32,
+    here: Here,
+) -> Result<Fault, Memory>
+    ensures { IfOk result (λ f. f ≡ bad_operand operator.now (place_at world.now here line)) }
+{
+    let at = world.place(here, line)?;
+    expr_eval::bad_operand(world.alloc, operator, &at)
+}

@@ -8,14 +8,20 @@ ghost use Rattle.pp_values.specs.Views.{view, views};
 
 use crate::lambdas::{call_lambda, param_count};
 use eval_world::{Evaluated, Forms, Goal, Here, Meaning, World};
-use expr_eval::{Iteration, LambdaFunction, decides, gather, reduced_over, turn_of_with, turns_of, wrong_arguments};
+use expr_eval::{
+    Iteration, LambdaFunction, decides, gather, reduced_over, turn_of_with, turns_of,
+    wrong_arguments,
+};
 use pp_tree::Lambda;
 use pp_values::{Memory, Stop, Value, Values, copy};
 use std::alloc::Global;
 
 /// A call of a function that takes a lambda.
 #[tactic(auto, unfolding(crate::specs::Iterating::lambda_function_rule))]
-pub fn call_with_lambda<F: Fn(&mut World<'_>, Goal<'_>, Here, u32) -> Result<Evaluated, Stop>, M: Meaning>(
+pub fn call_with_lambda<
+    F: Fn(&mut World<'_>, Goal<'_>, Here, u32) -> Result<Evaluated, Stop>,
+    M: Meaning,
+>(
     forms: &Forms<F, M>,
     world: &mut World<'_>,
     function: LambdaFunction,
@@ -30,7 +36,15 @@ pub fn call_with_lambda<F: Fn(&mut World<'_>, Goal<'_>, Here, u32) -> Result<Eva
 {
     match function {
         LambdaFunction::Iterate(iteration) => {
-            iterate(forms, world, iteration, lambda, arguments.as_slice(), line, here)
+            iterate(
+                forms,
+                world,
+                iteration,
+                lambda,
+                arguments.as_slice(),
+                line,
+                here,
+            )
         }
         LambdaFunction::Reduce => reduce(forms, world, lambda, &arguments, line, here),
         LambdaFunction::With => with(forms, world, lambda, arguments, line, here),

@@ -7,7 +7,7 @@ ghost use Rattle.pp_values.specs.Views.{view, views};
 
 use eval_world::{Evaluated, Forms, Goal, Here, Meaning, World};
 use pp_tree::{Lambda, Param};
-use pp_values::{Memory, Stop, Value, Values};
+use pp_values::{Memory, Stop, Value, Values, What};
 
 /// How many parameters a lambda has.
 pub fn param_count(lambda: &Lambda) -> Result<u32, Memory>
@@ -22,7 +22,10 @@ pub fn param_count(lambda: &Lambda) -> Result<u32, Memory>
 /// One call of a lambda with these arguments, in a scope of its own. The lambda belongs to the call that begins at this
 /// line.
 #[tactic(auto, unfolding(crate::specs::Lambdas::lambda_rule))]
-pub fn call_lambda<F: Fn(&mut World<'_>, Goal<'_>, Here, u32) -> Result<Evaluated, Stop>, M: Meaning>(
+pub fn call_lambda<
+    F: Fn(&mut World<'_>, Goal<'_>, Here, u32) -> Result<Evaluated, Stop>,
+    M: Meaning,
+>(
     forms: &Forms<F, M>,
     world: &mut World<'_>,
     lambda: &Lambda,
@@ -68,9 +71,6 @@ fn bind_one(world: &mut World<'_>, param: &Param, argument: &Value, own: Here) -
             let value = Evaluated::copy_of(world.alloc, argument)?;
             world.assign(own, &param.name, value, param.at)
         }
-        Some(_) => {
-            world.not_built(own, param.at)?;
-            Ok(())
-        }
+        Some(_) => Err(Stop::Fault(world.fault(own, param.at, What::NotBuilt)?)),
     }
 }

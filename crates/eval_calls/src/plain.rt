@@ -31,7 +31,13 @@ pub fn call_plain(
 }
 
 /// A function of its arguments alone, or none that there is.
-fn compute(world: &World<'_>, function: &Text, arguments: &Values, line: u32, here: Here) -> Result<Evaluated, Stop>
+fn compute(
+    world: &World<'_>,
+    function: &Text,
+    arguments: &Values,
+    line: u32,
+    here: Here,
+) -> Result<Evaluated, Stop>
     requires { needs_evaluator function.now ≡ false }
     ensures { Gives same (at_line (applied function.now arguments.now) line here world.now) result world.now }
 {
@@ -72,7 +78,12 @@ fn log(world: &mut World<'_>, function: &Text, arguments: &Values) -> Result<Eva
 
 /// The fault of a lambda that is handed to what takes none.
 #[tactic(auto, unfolding(crate::specs::Calls::stray_lambda_rule))]
-pub fn refuse_lambda(world: &World<'_>, function: &Text, line: u32, here: Here) -> Result<Evaluated, Stop>
+pub fn refuse_lambda(
+    world: &World<'_>,
+    function: &Text,
+    line: u32,
+    here: Here,
+) -> Result<Evaluated, Stop>
     ensures { Gives same (spec.stray_lambda_rule function.now line here world.now) result world.now }
 {
     if is_function(function) {

@@ -20,5 +20,5 @@ pub use here::Here;
 pub use manifests::Manifests;
 pub use meaning::Meaning;
 pub use owner::Owner;
-pub use owners::Owners;
+pub use owners::{MAIN_SOURCE, Owners};
 pub use world::World;

@@ -1,0 +1,6 @@
+pub mod Evaluating
+pub mod Facts
+pub mod Meaning
+pub mod Postfixes
+pub mod Starting
+pub mod Statements

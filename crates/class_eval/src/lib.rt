@@ -1,0 +1,12 @@
+//! The evaluator: what each form of the language gives, within one another to any lawful depth.
+#![tactic(auto)]
+
+mod evaluator;
+mod knot;
+mod nodes;
+mod postfixes;
+mod starting;
+mod statements;
+mod top_names;
+
+pub use evaluator::{Evaluator, GREATEST_DEPTH};

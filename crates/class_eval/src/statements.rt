@@ -1,0 +1,98 @@
+//! Statements and blocks.
+ghost use Rattle.std.specs.Prelude.{◌≡◌};
+ghost use Rattle.class_eval.specs.Statements as spec;
+ghost use Rattle.eval_world.specs.Nests.{Nests};
+ghost use Rattle.eval_world.specs.Outcomes.{Gives, same};
+
+use eval_resources::{collector, resource};
+use eval_world::{Evaluated, Forms, Goal, Here, Meaning, World};
+use pp_tree::statement::{Block, Chain, Operand, Statement};
+use pp_values::{Stop, Value};
+
+/// The value of a block: that of its last statement that gives one, and Undef where none does.
+#[tactic(auto, unfolding(crate::specs::Statements::statements_from))]
+pub fn block<F: Fn(&mut World<'_>, Goal<'_>, Here, u32) -> Result<Evaluated, Stop>, M: Meaning>(
+    forms: &Forms<F, M>,
+    world: &mut World<'_>,
+    block: &Block,
+    here: Here,
+) -> Result<Evaluated, Stop>
+    requires { Nests (M.within forms.now.left) forms.now.left (F.pre forms.now.inner) (F.post forms.now.inner) }
+    ensures { Gives same (spec.block_rule (M.within forms.now.left) block.now here world.old) result world.new }
+{
+    let mut last = Evaluated::new(Value::Undef);
+    let mut rest = block.as_slice();
+    while let Some((next, more)) = rest.split_first() {
+        let given = statement(forms, world, next, here)?;
+        last = or_before(given, last);
+        rest = more;
+    }
+    Ok(last)
+}
+
+fn or_before(given: Option<Evaluated>, before: Evaluated) -> Evaluated
+    ensures { result ≡ spec.or_before given before }
+{
+    match given {
+        Some(value) => value,
+        None => before,
+    }
+}
+
+#[tactic(auto, unfolding(crate::specs::Statements::statement_rule))]
+fn statement<F: Fn(&mut World<'_>, Goal<'_>, Here, u32) -> Result<Evaluated, Stop>, M: Meaning>(
+    forms: &Forms<F, M>,
+    world: &mut World<'_>,
+    statement: &Statement,
+    here: Here,
+) -> Result<Option<Evaluated>, Stop>
+    requires { Nests (M.within forms.now.left) forms.now.left (F.pre forms.now.inner) (F.post forms.now.inner) }
+    ensures { Gives same (spec.statement_rule (M.within forms.now.left) statement.now here world.old) result world.new }
+{
+    match statement {
+        Statement::Chain(chain) => chained(forms, world, chain, here),
+        Statement::Words(words) => Ok(Some(forms.words(world, words, here)?)),
+    }
+}
+
+/// Operands with arrows between them, or one alone.
+#[tactic(auto, unfolding(crate::specs::Statements::chain_rule))]
+fn chained<F: Fn(&mut World<'_>, Goal<'_>, Here, u32) -> Result<Evaluated, Stop>, M: Meaning>(
+    forms: &Forms<F, M>,
+    world: &mut World<'_>,
+    chain: &Chain,
+    here: Here,
+) -> Result<Option<Evaluated>, Stop>
+    requires { Nests (M.within forms.now.left) forms.now.left (F.pre forms.now.inner) (F.post forms.now.inner) }
+    ensures { Gives same (spec.chain_rule (M.within forms.now.left) chain.now here world.old) result world.new }
+{
+    match chain.links.as_slice() {
+        [] => operand(forms, world, &chain.first, chain.at, here),
+        [_, ..] => Ok(Some(world.not_built(here, chain.at)?)),
+    }
+}
+
+#[tactic(auto, unfolding(crate::specs::Statements::operand_rule))]
+fn operand<F: Fn(&mut World<'_>, Goal<'_>, Here, u32) -> Result<Evaluated, Stop>, M: Meaning>(
+    forms: &Forms<F, M>,
+    world: &mut World<'_>,
+    operand: &Operand,
+    line: u32,
+    here: Here,
+) -> Result<Option<Evaluated>, Stop>
+    requires { Nests (M.within forms.now.left) forms.now.left (F.pre forms.now.inner) (F.post forms.now.inner) }
+    ensures { Gives same (spec.operand_rule (M.within forms.now.left) operand.now line here world.old) result world.new }
+{
+    match operand {
+        Operand::Expr(expr) => Ok(Some(forms.value(world, expr, here)?)),
+        Operand::Resource(declared) => {
+            resource(forms, world, declared, here)?;
+            Ok(None)
+        }
+        Operand::Collector(registered) => {
+            collector(forms, world, registered, here)?;
+            Ok(None)
+        }
+        Operand::Override(_) | Operand::Defaults(_) => Ok(Some(world.not_built(here, line)?)),
+    }
+}

@@ -1,5 +1,6 @@
 -- The definitions at worked examples. Each line holds by computing.
-use Rattle.std.proofs.Common.{◌≡◌, ℕ, Bool, true, false, ℤ, pos, negsuc, List, [], ◌∷◌, map, Option, None, Some, Result, Ok, Err, refl, codes}
+use Rattle.std.proofs.Common.{◌≡◌, ℕ, true, false, pos, negsuc, List, [], ◌∷◌, map, Option, None, Some}
+use Rattle.std.proofs.Common.{Result, Ok, Err, refl, codes}
 use Rattle.std.specs.declared.alloc.Global.{Global}
 use Rattle.pp_funcs.specs.Names.{function_of, needs_evaluator}
 use Rattle.pp_tree.specs.Building as tree
@@ -27,8 +28,10 @@ use Rattle.eval_world.specs.Outcomes.{Outcome, Step, ◌>>=◌, ◌>>◌, pure}
 use Rattle.eval_world.specs.Worlds.{empty, fault, read, assign, enter_lambda, write_log}
 use Rattle.eval_world.specs.declared.here.Here.{Here}
 use Rattle.eval_world.specs.declared.manifests.Manifests.{Manifests}
-use Rattle.eval_calls.specs.Calls.{call_rule, method_rule, words_rule, called, plain_rule, evaluated_rule, log_rule, with_lambda_rule, stray_lambda_rule}
-use Rattle.eval_calls.specs.Iterating.{turns_from, over_rule, iterate_rule, reduce_from, reduced, reduce_rule, with_rule, lambda_function_rule}
+use Rattle.eval_calls.specs.Calls.{call_rule, method_rule, words_rule, called}
+use Rattle.eval_calls.specs.Calls.{plain_rule, evaluated_rule, log_rule, with_lambda_rule, stray_lambda_rule}
+use Rattle.eval_calls.specs.Iterating.{turns_from, over_rule, iterate_rule, reduce_from, reduced, reduce_rule}
+use Rattle.eval_calls.specs.Iterating.{with_rule, lambda_function_rule}
 use Rattle.eval_calls.specs.Lambdas.{bind_rule, bind_from, lambda_rule}
 
 -- ---- what the examples are made of
@@ -141,7 +144,8 @@ unfolding call_rule called values_from argument_rule plain_rule evaluated_rule l
 left_to_right alloc m = refl
 
 spliced_arguments : (alloc : Global) (m : Manifests)
-    → run (calls (list (one ∷ d.undef ∷ one ∷ [])) fails (codes "notice") (spliced ∷ written (codes "b") ∷ []) None) alloc m
+    → run (calls (list (one ∷ d.undef ∷ one ∷ [])) fails (codes "notice") (spliced ∷ written
+        (codes "b") ∷ []) None) alloc m
     ≡ Ok (d.undef, codes "b" ∷ codes "1  1 b" ∷ [])
 unfolding call_rule called values_from argument_rule plain_rule evaluated_rule log_rule write_log needs_evaluator
 spliced_arguments alloc m = refl
@@ -165,15 +169,18 @@ unfolding call_rule called values_from plain_rule needs_evaluator function_of
 unknown_as_written alloc m = refl
 
 receiver_first : (alloc : Global) (m : Manifests)
-    → run (method_rule (inner d.undef fails) one (tree.call (codes "notice") (written (codes "a") ∷ []) None) 3 top) alloc m
+    → run (method_rule (inner d.undef fails) one (tree.call (codes "notice") (written
+        (codes "a") ∷ []) None) 3 top) alloc m
     ≡ Ok (d.undef, codes "a" ∷ codes "1 a" ∷ [])
 unfolding method_rule called values_from argument_rule plain_rule evaluated_rule log_rule write_log needs_evaluator
 receiver_first alloc m = refl
 
 method_with_lambda : (alloc : Global) (m : Manifests)
-    → run (method_rule (inner d.undef notice_x) (list (one ∷ [])) (tree.call (codes "map") [] (Some takes_x)) 3 top) alloc m
+    → run (method_rule (inner d.undef notice_x) (list (one ∷ [])) (tree.call (codes "map") []
+        (Some takes_x)) 3 top) alloc m
     ≡ Ok (list (one ∷ []), codes "1" ∷ [])
-unfolding method_rule called values_from with_lambda_rule lambda_function lambda_function_rule iterate_rule over_rule turns_from lambda_rule enter_lambda bind_from bind_rule assign read write_log
+unfolding method_rule called values_from with_lambda_rule lambda_function lambda_function_rule iterate_rule over_rule
+    turns_from lambda_rule enter_lambda bind_from bind_rule assign read write_log
 method_with_lambda alloc m = refl
 
 without_parentheses : (alloc : Global) (m : Manifests)
@@ -200,8 +207,8 @@ levels (Ok p) = Ok (map (λ l. (l.level, l.text)) p.1.log)
 levels (Err f) = Err f
 
 all_levels : (alloc : Global) (m : Manifests)
-    → levels ((plainly (codes "debug") (one ∷ one ∷ []) >> (plainly (codes "info") [] >> (plainly (codes "notice") (one ∷ [])
-    >> (plainly (codes "warning") (one ∷ []) >> plainly (codes "err") (one ∷ []))))) (empty alloc m))
+    → levels ((plainly (codes "debug") (one ∷ one ∷ []) >> (plainly (codes "info") []
+    >> (plainly (codes "notice") (one ∷ []) >> (plainly (codes "warning") (one ∷ []) >> plainly (codes "err") (one ∷ []))))) (empty alloc m))
     ≡ Ok ((codes "debug", codes "1 1") ∷ (codes "info", []) ∷ (codes "notice", codes "1") ∷ (codes "warning", codes "1")
     ∷ (codes "err", codes "1") ∷ [])
 unfolding plain_rule evaluated_rule log_rule write_log needs_evaluator
@@ -223,7 +230,8 @@ unfolding plain_rule needs_evaluator function_of
 pure_wrong alloc m = refl
 
 pure_range : (alloc : Global) (m : Manifests)
-    → run (plainly (codes "abs") (d.int (negsuc 9223372036854775807) ∷ [])) alloc m ≡ refuses 3 (what.NumberRange (codes "abs"))
+    → run (plainly (codes "abs") (d.int (negsuc 9223372036854775807) ∷ [])) alloc m ≡ refuses 3
+        (what.NumberRange (codes "abs"))
 unfolding plain_rule needs_evaluator function_of
 pure_range alloc m = refl
 
@@ -294,7 +302,8 @@ arguments_before_not_built alloc m = refl
 
 abbrev takes_none : List ℕ → Type 0
 takes_none f = (alloc : Global) (m : Manifests)
-    → run (with_lambda_rule (inner d.undef fails) f takes_x (one ∷ []) 3 top) alloc m ≡ refuses 3 (what.WrongArguments f)
+    → run (with_lambda_rule (inner d.undef fails) f takes_x (one ∷ []) 3 top) alloc m ≡ refuses 3
+        (what.WrongArguments f)
 
 length_takes_none : takes_none (codes "length")
 unfolding with_lambda_rule lambda_function stray_lambda_rule needs_evaluator function_of
@@ -319,7 +328,8 @@ lookup_takes_none alloc m = refl
 unknown_with_lambda : (alloc : Global) (m : Manifests)
     → run (calls d.undef fails (codes "nope") (given ∷ []) (Some takes_x)) alloc m
     ≡ refuses 3 (what.UnknownFunction (codes "nope"))
-unfolding call_rule called values_from argument_rule with_lambda_rule lambda_function stray_lambda_rule needs_evaluator function_of
+unfolding call_rule called values_from argument_rule with_lambda_rule lambda_function stray_lambda_rule
+    needs_evaluator function_of
 unknown_with_lambda alloc m = refl
 
 arguments_before_lambda : (alloc : Global) (m : Manifests)
@@ -355,7 +365,8 @@ unfolding lambda_rule enter_lambda bind_from bind_rule
 typed alloc m = refl
 
 typed_after_twice : (alloc : Global) (m : Manifests)
-    → run (lambda_of notice_x (plain x 7 ∷ plain x 8 ∷ tree.param (Some given) y None 9 ∷ []) (one ∷ one ∷ one ∷ [])) alloc m
+    → run (lambda_of notice_x (plain x 7 ∷ plain x 8 ∷ tree.param (Some given) y None 9 ∷ [])
+        (one ∷ one ∷ one ∷ [])) alloc m
     ≡ refuses 8 (what.Reassigned x)
 unfolding lambda_rule enter_lambda bind_from bind_rule assign
 typed_after_twice alloc m = refl
@@ -381,7 +392,8 @@ parameter_ends_beside alloc m = refl
 
 -- a parameter hides a variable of the scope around it, which stays as it is
 hides : (alloc : Global) (m : Manifests)
-    → run (assign top x (text (codes "outer")) 1 >> (lambda_of notice_x (plain x 7 ∷ []) (one ∷ []) >> read top x 9)) alloc m
+    → run (assign top x (text (codes "outer")) 1 >> (lambda_of notice_x (plain x 7 ∷ [])
+        (one ∷ []) >> read top x 9)) alloc m
     ≡ Ok (text (codes "outer"), codes "1" ∷ [])
 unfolding lambda_rule enter_lambda bind_from bind_rule assign read write_log
 hides alloc m = refl
@@ -416,14 +428,16 @@ reads_no_caller alloc m = refl
 abbrev with_lambda : (ℕ → Here → Step Datum) → List ℕ → Lambda → List Datum → Step Datum
 with_lambda block f l arguments = with_lambda_rule (inner d.undef block) f l arguments 3 top
 
-abbrev no : Datum
-no = d.flag false
+abbrev untrue : Datum
+untrue = d.flag false
 
 -- each member in order, Undef and what is false too
 each_member : (alloc : Global) (m : Manifests)
-    → run (with_lambda notice_x (codes "each") takes_x (list (one ∷ d.undef ∷ no ∷ text (codes "a") ∷ []) ∷ [])) alloc m
-    ≡ Ok (list (one ∷ d.undef ∷ no ∷ text (codes "a") ∷ []), codes "1" ∷ [] ∷ codes "false" ∷ codes "a" ∷ [])
-unfolding with_lambda_rule lambda_function lambda_function_rule iterate_rule over_rule turns_from lambda_rule enter_lambda bind_from bind_rule assign read write_log
+    → run (with_lambda notice_x (codes "each") takes_x (list (one ∷ d.undef ∷ untrue ∷ text
+        (codes "a") ∷ []) ∷ [])) alloc m
+    ≡ Ok (list (one ∷ d.undef ∷ untrue ∷ text (codes "a") ∷ []), codes "1" ∷ [] ∷ codes "false" ∷ codes "a" ∷ [])
+unfolding with_lambda_rule lambda_function lambda_function_rule iterate_rule over_rule turns_from lambda_rule
+    enter_lambda bind_from bind_rule assign read write_log
 each_member alloc m = refl
 
 each_of_none : (alloc : Global) (m : Manifests)
@@ -435,70 +449,84 @@ each_of_none alloc m = refl
 each_fails : (alloc : Global) (m : Manifests)
     → run (with_lambda fails (codes "each") takes_x (list (one ∷ one ∷ []) ∷ [])) alloc m
     ≡ refuses 3 (what.Failed (codes "block"))
-unfolding with_lambda_rule lambda_function lambda_function_rule iterate_rule over_rule turns_from lambda_rule enter_lambda bind_from bind_rule assign
+unfolding with_lambda_rule lambda_function lambda_function_rule iterate_rule over_rule turns_from lambda_rule
+    enter_lambda bind_from bind_rule assign
 each_fails alloc m = refl
 
 places_and_members : (alloc : Global) (m : Manifests)
     → run (with_lambda notice_x_give_y (codes "map") takes_xy (list (text (codes "a") ∷ d.undef ∷ []) ∷ [])) alloc m
     ≡ Ok (list (text (codes "a") ∷ d.undef ∷ []), codes "0" ∷ codes "1" ∷ [])
-unfolding with_lambda_rule lambda_function lambda_function_rule iterate_rule over_rule turns_from lambda_rule enter_lambda bind_from bind_rule assign read write_log
+unfolding with_lambda_rule lambda_function lambda_function_rule iterate_rule over_rule turns_from lambda_rule
+    enter_lambda bind_from bind_rule assign read write_log
 places_and_members alloc m = refl
 
 keys_and_values : (alloc : Global) (m : Manifests)
-    → run (with_lambda notice_x_give_y (codes "map") takes_xy (hash ((text (codes "a"), one) ∷ (text (codes "b"), no) ∷ []) ∷ [])) alloc m
-    ≡ Ok (list (one ∷ no ∷ []), codes "a" ∷ codes "b" ∷ [])
-unfolding with_lambda_rule lambda_function lambda_function_rule iterate_rule over_rule turns_from lambda_rule enter_lambda bind_from bind_rule assign read write_log
+    → run (with_lambda notice_x_give_y (codes "map") takes_xy (hash ((text (codes "a"), one) ∷ (text
+        (codes "b"), untrue) ∷ []) ∷ [])) alloc m
+    ≡ Ok (list (one ∷ untrue ∷ []), codes "a" ∷ codes "b" ∷ [])
+unfolding with_lambda_rule lambda_function lambda_function_rule iterate_rule over_rule turns_from lambda_rule
+    enter_lambda bind_from bind_rule assign read write_log
 keys_and_values alloc m = refl
 
 pairs_alone : (alloc : Global) (m : Manifests)
     → run (with_lambda notice_x (codes "map") takes_x (hash ((text (codes "a"), one) ∷ []) ∷ [])) alloc m
     ≡ Ok (list (list (text (codes "a") ∷ one ∷ []) ∷ []), codes "[a, 1]" ∷ [])
-unfolding with_lambda_rule lambda_function lambda_function_rule iterate_rule over_rule turns_from lambda_rule enter_lambda bind_from bind_rule assign read write_log
+unfolding with_lambda_rule lambda_function lambda_function_rule iterate_rule over_rule turns_from lambda_rule
+    enter_lambda bind_from bind_rule assign read write_log
 pairs_alone alloc m = refl
 
 filters : (alloc : Global) (m : Manifests)
-    → run (with_lambda notice_x (codes "filter") takes_x (list (one ∷ d.undef ∷ no ∷ text [] ∷ []) ∷ [])) alloc m
+    → run (with_lambda notice_x (codes "filter") takes_x (list (one ∷ d.undef ∷ untrue ∷ text [] ∷ []) ∷ [])) alloc m
     ≡ Ok (list (one ∷ text [] ∷ []), codes "1" ∷ [] ∷ codes "false" ∷ [] ∷ [])
-unfolding with_lambda_rule lambda_function lambda_function_rule iterate_rule over_rule turns_from lambda_rule enter_lambda bind_from bind_rule assign read write_log
+unfolding with_lambda_rule lambda_function lambda_function_rule iterate_rule over_rule turns_from lambda_rule
+    enter_lambda bind_from bind_rule assign read write_log
 filters alloc m = refl
 
 -- the first that is true decides `any`, and the first that is not `all`: no further turn is taken
 any_stops : (alloc : Global) (m : Manifests)
-    → run (with_lambda notice_x (codes "any") takes_x (list (no ∷ one ∷ text (codes "never") ∷ []) ∷ [])) alloc m
+    → run (with_lambda notice_x (codes "any") takes_x (list (untrue ∷ one ∷ text (codes "never") ∷ []) ∷ [])) alloc m
     ≡ Ok (d.flag true, codes "false" ∷ codes "1" ∷ [])
-unfolding with_lambda_rule lambda_function lambda_function_rule iterate_rule over_rule turns_from lambda_rule enter_lambda bind_from bind_rule assign read write_log
+unfolding with_lambda_rule lambda_function lambda_function_rule iterate_rule over_rule turns_from lambda_rule
+    enter_lambda bind_from bind_rule assign read write_log
 any_stops alloc m = refl
 
 any_of_none : (alloc : Global) (m : Manifests)
-    → run (with_lambda notice_x (codes "any") takes_x (list (no ∷ d.undef ∷ []) ∷ [])) alloc m
+    → run (with_lambda notice_x (codes "any") takes_x (list (untrue ∷ d.undef ∷ []) ∷ [])) alloc m
     ≡ Ok (d.flag false, codes "false" ∷ [] ∷ [])
-unfolding with_lambda_rule lambda_function lambda_function_rule iterate_rule over_rule turns_from lambda_rule enter_lambda bind_from bind_rule assign read write_log
+unfolding with_lambda_rule lambda_function lambda_function_rule iterate_rule over_rule turns_from lambda_rule
+    enter_lambda bind_from bind_rule assign read write_log
 any_of_none alloc m = refl
 
 all_stops : (alloc : Global) (m : Manifests)
     → run (with_lambda notice_x (codes "all") takes_x (list (one ∷ d.undef ∷ text (codes "never") ∷ []) ∷ [])) alloc m
     ≡ Ok (d.flag false, codes "1" ∷ [] ∷ [])
-unfolding with_lambda_rule lambda_function lambda_function_rule iterate_rule over_rule turns_from lambda_rule enter_lambda bind_from bind_rule assign read write_log
+unfolding with_lambda_rule lambda_function lambda_function_rule iterate_rule over_rule turns_from lambda_rule
+    enter_lambda bind_from bind_rule assign read write_log
 all_stops alloc m = refl
 
 all_of_all : (alloc : Global) (m : Manifests)
     → run (with_lambda notice_x (codes "all") takes_x (list (one ∷ one ∷ []) ∷ [])) alloc m
     ≡ Ok (d.flag true, codes "1" ∷ codes "1" ∷ [])
-unfolding with_lambda_rule lambda_function lambda_function_rule iterate_rule over_rule turns_from lambda_rule enter_lambda bind_from bind_rule assign read write_log
+unfolding with_lambda_rule lambda_function lambda_function_rule iterate_rule over_rule turns_from lambda_rule
+    enter_lambda bind_from bind_rule assign read write_log
 all_of_all alloc m = refl
 
 -- with a start value, each member is a turn
 reduces_from_start : (alloc : Global) (m : Manifests)
-    → run (with_lambda notice_x_give_y (codes "reduce") takes_xy (list (one ∷ no ∷ []) ∷ text (codes "start") ∷ [])) alloc m
-    ≡ Ok (no, codes "start" ∷ codes "1" ∷ [])
-unfolding with_lambda_rule lambda_function lambda_function_rule reduce_rule reduced reduce_from lambda_rule enter_lambda bind_from bind_rule assign read write_log
+    → run (with_lambda notice_x_give_y (codes "reduce") takes_xy (list (one ∷ untrue ∷ []) ∷ text
+        (codes "start") ∷ [])) alloc m
+    ≡ Ok (untrue, codes "start" ∷ codes "1" ∷ [])
+unfolding with_lambda_rule lambda_function lambda_function_rule reduce_rule reduced reduce_from lambda_rule
+    enter_lambda bind_from bind_rule assign read write_log
 reduces_from_start alloc m = refl
 
 -- without one, the first member is the first memo
 reduces : (alloc : Global) (m : Manifests)
-    → run (with_lambda notice_x_give_y (codes "reduce") takes_xy (list (text (codes "a") ∷ d.undef ∷ one ∷ []) ∷ [])) alloc m
+    → run (with_lambda notice_x_give_y (codes "reduce") takes_xy (list (text
+        (codes "a") ∷ d.undef ∷ one ∷ []) ∷ [])) alloc m
     ≡ Ok (one, codes "a" ∷ [] ∷ [])
-unfolding with_lambda_rule lambda_function lambda_function_rule reduce_rule reduced reduce_from lambda_rule enter_lambda bind_from bind_rule assign read write_log
+unfolding with_lambda_rule lambda_function lambda_function_rule reduce_rule reduced reduce_from lambda_rule
+    enter_lambda bind_from bind_rule assign read write_log
 reduces alloc m = refl
 
 reduces_one : (alloc : Global) (m : Manifests)
@@ -512,8 +540,10 @@ unfolding with_lambda_rule lambda_function lambda_function_rule reduce_rule redu
 reduces_none alloc m = refl
 
 takes_arguments : (alloc : Global) (m : Manifests)
-    → run (with_lambda notice_x_give_y (codes "with") takes_xy (one ∷ no ∷ [])) alloc m ≡ Ok (no, codes "1" ∷ [])
-unfolding with_lambda_rule lambda_function lambda_function_rule with_rule lambda_rule enter_lambda bind_from bind_rule assign read write_log
+    → run (with_lambda notice_x_give_y (codes "with") takes_xy (one ∷ untrue ∷ [])) alloc m ≡ Ok
+        (untrue, codes "1" ∷ [])
+unfolding with_lambda_rule lambda_function lambda_function_rule with_rule lambda_rule enter_lambda bind_from bind_rule
+    assign read write_log
 takes_arguments alloc m = refl
 
 takes_no_arguments : (alloc : Global) (m : Manifests)

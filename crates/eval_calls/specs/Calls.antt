@@ -1,10 +1,9 @@
 -- Calls: `f(1, $a) |$x| { }`, `$a.f(1)` and `notice $a`.
-use Rattle.std.specs.Prelude.{ℕ, if◌then◌else◌, List, [], ◌∷◌, Option, None, Some}
+use Rattle.std.specs.Prelude.{ℕ, if◌then◌else◌, List, [], ◌∷◌, Option, None, Some, option_map}
 use Rattle.pp_funcs.specs.Functions.{applied}
 use Rattle.pp_funcs.specs.Names.{needs_evaluator}
 use Rattle.pp_tree.specs.declared.expr.Call.{Call, out-Call}
 use Rattle.pp_tree.specs.declared.expr.Expr.{Expr}
-use Rattle.pp_tree.specs.declared.expr.Lambda.{Lambda}
 use Rattle.pp_tree.specs.declared.statement.Words.{Words}
 use Rattle.pp_values.specs.Datum.{Datum, undef}
 use Rattle.pp_values.specs.declared.fault.What.TheVariants as what
@@ -17,6 +16,7 @@ use Rattle.eval_world.specs.Outcomes.{Step, ◌>>=◌, ◌>>◌, pure}
 use Rattle.eval_world.specs.Worlds.{fault, not_built, write_log}
 use Rattle.eval_world.specs.declared.here.Here.{Here}
 use Rattle.eval_calls.specs.Iterating.{lambda_function_rule}
+use Rattle.eval_calls.specs.Lambdas.{Opened, opened}
 use Rattle.eval_calls.specs.Names.{is_function, is_log}
 use Rattle.eval_calls.specs.Places.{at_line, wrong}
 
@@ -51,37 +51,45 @@ unfoldable pub stray_lambda_rule : List ℕ → ℕ → Here → Step Datum
 stray_lambda_rule f line here =
     if is_function f then wrong f line here else fault here line (what.UnknownFunction f)
 
-abbrev pub with_lambda_by : Inner → Option LambdaFunction → List ℕ → Lambda → List Datum → ℕ → Here → Step Datum
+abbrev pub with_lambda_by : Inner → Option LambdaFunction → List ℕ → Opened → List Datum → ℕ → Here → Step Datum
 with_lambda_by inner (Some g) f l arguments line here = lambda_function_rule inner g l arguments line here
 with_lambda_by inner None f l arguments line here = stray_lambda_rule f line here
 
-unfoldable pub with_lambda_rule : Inner → List ℕ → Lambda → List Datum → ℕ → Here → Step Datum
+unfoldable pub with_lambda_rule : Inner → List ℕ → Opened → List Datum → ℕ → Here → Step Datum
 with_lambda_rule inner f l arguments line here = with_lambda_by inner (lambda_function f) f l arguments line here
 
 -- ---- calls
 
-abbrev pub called_by : Inner → Option Lambda → List ℕ → List Datum → ℕ → Here → Step Datum
-called_by inner None f arguments line here = plain_rule f arguments line here
-called_by inner (Some l) f arguments line here = with_lambda_rule inner f l arguments line here
-
 -- the function of these arguments, and the lambda where there is one
-unfoldable pub called : Inner → Call → List Datum → ℕ → Here → Step Datum
-called inner c arguments line here = called_by inner (out-Call c).lambda (out-Call c).function arguments line here
+abbrev pub called : Inner → List ℕ → Option Opened → List Datum → ℕ → Here → Step Datum
+called inner f None arguments line here = plain_rule f arguments line here
+called inner f (Some l) arguments line here = with_lambda_rule inner f l arguments line here
 
--- The arguments come first, from left to right; whether there is such a function is asked after that.
+-- the same of a call as it stands in the tree
+abbrev pub called_as : Inner → Call → List Datum → ℕ → Here → Step Datum
+called_as inner c arguments line here =
+    called inner (out-Call c).function (option_map opened (out-Call c).lambda) arguments line here
+
+-- the arguments come first, from left to right; whether there is such a function is asked after that
+unfoldable pub invoked : Inner → List ℕ → List Expr → Option Opened → ℕ → Here → Step Datum
+invoked inner f args l line here = do
+  arguments ← values_from inner [] args here
+  called inner f l arguments line here
+
 unfoldable pub call_rule : Inner → Call → ℕ → Here → Step Datum
-call_rule inner c line here = do
-  arguments ← values_from inner [] (out-Call c).args here
-  called inner c arguments line here
+call_rule inner c line here =
+    invoked inner (out-Call c).function (out-Call c).args (option_map opened (out-Call c).lambda) line here
 
 -- `x.f(y)` is `f(x, y)`: the value that is there already is the first argument
+unfoldable pub invoked_on : Inner → Datum → List ℕ → List Expr → Option Opened → ℕ → Here → Step Datum
+invoked_on inner receiver f args l line here = do
+  arguments ← values_from inner [] args here
+  called inner f l (receiver ∷ arguments) line here
+
 unfoldable pub method_rule : Inner → Datum → Call → ℕ → Here → Step Datum
-method_rule inner receiver c line here = do
-  arguments ← values_from inner [] (out-Call c).args here
-  called inner c (receiver ∷ arguments) line here
+method_rule inner receiver c line here =
+    invoked_on inner receiver (out-Call c).function (out-Call c).args (option_map opened (out-Call c).lambda) line here
 
 -- a call without parentheses, which has no lambda
 unfoldable pub words_rule : Inner → Words Expr → Here → Step Datum
-words_rule inner x here = do
-  arguments ← values_from inner [] x.args here
-  plain_rule x.function arguments x.at here
+words_rule inner x here = invoked inner x.function x.args None x.at here

@@ -1,6 +1,7 @@
 //! Calls: `f(1, $a) |$x| { }`, `$a.f(1)` and `notice $a`.
 ghost use Rattle.std.specs.Prelude.{◌≡◌, ◌∷◌, IfOk};
 ghost use Rattle.eval_calls.specs.Calls as spec;
+ghost use Rattle.eval_calls.specs.Lambdas.{opened};
 ghost use Rattle.eval_world.specs.Nests.{Nests};
 ghost use Rattle.eval_world.specs.Outcomes.{Gives, same};
 
@@ -13,7 +14,7 @@ use pp_values::{Memory, Stop, Text, Values};
 use std::alloc::Global;
 
 /// `f(1, $a)`, with or without a lambda. The line is that of the whole expression.
-#[tactic(auto, unfolding(crate::specs::Calls::call_rule))]
+#[tactic(auto, unfolding(crate::specs::Calls::call_rule, crate::specs::Calls::invoked))]
 pub fn call<F: Fn(&mut World<'_>, Goal<'_>, Here, u32) -> Result<Evaluated, Stop>, M: Meaning>(
     forms: &Forms<F, M>,
     world: &mut World<'_>,
@@ -29,7 +30,7 @@ pub fn call<F: Fn(&mut World<'_>, Goal<'_>, Here, u32) -> Result<Evaluated, Stop
 }
 
 /// `x.f(1)` is `f(x, 1)`, where `x` has its value already.
-#[tactic(auto, unfolding(crate::specs::Calls::method_rule))]
+#[tactic(auto, unfolding(crate::specs::Calls::method_rule, crate::specs::Calls::invoked_on))]
 pub fn method<F: Fn(&mut World<'_>, Goal<'_>, Here, u32) -> Result<Evaluated, Stop>, M: Meaning>(
     forms: &Forms<F, M>,
     world: &mut World<'_>,
@@ -48,7 +49,7 @@ pub fn method<F: Fn(&mut World<'_>, Goal<'_>, Here, u32) -> Result<Evaluated, St
 }
 
 /// `notice $a`: a call without parentheses, which takes no lambda.
-#[tactic(auto, unfolding(crate::specs::Calls::words_rule))]
+#[tactic(auto, unfolding(crate::specs::Calls::words_rule, crate::specs::Calls::invoked))]
 pub fn words<F: Fn(&mut World<'_>, Goal<'_>, Here, u32) -> Result<Evaluated, Stop>, M: Meaning>(
     forms: &Forms<F, M>,
     world: &mut World<'_>,
@@ -73,7 +74,6 @@ fn with_receiver(alloc: Global, receiver: Evaluated, rest: Values) -> Result<Val
 }
 
 /// The function of these arguments.
-#[tactic(auto, unfolding(crate::specs::Calls::called))]
 fn called<F: Fn(&mut World<'_>, Goal<'_>, Here, u32) -> Result<Evaluated, Stop>, M: Meaning>(
     forms: &Forms<F, M>,
     world: &mut World<'_>,
@@ -83,7 +83,7 @@ fn called<F: Fn(&mut World<'_>, Goal<'_>, Here, u32) -> Result<Evaluated, Stop>,
     here: Here,
 ) -> Result<Evaluated, Stop>
     requires { Nests (M.within forms.now.left) forms.now.left (F.pre forms.now.inner) (F.post forms.now.inner) }
-    ensures { Gives same (spec.called (M.within forms.now.left) call.now arguments line here world.old) result
+    ensures { Gives same (spec.called_as (M.within forms.now.left) call.now arguments line here world.old) result
         world.new }
 {
     match &call.lambda {
@@ -103,8 +103,8 @@ fn with_lambda<F: Fn(&mut World<'_>, Goal<'_>, Here, u32) -> Result<Evaluated, S
     here: Here,
 ) -> Result<Evaluated, Stop>
     requires { Nests (M.within forms.now.left) forms.now.left (F.pre forms.now.inner) (F.post forms.now.inner) }
-    ensures { Gives same (spec.with_lambda_rule (M.within forms.now.left) function.now lambda.now arguments line here
-        world.old) result world.new }
+    ensures { Gives same (spec.with_lambda_rule (M.within forms.now.left) function.now (opened lambda.now) arguments
+        line here world.old) result world.new }
 {
     match LambdaFunction::from_name(function) {
         Some(taking) => call_with_lambda(forms, world, taking, lambda, arguments, line, here),

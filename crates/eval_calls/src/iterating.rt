@@ -1,6 +1,7 @@
 //! The functions that take a lambda.
 ghost use Rattle.std.specs.Prelude.{◌≡◌, ◌∷◌, [], IfOk};
 ghost use Rattle.eval_calls.specs.Iterating as spec;
+ghost use Rattle.eval_calls.specs.Lambdas.{opened};
 ghost use Rattle.eval_calls.specs.Places.{wrong};
 ghost use Rattle.eval_world.specs.Nests.{Nests};
 ghost use Rattle.eval_world.specs.Outcomes.{Gives, same};
@@ -31,8 +32,8 @@ pub fn call_with_lambda<
     here: Here,
 ) -> Result<Evaluated, Stop>
     requires { Nests (M.within forms.now.left) forms.now.left (F.pre forms.now.inner) (F.post forms.now.inner) }
-    ensures { Gives same (spec.lambda_function_rule (M.within forms.now.left) function lambda.now arguments line here
-        world.old) result world.new }
+    ensures { Gives same (spec.lambda_function_rule (M.within forms.now.left) function (opened lambda.now) arguments
+        line here world.old) result world.new }
 {
     match function {
         LambdaFunction::Iterate(iteration) => {
@@ -63,8 +64,8 @@ fn iterate<F: Fn(&mut World<'_>, Goal<'_>, Here, u32) -> Result<Evaluated, Stop>
     here: Here,
 ) -> Result<Evaluated, Stop>
     requires { Nests (M.within forms.now.left) forms.now.left (F.pre forms.now.inner) (F.post forms.now.inner) }
-    ensures { Gives same (spec.iterate_rule (M.within forms.now.left) function lambda.now (views arguments.now) line
-        here world.old) result world.new }
+    ensures { Gives same (spec.iterate_rule (M.within forms.now.left) function (opened lambda.now) (views
+        arguments.now) line here world.old) result world.new }
 {
     match arguments {
         [value] => over(forms, world, function, lambda, value, line, here),
@@ -90,8 +91,8 @@ fn over<F: Fn(&mut World<'_>, Goal<'_>, Here, u32) -> Result<Evaluated, Stop>, M
     here: Here,
 ) -> Result<Evaluated, Stop>
     requires { Nests (M.within forms.now.left) forms.now.left (F.pre forms.now.inner) (F.post forms.now.inner) }
-    ensures { Gives same (spec.over_rule (M.within forms.now.left) function lambda.now (view value.now) line here
-        world.old) result world.new }
+    ensures { Gives same (spec.over_rule (M.within forms.now.left) function (opened lambda.now) (view value.now) line
+        here world.old) result world.new }
 {
     let at = world.place(here, line)?;
     let count = param_count(lambda)?;
@@ -112,8 +113,8 @@ fn take_turns<F: Fn(&mut World<'_>, Goal<'_>, Here, u32) -> Result<Evaluated, St
     here: Here,
 ) -> Result<Values, Stop>
     requires { Nests (M.within forms.now.left) forms.now.left (F.pre forms.now.inner) (F.post forms.now.inner) }
-    ensures { Gives same (spec.turns_from (M.within forms.now.left) function lambda.now [] turns.now line here
-        world.old) result world.new }
+    ensures { Gives same (spec.turns_from (M.within forms.now.left) function (opened lambda.now) [] turns.now line
+        here world.old) result world.new }
 {
     let mut done = Values::new(world.alloc);
     let mut rest = turns;
@@ -139,8 +140,8 @@ fn reduce<F: Fn(&mut World<'_>, Goal<'_>, Here, u32) -> Result<Evaluated, Stop>,
     here: Here,
 ) -> Result<Evaluated, Stop>
     requires { Nests (M.within forms.now.left) forms.now.left (F.pre forms.now.inner) (F.post forms.now.inner) }
-    ensures { Gives same (spec.reduce_rule (M.within forms.now.left) lambda.now arguments.now line here world.old)
-        result world.new }
+    ensures { Gives same (spec.reduce_rule (M.within forms.now.left) (opened lambda.now) arguments.now line here
+        world.old) result world.new }
 {
     let at = world.place(here, line)?;
     let count = param_count(lambda)?;
@@ -158,8 +159,8 @@ fn reduced<F: Fn(&mut World<'_>, Goal<'_>, Here, u32) -> Result<Evaluated, Stop>
     here: Here,
 ) -> Result<Evaluated, Stop>
     requires { Nests (M.within forms.now.left) forms.now.left (F.pre forms.now.inner) (F.post forms.now.inner) }
-    ensures { Gives same (spec.reduced (M.within forms.now.left) lambda.now (views members.now) line here world.old)
-        result world.new }
+    ensures { Gives same (spec.reduced (M.within forms.now.left) (opened lambda.now) (views members.now) line here
+        world.old) result world.new }
 {
     match members {
         [] => Ok(Evaluated::new(Value::Undef)),
@@ -182,8 +183,8 @@ fn reduce_rest<F: Fn(&mut World<'_>, Goal<'_>, Here, u32) -> Result<Evaluated, S
     here: Here,
 ) -> Result<Evaluated, Stop>
     requires { Nests (M.within forms.now.left) forms.now.left (F.pre forms.now.inner) (F.post forms.now.inner) }
-    ensures { Gives same (spec.reduce_from (M.within forms.now.left) lambda.now memo (views members.now) line here
-        world.old) result world.new }
+    ensures { Gives same (spec.reduce_from (M.within forms.now.left) (opened lambda.now) memo (views members.now) line
+        here world.old) result world.new }
 {
     let mut memo = memo;
     let mut rest = members;
@@ -214,8 +215,8 @@ fn with<F: Fn(&mut World<'_>, Goal<'_>, Here, u32) -> Result<Evaluated, Stop>, M
     here: Here,
 ) -> Result<Evaluated, Stop>
     requires { Nests (M.within forms.now.left) forms.now.left (F.pre forms.now.inner) (F.post forms.now.inner) }
-    ensures { Gives same (spec.with_rule (M.within forms.now.left) lambda.now arguments line here world.old) result
-        world.new }
+    ensures { Gives same (spec.with_rule (M.within forms.now.left) (opened lambda.now) arguments line here world.old)
+        result world.new }
 {
     let at = world.place(here, line)?;
     let count = param_count(lambda)?;

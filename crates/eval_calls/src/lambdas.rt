@@ -11,7 +11,7 @@ use pp_values::{Memory, Stop, Value, Values, What};
 
 /// How many parameters a lambda has.
 pub fn param_count(lambda: &Lambda) -> Result<u32, Memory>
-    ensures { IfOk result (λ n. n ≡ spec.param_count lambda.now) }
+    ensures { IfOk result (λ n. n ≡ spec.param_count (spec.opened lambda.now)) }
 {
     match u32::try_from(lambda.params.len()) {
         Ok(count) => Ok(count),
@@ -34,8 +34,8 @@ pub fn call_lambda<
     here: Here,
 ) -> Result<Evaluated, Stop>
     requires { Nests (M.within forms.now.left) forms.now.left (F.pre forms.now.inner) (F.post forms.now.inner) }
-    ensures { Gives same (spec.lambda_rule (M.within forms.now.left) lambda.now arguments.now line here world.old)
-        result world.new }
+    ensures { Gives same (spec.lambda_rule (M.within forms.now.left) (spec.opened lambda.now) arguments.now line here
+        world.old) result world.new }
 {
     let own = world.enter_lambda(here)?;
     bind(world, lambda.params.as_slice(), arguments.as_slice(), own)?;

@@ -2,7 +2,6 @@
 ghost use Rattle.std.specs.Prelude.{◌≡◌, ◌∷◌, [], IfOk};
 ghost use Rattle.eval_calls.specs.Iterating as spec;
 ghost use Rattle.eval_calls.specs.Lambdas.{opened};
-ghost use Rattle.eval_calls.specs.Places.{wrong};
 ghost use Rattle.eval_world.specs.Nests.{Nests};
 ghost use Rattle.eval_world.specs.Outcomes.{Gives, same};
 ghost use Rattle.pp_values.specs.Views.{view, views};

@@ -1,3 +1,4 @@
+mod Examples
 mod Levels
-mod Nodes
+mod NodeLines
 mod Pairs

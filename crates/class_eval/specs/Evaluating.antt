@@ -1,5 +1,5 @@
 -- What the calls of an evaluator mean.
-use Rattle.std.specs.Prelude.{ℕ, ◌-◌, List, [], ◌∷◌, Option, None, Some, option_map, unwrap_or}
+use Rattle.std.specs.Prelude.{ℕ, ◌+◌, ◌-◌, List, [], ◌∷◌, Option, None, Some, option_map, unwrap_or}
 use Rattle.std.specs.Option.{option_or}
 use Rattle.pp_tree.specs.Tables.{Entries}
 use Rattle.pp_tree.specs.declared.definition.Definition.{Definition}
@@ -12,9 +12,8 @@ use Rattle.class_eval.specs.Meaning.{within}
 use Rattle.class_eval.specs.Statements.{statements_from}
 use Rattle.eval_world.specs.Inner.{Inner}
 use Rattle.eval_world.specs.Outcomes.{Step, ◌>>=◌, ◌>>◌, pure}
-use Rattle.eval_world.specs.Worlds.{not_built}
+use Rattle.eval_world.specs.Worlds.{not_built, top}
 use Rattle.eval_world.specs.declared.here.Here.{Here}
-use Rattle.eval_world.specs.declared.here.TheConstants.{TOP}
 
 -- the greatest depth that is evaluated
 abbrev pub greatest : ℕ
@@ -46,10 +45,10 @@ first_node (e ∷ es) = option_or (node_line e.1) (first_node es)
 
 abbrev pub no_node : Option ℕ → Step (Unit {0})
 no_node None = pure tt
-no_node (Some line) = not_built TOP.now line
+no_node (Some line) = not_built top line
 
 -- The statements of the main manifest begin at depth 1, in top scope. A node definition is not evaluated yet.
 unfoldable pub main_rule : List Statement → Entries → Step (Unit {0})
 main_rule statements definitions = do
-  statements_from (at_depth 1) d.undef statements TOP
+  statements_from (at_depth 1) d.undef statements top
   no_node (first_node definitions)

@@ -65,7 +65,7 @@ impl<'a> Evaluator<'a> {
             inner: evaluate,
             meaning: PhantomData,
         };
-        block(&forms, &mut self.world, &main.statements, Here::TOP)?;
+        block(&forms, &mut self.world, &main.statements, Here::top())?;
         no_node(&self.world, &main.definitions)
     }
 }
@@ -82,7 +82,7 @@ fn no_node(world: &World<'_>, definitions: &Table) -> Result<(), Stop>
 {
     match first_node(definitions) {
         Some(line) => {
-            world.not_built(Here::TOP, line)?;
+            world.not_built(Here::top(), line)?;
             Ok(())
         }
         None => Ok(()),

@@ -7,7 +7,7 @@ use pp_tree::definition::Definition;
 use pp_tree::table::Table;
 
 /// The line of the first node definition.
-#[tactic(auto, unfolding(crate::specs::Evaluating::first_node), using(crate::proofs::Nodes::node_step, crate::proofs::Nodes::no_node))]
+#[tactic(auto, unfolding(crate::specs::Evaluating::first_node), using(crate::proofs::NodeLines::node_step, crate::proofs::NodeLines::no_node))]
 pub fn first_node(definitions: &Table) -> Option<u32>
     ensures { result ≡ spec.first_node definitions.now }
 {

@@ -31,6 +31,10 @@ empty alloc manifests = record {
   log = [];
 }
 
+-- where the statements of the main manifest are evaluated
+abbrev pub top : Here
+top = record { scope = record { number = 0 }; owner = 0 }
+
 -- ---- places and faults
 
 -- a line of the file whose code is evaluated

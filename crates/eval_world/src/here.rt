@@ -1,3 +1,6 @@
+ghost use Rattle.std.specs.Prelude.{◌≡◌};
+ghost use Rattle.eval_world.specs.Worlds.{top};
+
 use scope_core::ScopeId;
 
 /// Where an evaluation stands: the scope that names are read in, and the number of the owner whose code is evaluated.
@@ -9,9 +12,13 @@ pub struct Here {
 }
 
 impl Here {
-    /// The statements of the main manifest.
-    pub const TOP: Here = Here {
-        scope: ScopeId::TOP,
-        owner: 0,
-    };
+    /// Where the statements of the main manifest are evaluated.
+    pub fn top() -> Here
+        ensures { result ≡ top }
+    {
+        Here {
+            scope: ScopeId { number: 0 },
+            owner: 0,
+        }
+    }
 }

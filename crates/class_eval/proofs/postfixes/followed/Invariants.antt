@@ -4,7 +4,7 @@ use Rattle.class_eval.specs.Postfixes.{postfixes_from}
 use Rattle.class_eval.proofs.postfixes.followed.Given as goal
 
 abbrev pub invariant-loop-next : goal.invariant-loop-next
-invariant-loop-next g l = postfixes_from (g.M.Meaning.within l.forms.left) l.value l.postfixes l.line l.here l.fn.world
+invariant-loop-next g l = postfixes_from (g.M.Meaning.within l.forms.left) l.fn.value l.postfixes l.line l.here l.fn.world
     ≡ postfixes_from (g.M.Meaning.within l.forms.left) l.done l.rest l.line l.here l.world
 
 abbrev pub decreases-loop-next : goal.decreases-loop-next

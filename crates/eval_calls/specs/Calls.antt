@@ -1,0 +1,95 @@
+-- Calls: `f(1, $a) |$x| { }`, `$a.f(1)` and `notice $a`.
+use Rattle.std.specs.Prelude.{ℕ, if◌then◌else◌, List, [], ◌∷◌, Option, None, Some, option_map}
+use Rattle.pp_funcs.specs.Functions.{applied}
+use Rattle.pp_funcs.specs.Names.{needs_evaluator}
+use Rattle.pp_tree.specs.declared.expr.Call.{Call, out-Call}
+use Rattle.pp_tree.specs.declared.expr.Expr.{Expr}
+use Rattle.pp_tree.specs.declared.statement.Words.{Words}
+use Rattle.pp_values.specs.Datum.{Datum, undef}
+use Rattle.pp_values.specs.declared.fault.What.TheVariants as what
+use Rattle.expr_eval.specs.Names.{lambda_function}
+use Rattle.expr_eval.specs.Texts.{joined}
+use Rattle.expr_eval.specs.declared.functions.LambdaFunction.{LambdaFunction}
+use Rattle.eval_world.specs.Arguments.{values_from}
+use Rattle.eval_world.specs.Inner.{Inner}
+use Rattle.eval_world.specs.Outcomes.{Step, ◌>>=◌, ◌>>◌, pure}
+use Rattle.eval_world.specs.Worlds.{fault, not_built, write_log}
+use Rattle.eval_world.specs.declared.here.Here.{Here}
+use Rattle.eval_calls.specs.Iterating.{lambda_function_rule}
+use Rattle.eval_calls.specs.Lambdas.{Opened, opened}
+use Rattle.eval_calls.specs.Names.{is_function, is_log}
+use Rattle.eval_calls.specs.Places.{at_line, wrong}
+
+-- ---- without a lambda, once the arguments have their values
+
+-- a line of the log, with the function's name as its level
+unfoldable pub log_rule : List ℕ → List Datum → Step Datum
+log_rule f arguments = do
+  write_log f (joined arguments)
+  pure undef
+
+-- A function that takes a lambda does not take its arguments without one. What is left are `include`, `contain`,
+-- `require`, `realize` and `lookup`, which are not evaluated yet.
+abbrev pub without_lambda_by : Option LambdaFunction → List ℕ → ℕ → Here → Step Datum
+without_lambda_by (Some g) f line here = wrong f line here
+without_lambda_by None f line here = not_built here line
+
+-- a function that needs the log, a lambda or the site
+unfoldable pub evaluated_rule : List ℕ → List Datum → ℕ → Here → Step Datum
+evaluated_rule f arguments line here =
+    if is_log f then log_rule f arguments else without_lambda_by (lambda_function f) f line here
+
+-- any other function is one of its arguments alone, or there is none of that name
+unfoldable pub plain_rule : List ℕ → List Datum → ℕ → Here → Step Datum
+plain_rule f arguments line here =
+    if needs_evaluator f then evaluated_rule f arguments line here else at_line (applied f arguments) line here
+
+-- ---- with a lambda
+
+-- a function that takes none, or no function at all
+unfoldable pub stray_lambda_rule : List ℕ → ℕ → Here → Step Datum
+stray_lambda_rule f line here =
+    if is_function f then wrong f line here else fault here line (what.UnknownFunction f)
+
+abbrev pub with_lambda_by : Inner → Option LambdaFunction → List ℕ → Opened → List Datum → ℕ → Here → Step Datum
+with_lambda_by inner (Some g) f l arguments line here = lambda_function_rule inner g l arguments line here
+with_lambda_by inner None f l arguments line here = stray_lambda_rule f line here
+
+unfoldable pub with_lambda_rule : Inner → List ℕ → Opened → List Datum → ℕ → Here → Step Datum
+with_lambda_rule inner f l arguments line here = with_lambda_by inner (lambda_function f) f l arguments line here
+
+-- ---- calls
+
+-- the function of these arguments, and the lambda where there is one
+abbrev pub called : Inner → List ℕ → Option Opened → List Datum → ℕ → Here → Step Datum
+called inner f None arguments line here = plain_rule f arguments line here
+called inner f (Some l) arguments line here = with_lambda_rule inner f l arguments line here
+
+-- the same of a call as it stands in the tree
+abbrev pub called_as : Inner → Call → List Datum → ℕ → Here → Step Datum
+called_as inner c arguments line here =
+    called inner (out-Call c).function (option_map opened (out-Call c).lambda) arguments line here
+
+-- the arguments come first, from left to right; whether there is such a function is asked after that
+unfoldable pub invoked : Inner → List ℕ → List Expr → Option Opened → ℕ → Here → Step Datum
+invoked inner f args l line here = do
+  arguments ← values_from inner [] args here
+  called inner f l arguments line here
+
+unfoldable pub call_rule : Inner → Call → ℕ → Here → Step Datum
+call_rule inner c line here =
+    invoked inner (out-Call c).function (out-Call c).args (option_map opened (out-Call c).lambda) line here
+
+-- `x.f(y)` is `f(x, y)`: the value that is there already is the first argument
+unfoldable pub invoked_on : Inner → Datum → List ℕ → List Expr → Option Opened → ℕ → Here → Step Datum
+invoked_on inner receiver f args l line here = do
+  arguments ← values_from inner [] args here
+  called inner f l (receiver ∷ arguments) line here
+
+unfoldable pub method_rule : Inner → Datum → Call → ℕ → Here → Step Datum
+method_rule inner receiver c line here =
+    invoked_on inner receiver (out-Call c).function (out-Call c).args (option_map opened (out-Call c).lambda) line here
+
+-- a call without parentheses, which has no lambda
+unfoldable pub words_rule : Inner → Words Expr → Here → Step Datum
+words_rule inner x here = invoked inner x.function x.args None x.at here

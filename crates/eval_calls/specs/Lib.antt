@@ -1,0 +1,5 @@
+pub mod Calls
+pub mod Iterating
+pub mod Lambdas
+pub mod Names
+pub mod Places

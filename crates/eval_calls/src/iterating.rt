@@ -1,0 +1,224 @@
+//! The functions that take a lambda.
+ghost use Rattle.std.specs.Prelude.{◌≡◌, ◌∷◌, [], IfOk};
+ghost use Rattle.eval_calls.specs.Iterating as spec;
+ghost use Rattle.eval_calls.specs.Lambdas.{opened};
+ghost use Rattle.eval_world.specs.Nests.{Nests};
+ghost use Rattle.eval_world.specs.Outcomes.{Gives, same};
+ghost use Rattle.pp_values.specs.Views.{view, views};
+
+use crate::lambdas::{call_lambda, param_count};
+use eval_world::{Evaluated, Forms, Goal, Here, Meaning, World};
+use expr_eval::{
+    Iteration, LambdaFunction, decides, gather, reduced_over, turn_of_with, turns_of,
+    wrong_arguments,
+};
+use pp_tree::Lambda;
+use pp_values::{Memory, Stop, Value, Values, copy};
+use std::alloc::Global;
+
+/// A call of a function that takes a lambda.
+#[tactic(auto, unfolding(crate::specs::Iterating::lambda_function_rule))]
+pub fn call_with_lambda<
+    F: Fn(&mut World<'_>, Goal<'_>, Here, u32) -> Result<Evaluated, Stop>,
+    M: Meaning,
+>(
+    forms: &Forms<F, M>,
+    world: &mut World<'_>,
+    function: LambdaFunction,
+    lambda: &Lambda,
+    arguments: Values,
+    line: u32,
+    here: Here,
+) -> Result<Evaluated, Stop>
+    requires { Nests (M.within forms.now.left) forms.now.left (F.pre forms.now.inner) (F.post forms.now.inner) }
+    ensures { Gives same (spec.lambda_function_rule (M.within forms.now.left) function (opened lambda.now) arguments
+        line here world.old) result world.new }
+{
+    match function {
+        LambdaFunction::Iterate(iteration) => {
+            iterate(
+                forms,
+                world,
+                iteration,
+                lambda,
+                arguments.as_slice(),
+                line,
+                here,
+            )
+        }
+        LambdaFunction::Reduce => reduce(forms, world, lambda, &arguments, line, here),
+        LambdaFunction::With => with(forms, world, lambda, arguments, line, here),
+    }
+}
+
+/// `each`, `map`, `filter`, `any` and `all`, which take one argument.
+#[tactic(auto, unfolding(crate::specs::Iterating::iterate_rule))]
+fn iterate<F: Fn(&mut World<'_>, Goal<'_>, Here, u32) -> Result<Evaluated, Stop>, M: Meaning>(
+    forms: &Forms<F, M>,
+    world: &mut World<'_>,
+    function: Iteration,
+    lambda: &Lambda,
+    arguments: &[Value],
+    line: u32,
+    here: Here,
+) -> Result<Evaluated, Stop>
+    requires { Nests (M.within forms.now.left) forms.now.left (F.pre forms.now.inner) (F.post forms.now.inner) }
+    ensures { Gives same (spec.iterate_rule (M.within forms.now.left) function (opened lambda.now) (views
+        arguments.now) line here world.old) result world.new }
+{
+    match arguments {
+        [value] => over(forms, world, function, lambda, value, line, here),
+        _ => refused(world, function, line, here),
+    }
+}
+
+fn refused(world: &World<'_>, function: Iteration, line: u32, here: Here) -> Result<Evaluated, Stop>
+    ensures { Gives same (spec.refused function line here world.now) result world.now }
+{
+    let at = world.place(here, line)?;
+    Err(Stop::Fault(wrong_arguments(world.alloc, function.name(), &at)?))
+}
+
+#[tactic(auto, unfolding(crate::specs::Iterating::over_rule))]
+fn over<F: Fn(&mut World<'_>, Goal<'_>, Here, u32) -> Result<Evaluated, Stop>, M: Meaning>(
+    forms: &Forms<F, M>,
+    world: &mut World<'_>,
+    function: Iteration,
+    lambda: &Lambda,
+    value: &Value,
+    line: u32,
+    here: Here,
+) -> Result<Evaluated, Stop>
+    requires { Nests (M.within forms.now.left) forms.now.left (F.pre forms.now.inner) (F.post forms.now.inner) }
+    ensures { Gives same (spec.over_rule (M.within forms.now.left) function (opened lambda.now) (view value.now) line
+        here world.old) result world.new }
+{
+    let at = world.place(here, line)?;
+    let count = param_count(lambda)?;
+    let turns = turns_of(world.alloc, function, value, count, &at)?;
+    let results = take_turns(forms, world, function, lambda, turns.as_slice(), line, here)?;
+    Ok(Evaluated::new(gather(world.alloc, function, value, &results)?))
+}
+
+/// What the lambda gives in each turn, up to the one that decides.
+#[tactic(auto, unfolding(crate::specs::Iterating::turns_from))]
+fn take_turns<F: Fn(&mut World<'_>, Goal<'_>, Here, u32) -> Result<Evaluated, Stop>, M: Meaning>(
+    forms: &Forms<F, M>,
+    world: &mut World<'_>,
+    function: Iteration,
+    lambda: &Lambda,
+    turns: &[Values],
+    line: u32,
+    here: Here,
+) -> Result<Values, Stop>
+    requires { Nests (M.within forms.now.left) forms.now.left (F.pre forms.now.inner) (F.post forms.now.inner) }
+    ensures { Gives same (spec.turns_from (M.within forms.now.left) function (opened lambda.now) [] turns.now line
+        here world.old) result world.new }
+{
+    let mut done = Values::new(world.alloc);
+    let mut rest = turns;
+    while let Some((turn, more)) = rest.split_first() {
+        let result = call_lambda(forms, world, lambda, turn, line, here)?;
+        let is_last = decides(function, result.as_value());
+        done.push(result.into_value())?;
+        if is_last {
+            return Ok(done);
+        }
+        rest = more;
+    }
+    Ok(done)
+}
+
+#[tactic(auto, unfolding(crate::specs::Iterating::reduce_rule))]
+fn reduce<F: Fn(&mut World<'_>, Goal<'_>, Here, u32) -> Result<Evaluated, Stop>, M: Meaning>(
+    forms: &Forms<F, M>,
+    world: &mut World<'_>,
+    lambda: &Lambda,
+    arguments: &Values,
+    line: u32,
+    here: Here,
+) -> Result<Evaluated, Stop>
+    requires { Nests (M.within forms.now.left) forms.now.left (F.pre forms.now.inner) (F.post forms.now.inner) }
+    ensures { Gives same (spec.reduce_rule (M.within forms.now.left) (opened lambda.now) arguments.now line here
+        world.old) result world.new }
+{
+    let at = world.place(here, line)?;
+    let count = param_count(lambda)?;
+    let members = reduced_over(world.alloc, arguments, count, &at)?;
+    reduced(forms, world, lambda, members.as_slice(), line, here)
+}
+
+#[tactic(auto, unfolding(crate::specs::Iterating::reduced))]
+fn reduced<F: Fn(&mut World<'_>, Goal<'_>, Here, u32) -> Result<Evaluated, Stop>, M: Meaning>(
+    forms: &Forms<F, M>,
+    world: &mut World<'_>,
+    lambda: &Lambda,
+    members: &[Value],
+    line: u32,
+    here: Here,
+) -> Result<Evaluated, Stop>
+    requires { Nests (M.within forms.now.left) forms.now.left (F.pre forms.now.inner) (F.post forms.now.inner) }
+    ensures { Gives same (spec.reduced (M.within forms.now.left) (opened lambda.now) (views members.now) line here
+        world.old) result world.new }
+{
+    match members {
+        [] => Ok(Evaluated::new(Value::Undef)),
+        [first, rest @ ..] => {
+            let memo = Evaluated::copy_of(world.alloc, first)?;
+            reduce_rest(forms, world, lambda, memo, rest, line, here)
+        }
+    }
+}
+
+/// The memo after each member in turn.
+#[tactic(auto, unfolding(crate::specs::Iterating::reduce_from))]
+fn reduce_rest<F: Fn(&mut World<'_>, Goal<'_>, Here, u32) -> Result<Evaluated, Stop>, M: Meaning>(
+    forms: &Forms<F, M>,
+    world: &mut World<'_>,
+    lambda: &Lambda,
+    memo: Evaluated,
+    members: &[Value],
+    line: u32,
+    here: Here,
+) -> Result<Evaluated, Stop>
+    requires { Nests (M.within forms.now.left) forms.now.left (F.pre forms.now.inner) (F.post forms.now.inner) }
+    ensures { Gives same (spec.reduce_from (M.within forms.now.left) (opened lambda.now) memo (views members.now) line
+        here world.old) result world.new }
+{
+    let mut memo = memo;
+    let mut rest = members;
+    while let Some((member, more)) = rest.split_first() {
+        let turn = memo_and_member(world.alloc, memo, member)?;
+        memo = call_lambda(forms, world, lambda, &turn, line, here)?;
+        rest = more;
+    }
+    Ok(memo)
+}
+
+fn memo_and_member(alloc: Global, memo: Evaluated, member: &Value) -> Result<Values, Memory>
+    ensures { IfOk result (λ l. l ≡ memo ∷ view member.now ∷ []) }
+{
+    let mut turn = Values::new(alloc);
+    turn.push(memo.into_value())?;
+    turn.push(copy(alloc, member)?)?;
+    Ok(turn)
+}
+
+#[tactic(auto, unfolding(crate::specs::Iterating::with_rule))]
+fn with<F: Fn(&mut World<'_>, Goal<'_>, Here, u32) -> Result<Evaluated, Stop>, M: Meaning>(
+    forms: &Forms<F, M>,
+    world: &mut World<'_>,
+    lambda: &Lambda,
+    arguments: Values,
+    line: u32,
+    here: Here,
+) -> Result<Evaluated, Stop>
+    requires { Nests (M.within forms.now.left) forms.now.left (F.pre forms.now.inner) (F.post forms.now.inner) }
+    ensures { Gives same (spec.with_rule (M.within forms.now.left) (opened lambda.now) arguments line here world.old)
+        result world.new }
+{
+    let at = world.place(here, line)?;
+    let count = param_count(lambda)?;
+    let turn = turn_of_with(world.alloc, arguments, count, &at)?;
+    call_lambda(forms, world, lambda, &turn, line, here)
+}

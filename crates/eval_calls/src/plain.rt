@@ -1,0 +1,93 @@
+//! Calls whose arguments have their values, and stray lambdas.
+ghost use Rattle.std.specs.Prelude.{◌≡◌, false};
+ghost use Rattle.eval_calls.specs.Calls as spec;
+ghost use Rattle.eval_calls.specs.Places.{at_line};
+ghost use Rattle.eval_world.specs.Outcomes.{Gives, same};
+ghost use Rattle.pp_funcs.specs.Functions.{applied};
+ghost use Rattle.pp_funcs.specs.Names.{needs_evaluator};
+
+use crate::names::{is_function, is_log, unknown, wrong};
+use eval_world::{Evaluated, Here, World};
+use expr_eval::{LambdaFunction, joined};
+use pp_funcs::{call_pure, needs_evaluator};
+use pp_values::{Stop, Text, Value, Values};
+
+/// A call without a lambda.
+#[tactic(auto, unfolding(crate::specs::Calls::plain_rule))]
+pub fn call_plain(
+    world: &mut World<'_>,
+    function: &Text,
+    arguments: &Values,
+    line: u32,
+    here: Here,
+) -> Result<Evaluated, Stop>
+    ensures { Gives same (spec.plain_rule function.now arguments.now line here world.old) result world.new }
+{
+    if needs_evaluator(function) {
+        call_evaluated(world, function, arguments, line, here)
+    } else {
+        compute(world, function, arguments, line, here)
+    }
+}
+
+/// A function of its arguments alone, or none that there is.
+fn compute(
+    world: &World<'_>,
+    function: &Text,
+    arguments: &Values,
+    line: u32,
+    here: Here,
+) -> Result<Evaluated, Stop>
+    requires { needs_evaluator function.now ≡ false }
+    ensures { Gives same (at_line (applied function.now arguments.now) line here world.now) result world.now }
+{
+    let at = world.place(here, line)?;
+    Ok(Evaluated::new(call_pure(world.alloc, function, arguments, &at)?))
+}
+
+/// A function that needs the log, a lambda or the site.
+#[tactic(auto, unfolding(crate::specs::Calls::evaluated_rule))]
+fn call_evaluated(
+    world: &mut World<'_>,
+    function: &Text,
+    arguments: &Values,
+    line: u32,
+    here: Here,
+) -> Result<Evaluated, Stop>
+    ensures { Gives same (spec.evaluated_rule function.now arguments.now line here world.old) result world.new }
+{
+    if is_log(function) {
+        return log(world, function, arguments);
+    }
+    match LambdaFunction::from_name(function) {
+        Some(_) => Err(Stop::Fault(wrong(world, function, line, here)?)),
+        None => world.not_built(here, line),
+    }
+}
+
+/// Writes a line of the log.
+#[tactic(auto, unfolding(crate::specs::Calls::log_rule))]
+fn log(world: &mut World<'_>, function: &Text, arguments: &Values) -> Result<Evaluated, Stop>
+    ensures { Gives same (spec.log_rule function.now arguments.now world.old) result world.new }
+{
+    let level = function.copy(world.alloc)?;
+    let text = joined(world.alloc, arguments)?;
+    world.write_log(level, text)?;
+    Ok(Evaluated::new(Value::Undef))
+}
+
+/// The fault of a lambda that is handed to what takes none.
+#[tactic(auto, unfolding(crate::specs::Calls::stray_lambda_rule))]
+pub fn refuse_lambda(
+    world: &World<'_>,
+    function: &Text,
+    line: u32,
+    here: Here,
+) -> Result<Evaluated, Stop>
+    ensures { Gives same (spec.stray_lambda_rule function.now line here world.now) result world.now }
+{
+    if is_function(function) {
+        return Err(Stop::Fault(wrong(world, function, line, here)?));
+    }
+    Err(Stop::Fault(unknown(world, function, line, here)?))
+}

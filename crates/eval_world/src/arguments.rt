@@ -47,7 +47,7 @@ impl<F: Fn(&mut World<'_>, Goal<'_>, Here, u32) -> Result<Evaluated, Stop>, M: M
 fn is_splat(arg: &Expr) -> bool
     ensures { result ≡ spec.is_splat arg.now }
 {
-    match arg.form.as_ref() {
+    match arg.form.get() {
         Form::Prefix(PrefixOperator::Splat, _) => true,
         _ => false,
     }

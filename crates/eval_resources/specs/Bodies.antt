@@ -7,7 +7,7 @@ use Rattle.pp_tree.specs.declared.resource.Body as tree
 use Rattle.pp_funcs.specs.Lists.{flat}
 use Rattle.pp_values.specs.Rising.{has_text}
 use Rattle.eval_world.specs.Inner.{Inner}
-use Rattle.eval_world.specs.Outcomes.{Step, ◌>>=◌, pure}
+use Rattle.eval_world.specs.Outcomes.{Step, ◌>>=◌, ◌>>◌, pure}
 use Rattle.eval_world.specs.Worlds.{place_at}
 use Rattle.eval_world.specs.declared.here.Here.{Here}
 use Rattle.eval_resources.specs.Lines.{Line, Body}
@@ -29,7 +29,7 @@ is_default b = is_default_literal b.title
 -- its lines behind those that are there: several default bodies are joined
 unfoldable pub default_rule : Inner → List Line → tree.Body Expr → Here → Step (List Line)
 default_rule inner done b here = do
-  _ ← inner.value b.title here
+  inner.value b.title here
   lines_from inner done b.attributes here
 
 abbrev pub default_more : Inner → Bool → List Line → tree.Body Expr → Here → Step (List Line)
@@ -64,7 +64,7 @@ unfoldable pub body_rule : Inner → List Line → tree.Body Expr → Here → S
 body_rule inner defaults b here = do
   title ← inner.value b.title here
   own ← lines_from inner [] b.attributes here
-  λ w. pure (record { titles = flat title; lines = filled own defaults; at = place_at w here b.at }) w
+  (λ w. pure (record { titles = flat title; lines = filled own defaults; at = place_at w here b.at }) w)
 
 abbrev pub body_more : Inner → Bool → List Line → List Body → tree.Body Expr → Here → Step (List Body)
 body_more inner true defaults done b here = pure done

@@ -23,7 +23,7 @@ line name append value at = record { name = name; append = append; value = value
 unfoldable pub setting_rule : Inner → List Line → Setting Expr → Here → Step (List Line)
 setting_rule inner done s here = do
   value ← inner.value s.value here
-  λ w. pure (done ++ line s.name s.append value (place_at w here s.at) ∷ []) w
+  (λ w. pure (done ++ line s.name s.append value (place_at w here s.at) ∷ []) w)
 
 -- a line for a pair: a key that is an integer becomes its text
 abbrev pub with_pair : List Line → Datum → Datum → Place → List Line

@@ -4,7 +4,7 @@ use Rattle.pp_tree.specs.Names.{normal}
 use Rattle.pp_tree.specs.declared.expr.Expr.{Expr}
 use Rattle.pp_tree.specs.declared.resource.Resource.{Resource}
 use Rattle.pp_tree.specs.declared.resource.ResourceForm.{ResourceForm}
-use Rattle.pp_tree.specs.declared.resource.ResourceForm.TheVariants as written
+use Rattle.pp_tree.specs.declared.resource.ResourceForm.TheVariants as mark
 use Rattle.pp_values.specs.Datum.{Datum}
 use Rattle.pp_values.specs.Faults as faults
 use Rattle.pp_values.specs.declared.fault.Fault.{Fault}
@@ -41,9 +41,9 @@ relations_checked ls = unrelated (find relates ls)
 -- The tests, the declaration, the override lines that came before it, the relations.
 unfoldable pub title_rule : Form → List ℕ → Datum → Body → Here → Step (Unit {0})
 title_rule written kind title b here = do
-  named ← λ w. answered (tested w.manifests.main.now.definitions written kind title b) w
+  named ← (λ w. answered (tested w.manifests.main.now.definitions written kind title b) w)
   number ← declare_rule written named b here
-  λ w. answered (stands w.overrides w.book number) w
+  (λ w. answered (stands w.overrides w.book number) w)
   answered (relations_checked b.lines)
 
 -- ---- all titles of all bodies, one after another
@@ -71,9 +71,9 @@ act_rule (action.Relate left right signal) at here = not_built here at
 -- ---- the expression
 
 abbrev pub form_of : ResourceForm → Form
-form_of written.Plain = form.Plain
-form_of written.Virtual = form.Virtual
-form_of written.Exported = form.Exported
+form_of mark.Plain = form.Plain
+form_of mark.Virtual = form.Virtual
+form_of mark.Exported = form.Exported
 
 -- All bodies are evaluated before any test is made.
 unfoldable pub resource_rule : Inner → Resource Expr → Here → Step (Unit {0})

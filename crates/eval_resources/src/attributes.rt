@@ -5,6 +5,7 @@ ghost use Rattle.eval_resources.specs.Lines.{line_of, lines_of};
 ghost use Rattle.pp_values.specs.Rising.{is_rising};
 ghost use Rattle.pp_values.specs.Settings.{setting_names};
 ghost use Rattle.pp_values.specs.Views.{view};
+ghost use Rattle.res_core.specs.AttributeViews.{setting};
 
 use eval_world::Evaluated;
 use pp_values::{Memory, Text, Value};
@@ -60,11 +61,18 @@ fn from_map(alloc: Global, set: BTreeMap<Text, Evaluated>) -> Result<Attributes,
     ensures { IfOk result (λ a. a ≡ set.entries) }
 {
     let mut items = Vec::new(alloc);
-    for (name, value) in set {
-        items.push(Attribute {
-            name,
-            value: value.into_value(),
-        })?;
+    for entry in set {
+        items.push(attribute_of(entry))?;
     }
     Ok(Attributes::from_vec(items))
+}
+
+fn attribute_of(entry: (Text, Evaluated)) -> Attribute
+    ensures { setting result ≡ entry }
+{
+    let (name, value) = entry;
+    Attribute {
+        name,
+        value: value.into_value(),
+    }
 }

@@ -40,6 +40,7 @@ pub fn has_name(names: &BTreeSet<Text>, name: &Text) -> bool
 }
 
 /// The lines whose names are not among these, behind those that are there.
+#[tactic(auto, using(crate::proofs::NameSets::not_among_step))]
 fn with_unwritten(alloc: Global, done: Lines, names: &BTreeSet<Text>, lines: &[Line]) -> Result<Lines, Memory>
     ensures { IfOk result (λ ls. lines_of ls
         ≡ lines_of done ++ spec.not_among names.now.keys (lines_of lines.now)) }

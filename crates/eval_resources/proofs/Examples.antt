@@ -1,10 +1,13 @@
 -- The definitions at worked examples. Each line with `refl` holds by computing.
 use Rattle.std.proofs.Common.{◌≡◌, ℕ, Bool, true, false, List, [], ◌∷◌, ◌++◌, Option, None, Some, Ok, Err, refl, codes}
+use Rattle.std.specs.Fmt.{digits}
+use Rattle.override_rules.specs.Rights.{line_tests}
 use Rattle.pp_tree.specs.Building.{name_at, class_of, define_of, comparison}
 use Rattle.pp_tree.specs.Names.{normal, without_front_colons}
 use Rattle.pp_tree.specs.Tables.{Entries}
 use Rattle.pp_tree.specs.declared.definition.Definition.TheVariants as definition
 use Rattle.pp_tree.specs.declared.expr.Expr.{Expr}
+use Rattle.pp_tree.specs.declared.expr.Form.{out-Form}
 use Rattle.pp_tree.specs.declared.table.DefinitionName.TheVariants.{Code}
 use Rattle.pp_values.specs.Datum as d
 use Rattle.pp_values.specs.Datum.{Datum}
@@ -16,6 +19,7 @@ use Rattle.res_book.specs.Rows.{new_row}
 use Rattle.res_book.specs.declared.mode.Mode.{Mode}
 use Rattle.res_book.specs.declared.mode.Mode.TheVariants as mode
 use Rattle.res_book.specs.declared.row.Row.{Row}
+use Rattle.res_core.specs.AttributeChecks.{known_checked}
 use Rattle.res_core.specs.Criteria.{all, by_tag}
 use Rattle.res_core.specs.Metaparameters.{is_relation_name, is_metaparameter}
 use Rattle.res_core.specs.NativeTypes.{row, native_of, attributes_of, all_natives}
@@ -32,6 +36,7 @@ use Rattle.eval_resources.specs.Reading.{line, lines_from, attribute_rule, setti
 use Rattle.eval_resources.specs.declared.named.Named.{Named}
 use Rattle.eval_resources.proofs.Samples.{text, int, list, more, nested, told, word, undef, default, a_hash, a_list, fails, sample}
 use Rattle.eval_resources.proofs.Samples.{sets, adds, titled_by, here, place, said, Tells, Refuses, Declares, Fails, Registers}
+use Rattle.eval_world.specs.Owners.{owner_at}
 use Rattle.eval_world.specs.Worlds.{write_log}
 
 abbrev a : List ℕ
@@ -47,24 +52,24 @@ c = codes "c"
 
 in_order : Tells (lines_from sample [] (sets a (told c) 3 ∷ sets b (told a) 4 ∷ []) here)
     (said a c 3 ∷ said b a 4 ∷ []) (c ∷ a ∷ [])
-unfolding lines_from attribute_rule setting_rule write_log
+unfolding lines_from attribute_rule setting_rule write_log out-Form denote.Hole.Carrier.out owner_at
 in_order alloc manifests = refl
 
 -- the pairs of a splat stand in its place, at its line; 3 becomes a text
 splat_in_place : Tells (lines_from sample [] (sets a (word c) 3 ∷ adds a_hash 4 ∷ sets b (word c) 5 ∷ []) here)
     (said a c 3 ∷ said (codes "owner") (codes "root") 4 ∷ said (codes "3") c 4 ∷ said b c 5 ∷ []) []
-unfolding lines_from attribute_rule setting_rule splat_rule splatted
+unfolding lines_from attribute_rule setting_rule splat_rule splatted out-Form denote.Hole.Carrier.out owner_at digits
 splat_in_place alloc manifests = refl
 
 -- F11 where it is no hash, at the line of the attribute
 splat_of_list : Refuses (lines_from sample [] (sets a (word c) 3 ∷ adds a_list 4 ∷ sets b (fails 5) 5 ∷ []) here)
     4 (what.BadOperand (codes "*"))
-unfolding lines_from attribute_rule setting_rule splat_rule
+unfolding lines_from attribute_rule setting_rule splat_rule out-Form denote.Hole.Carrier.out owner_at
 splat_of_list alloc manifests = refl
 
 first_fault : Refuses (lines_from sample [] (sets a (fails 3) 3 ∷ adds a_list 4 ∷ []) here)
     3 (what.UnknownVariable (codes "x"))
-unfolding lines_from attribute_rule setting_rule splat_rule
+unfolding lines_from attribute_rule setting_rule splat_rule out-Form denote.Hole.Carrier.out owner_at
 first_fault alloc manifests = refl
 
 -- ---- bodies
@@ -81,7 +86,7 @@ default_body : Tells
       at = place 2;
     } ∷ [])
     (c ∷ c ∷ a ∷ b ∷ [])
-unfolding bodies_rule defaults_from default_rule bodies_from body_rule lines_from attribute_rule setting_rule write_log
+unfolding bodies_rule defaults_from default_rule bodies_from body_rule lines_from attribute_rule setting_rule write_log out-Form denote.Hole.Carrier.out owner_at
 default_body alloc manifests = refl
 
 -- an Undef that is written hides the default's value
@@ -100,13 +105,13 @@ defaults_joined : Tells
     (record { titles = text a ∷ []; lines = said a b 1 ∷ said a c 3 ∷ said b c 3 ∷ []; at = place 2 }
     ∷ record { titles = text b ∷ []; lines = said a a 4 ∷ said b c 3 ∷ []; at = place 4 } ∷ [])
     []
-unfolding bodies_rule defaults_from default_rule bodies_from body_rule lines_from attribute_rule setting_rule
+unfolding bodies_rule defaults_from default_rule bodies_from body_rule lines_from attribute_rule setting_rule out-Form denote.Hole.Carrier.out owner_at
 defaults_joined alloc manifests = refl
 
 -- lists of titles are flattened
 titles_flattened : Tells (body_rule sample [] (titled_by a_list [] 2) here)
     (record { titles = text a ∷ text b ∷ int 4 ∷ []; lines = []; at = place 2 }) []
-unfolding body_rule lines_from
+unfolding body_rule lines_from out-Form denote.Hole.Carrier.out owner_at
 titles_flattened alloc manifests = refl
 
 -- ---- the tests of a title
@@ -132,7 +137,7 @@ owners = said (codes "owners") a 8
 
 passes : tested [] form.Exported (codes "file") (text a) (body_with (mode_line 8 ∷ said (codes "noop") a 9 ∷ []))
     ≡ Ok (record { native = native.File; title = a })
-unfolding tested native_checked native_of title_checked lines_checked names_known names_apart attributes_of
+unfolding tested native_checked native_of title_checked lines_checked names_known names_apart attributes_of known_checked is_metaparameter
 passes = refl
 
 -- F5 at the body; before a title that is none, and before unknown attributes
@@ -178,13 +183,13 @@ empty_title = refl
 unknown_name : tested [] form.Plain (codes "file") (text a)
     (body_with (mode_line 5 ∷ mode_line 6 ∷ owners ∷ said b a 9 ∷ []))
     ≡ Err (fault (place 8) (what.UnknownParameter file_a (codes "owners")))
-unfolding tested native_checked native_of title_checked lines_checked names_known attributes_of
+unfolding tested native_checked native_of title_checked lines_checked names_known attributes_of known_checked is_metaparameter
 unknown_name = refl
 
 -- F15 at the later line
 twice : tested [] form.Plain (codes "file") (text a) (body_with (mode_line 5 ∷ said (codes "tag") a 6 ∷ mode_line 8 ∷ []))
     ≡ Err (fault (place 8) (what.AlreadySet (subject.Reference file_a) (codes "mode")))
-unfolding tested native_checked native_of title_checked lines_checked names_known names_apart attributes_of
+unfolding tested native_checked native_of title_checked lines_checked names_known names_apart attributes_of known_checked is_metaparameter
 twice = refl
 
 -- ---- attributes and tags
@@ -196,6 +201,7 @@ rising = refl
 
 -- lists are flattened, and what is no text counts by its text
 tag_texts : given_tags ((a, text c) ∷ (codes "tag", nested) ∷ []) ≡ a ∷ b ∷ codes "4" ∷ []
+unfolding digits
 tag_texts = refl
 
 tag_of_one : given_tags ((codes "tag", d.flag true) ∷ []) ≡ codes "true" ∷ []
@@ -233,16 +239,16 @@ kind = codes "notify"
 each_title : Declares
     (declare_bodies form.Plain kind (titled (text a ∷ text b ∷ []) [] 2 ∷ titled (text c ∷ []) [] 3 ∷ []) here)
     (notify mode.Plain a 2 ∷ notify mode.Plain b 2 ∷ notify mode.Plain (codes "c") 3 ∷ [])
-unfolding declare_bodies titles_rule title_rule declare_rule tested native_checked native_of title_checked lines_checked names_known names_apart attributes_of set_from segments is_word_byte is_tag_byte
+unfolding declare_bodies titles_rule title_rule declare_rule tested native_checked native_of title_checked lines_checked names_known names_apart attributes_of set_from segments is_word_byte is_tag_byte line_tests owner_at
 each_title alloc manifests = refl
 
 -- virtual and exported ones
 virtual : Declares (titles_rule form.Virtual kind (text a ∷ []) (body_with []) here) (notify mode.Virtual a 7 ∷ [])
-unfolding titles_rule title_rule declare_rule tested native_checked native_of title_checked lines_checked names_known names_apart attributes_of set_from segments is_word_byte is_tag_byte
+unfolding titles_rule title_rule declare_rule tested native_checked native_of title_checked lines_checked names_known names_apart attributes_of set_from segments is_word_byte is_tag_byte line_tests owner_at
 virtual alloc manifests = refl
 
 exported : Declares (titles_rule form.Exported kind (text a ∷ []) (body_with []) here) (notify mode.Exported a 7 ∷ [])
-unfolding titles_rule title_rule declare_rule tested native_checked native_of title_checked lines_checked names_known names_apart attributes_of set_from segments is_word_byte is_tag_byte
+unfolding titles_rule title_rule declare_rule tested native_checked native_of title_checked lines_checked names_known names_apart attributes_of set_from segments is_word_byte is_tag_byte line_tests owner_at
 exported alloc manifests = refl
 
 -- without a title nothing is tested
@@ -253,14 +259,14 @@ no_titles alloc manifests = refl
 -- F14 of the second title, with the place of the first
 duplicate : Fails (titles_rule form.Plain kind (text a ∷ text a ∷ []) (body_with []) here)
     7 (what.Duplicate (record { kind = kind; title = a }) (place 7))
-unfolding titles_rule title_rule declare_rule tested native_checked native_of title_checked lines_checked names_known names_apart attributes_of set_from segments is_word_byte is_tag_byte
+unfolding titles_rule title_rule declare_rule tested native_checked native_of title_checked lines_checked names_known names_apart attributes_of set_from segments is_word_byte is_tag_byte line_tests
 duplicate alloc manifests = refl
 
 -- the first title's faults come before the second one's, and a body's before the next one's
 first_body : Fails
     (declare_bodies form.Plain kind (titled (text a ∷ int 4 ∷ []) (said (codes "mesage") a 3 ∷ []) 2 ∷ titled (int 4 ∷ []) [] 5 ∷ []) here)
     3 (what.UnknownParameter (record { kind = kind; title = a }) (codes "mesage"))
-unfolding declare_bodies titles_rule title_rule declare_rule tested native_checked native_of title_checked lines_checked names_known names_apart attributes_of
+unfolding declare_bodies titles_rule title_rule declare_rule tested native_checked native_of title_checked lines_checked names_known names_apart attributes_of known_checked is_metaparameter
 first_body alloc manifests = refl
 
 -- a relation is not built: F31 at its line, after all other tests of the title; one that is Undef is none
@@ -268,12 +274,12 @@ abbrev before : Datum → Line
 before value = line (codes "before") false value (place 8)
 
 relation : Fails (titles_rule form.Plain kind (text a ∷ []) (body_with (before (text c) ∷ [])) here) 8 what.NotBuilt
-unfolding titles_rule title_rule declare_rule tested native_checked native_of title_checked lines_checked names_known names_apart attributes_of set_from segments is_word_byte is_tag_byte is_relation_name is_metaparameter
+unfolding titles_rule title_rule declare_rule tested native_checked native_of title_checked lines_checked names_known names_apart attributes_of set_from segments is_word_byte is_tag_byte is_relation_name is_metaparameter known_checked line_tests
 relation alloc manifests = refl
 
 relation_of_second : Fails (titles_rule form.Plain kind (text a ∷ text a ∷ []) (body_with (before d.undef ∷ [])) here)
     7 (what.Duplicate (record { kind = kind; title = a }) (place 7))
-unfolding titles_rule title_rule declare_rule tested native_checked native_of title_checked lines_checked names_known names_apart attributes_of set_from segments is_word_byte is_tag_byte is_relation_name is_metaparameter
+unfolding titles_rule title_rule declare_rule tested native_checked native_of title_checked lines_checked names_known names_apart attributes_of set_from segments is_word_byte is_tag_byte is_relation_name is_metaparameter known_checked line_tests
 relation_of_second alloc manifests = refl
 
 -- ---- collectors
@@ -307,18 +313,21 @@ classes = refl
 -- the value is evaluated, and then the collector is registered
 registered : Registers (collected_by sample (Some native.Notify) None 3 here)
     (record { kind = kind; query = all; at = place 3; exported = true; realized = None })
-unfolding register
+unfolding register owner_at
 registered alloc manifests = refl
 
 tagged : Tells (tag_asked sample (Some (told a)) 3 here) (by_tag (text a)) (a ∷ [])
-unfolding write_log
+unfolding write_log out-Form denote.Hole.Carrier.out
 tagged alloc manifests = refl
 
 no_tag_value : Refuses (tag_asked sample (Some (fails 3)) 3 here) 3 (what.UnknownVariable (codes "x"))
+unfolding out-Form denote.Hole.Carrier.out owner_at
 no_tag_value alloc manifests = refl
 
 other_query : Refuses (tag_asked sample None 3 here) 3 what.NotBuilt
+unfolding owner_at
 other_query alloc manifests = refl
 
 other_collector : Refuses (collected_by sample None None 3 here) 3 what.NotBuilt
+unfolding owner_at
 other_collector alloc manifests = refl

@@ -1,6 +1,6 @@
 pub mod Back
 pub mod NameSets
-pub mod Kinds
+pub mod NativeKinds
 pub mod Rising
 pub mod Containers
 mod Samples

@@ -4,8 +4,10 @@ use Rattle.std.specs.Prelude.{pos, if◌then◌else◌}
 use Rattle.std.specs.Str.{bytes_eq}
 use Rattle.std.specs.declared.alloc.Global.{Global}
 use Rattle.pp_tree.specs.Building.{expr_at, form_of, line_of, setting, splat, body}
-use Rattle.pp_tree.specs.Layers.{FormLayer, Form-F, out-Form}
+use Rattle.pp_tree.specs.Layers.{FormLayer}
+use Rattle.pp_tree.specs.declared.collector.Test.TheOpen.{Form-F}
 use Rattle.pp_tree.specs.declared.expr.Expr.{Expr}
+use Rattle.pp_tree.specs.declared.expr.Form.{out-Form}
 use Rattle.pp_tree.specs.declared.expr.Form.TheVariants as f
 use Rattle.pp_tree.specs.declared.resource.Attribute.{Attribute}
 use Rattle.pp_tree.specs.declared.resource.Attribute.TheVariants as attribute

@@ -1,8 +1,10 @@
 -- The bodies of a resource expression: the `default` body first, and then each other one.
 use Rattle.std.specs.Prelude.{ℕ, Bool, true, false, not, if◌then◌else◌, List, [], ◌∷◌, ◌++◌, filter, map}
 use Rattle.pp_tree.specs.Building.{form_of}
-use Rattle.pp_tree.specs.Layers.{FormLayer, Form-F, out-Form}
+use Rattle.pp_tree.specs.Layers.{FormLayer}
+use Rattle.pp_tree.specs.declared.collector.Test.TheOpen.{Form-F}
 use Rattle.pp_tree.specs.declared.expr.Expr.{Expr}
+use Rattle.pp_tree.specs.declared.expr.Form.{out-Form}
 use Rattle.pp_tree.specs.declared.resource.Body as tree
 use Rattle.pp_funcs.specs.Lists.{flat}
 use Rattle.pp_values.specs.Rising.{has_text}

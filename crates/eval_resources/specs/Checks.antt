@@ -85,8 +85,8 @@ title_checked _ at = Err (no_title at)
 
 -- ---- the lines
 
-abbrev pub named : NativeType → List ℕ → Reference
-named n title = record { kind = (row n).kind; title = title }
+abbrev pub reference_of : NativeType → List ℕ → Reference
+reference_of n title = record { kind = (row n).kind; title = title }
 
 -- F10 at the first line whose name the resource does not take
 unfoldable pub names_known : Reference → List (List ℕ) → List Line → Result ⊤ Fault
@@ -110,7 +110,7 @@ lines_checked r known ls = and_then (names_known r known ls) (λ _. names_apart 
 
 abbrev pub title_tested : NativeType → Datum → Body → Result Named Fault
 title_tested n title b = and_then (title_checked title b.at) (λ t.
-    and_then (lines_checked (named n t) (attributes_of n) b.lines) (λ _. Ok (record { native = n; title = t })))
+    and_then (lines_checked (reference_of n t) (attributes_of n) b.lines) (λ _. Ok (record { native = n; title = t })))
 
 unfoldable pub tested : Entries → Form → List ℕ → Datum → Body → Result Named Fault
 tested definitions written kind title b =

@@ -1,13 +1,14 @@
 -- Collectors: `File <<| |>>` and `File <<| tag == 'a' |>>`. All others are not built.
 use Rattle.std.specs.Prelude.{ℕ, Bool, true, false, ◌&&◌, if◌then◌else◌, List, [], ◌∷◌, Option, None, Some, option_and_then, Ok, codes}
 use Rattle.std.specs.Str.{bytes_eq}
-use Rattle.pp_tree.specs.Layers.{TestLayer, Test-F, out-Test}
+use Rattle.pp_tree.specs.Layers.{TestLayer}
 use Rattle.pp_tree.specs.Names.{normal}
 use Rattle.pp_tree.specs.declared.collector.Collector as tree
 use Rattle.pp_tree.specs.declared.collector.Comparison.{Comparison}
 use Rattle.pp_tree.specs.declared.collector.Conjunction.{Conjunction, out-Conjunction}
 use Rattle.pp_tree.specs.declared.collector.Query.{Query, out-Query}
-use Rattle.pp_tree.specs.declared.collector.Test.{Test}
+use Rattle.pp_tree.specs.declared.collector.Test.{Test, out-Test}
+use Rattle.pp_tree.specs.declared.collector.Test.TheOpen.{Test-F}
 use Rattle.pp_tree.specs.declared.expr.Expr.{Expr}
 use Rattle.pp_tree.specs.declared.resource.Attribute.{Attribute}
 use Rattle.pp_values.specs.Datum.{Datum}

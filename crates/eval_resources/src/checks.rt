@@ -34,14 +34,14 @@ fn title_tested(alloc: Global, native: NativeType, title: &Value, body: &Body) -
     ensures { Answers result (spec.title_tested native (view title.now) (body_of body.now)) }
 {
     let title = check_title(alloc, title, &body.at)?;
-    let what = named(alloc, native, &title)?;
+    let what = reference_of(alloc, native, &title)?;
     let known = known_attributes(alloc, native)?;
     check_lines(alloc, &what, &known, body.lines.as_slice())?;
     Ok(Named { native, title })
 }
 
-fn named(alloc: Global, native: NativeType, title: &Text) -> Result<Reference, Memory>
-    ensures { IfOk result (λ r. r ≡ spec.named native title.now) }
+fn reference_of(alloc: Global, native: NativeType, title: &Text) -> Result<Reference, Memory>
+    ensures { IfOk result (λ r. r ≡ spec.reference_of native title.now) }
 {
     let kind = kind_of(alloc, native)?;
     let title = title.copy(alloc)?;

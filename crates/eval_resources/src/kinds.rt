@@ -107,7 +107,7 @@ pub fn normal_name(alloc: Global, written: &Text) -> Result<Text, Memory>
 }
 
 /// The kind of a native type.
-#[tactic(auto, using(crate::proofs::Kinds::kind_seen))]
+#[tactic(auto, using(crate::proofs::NativeKinds::kind_seen))]
 pub fn kind_of(alloc: Global, native: NativeType) -> Result<Kind, Memory>
     ensures { IfOk result (λ k. k ≡ (row native).kind) }
 {

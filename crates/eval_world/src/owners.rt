@@ -1,4 +1,4 @@
-ghost use Rattle.std.specs.Prelude.{◌≡◌, ◌++◌, [], ◌∷◌, length, is_ok, if◌then◌else◌, IfOk};
+ghost use Rattle.std.specs.Prelude.{◌≡◌, ◌+◌, length, is_ok, if◌then◌else◌, IfOk};
 ghost use Rattle.eval_world.specs.Owners.{owner_at, main_alone, with_owner};
 
 use crate::owner::Owner;

@@ -47,7 +47,7 @@ impl<'a> World<'a> {
     /// The world before anything was evaluated: the empty top scope, the main manifest as the one owner, and no
     /// declaration.
     pub fn new(alloc: Global, manifests: Manifests<'a>) -> Result<World<'a>, Memory>
-        ensures { IfOk result (λ w. w ≡ spec.empty alloc manifests) }
+        ensures { IfOk result (λ w. w ≡ spec.empty alloc manifests.entry) }
     {
         Ok(World {
             alloc,
@@ -63,10 +63,10 @@ impl<'a> World<'a> {
 
     /// The tables that finishing reads, and the lines of the log.
     pub fn into_parts(self) -> (Book, Overrides, Relations, LogLines)
-        ensures book { result.0 ≡ self.book }
-        ensures overrides { result.1 ≡ self.overrides }
-        ensures relations { result.2 ≡ self.relations }
-        ensures log { result.3 ≡ self.log }
+        ensures book { result.0 ≡ self.entry.book }
+        ensures overrides { result.1 ≡ self.entry.overrides }
+        ensures relations { result.2 ≡ self.entry.relations }
+        ensures log { result.3 ≡ self.entry.log }
     {
         let World {
             alloc: _alloc,

@@ -7,7 +7,7 @@ use Rattle.eval_resources.proofs.filling.with_unwritten.Given as goal
 abbrev pub invariant-loop-line : goal.invariant-loop-line
 invariant-loop-line l =
     lines_of l.all ++ not_among l.names.keys (lines_of l.rest)
-    ≡ lines_of l.done ++ not_among l.names.keys (lines_of l.lines)
+    ≡ lines_of l.fn.done ++ not_among l.names.keys (lines_of l.lines)
 
 abbrev pub decreases-loop-line : goal.decreases-loop-line
 decreases-loop-line l = length l.rest

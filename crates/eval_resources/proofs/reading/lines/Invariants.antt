@@ -6,7 +6,7 @@ use Rattle.eval_resources.proofs.reading.lines.Given as goal
 
 abbrev pub invariant-loop-attribute : goal.invariant-loop-attribute
 invariant-loop-attribute g l =
-    lines_from (g.M.Meaning.within l.forms.left) (lines_of l.done) l.attributes l.here l.fn.world
+    lines_from (g.M.Meaning.within l.forms.left) (lines_of l.fn.done) l.attributes l.here l.fn.world
     ≡ lines_from (g.M.Meaning.within l.forms.left) (lines_of l.all) l.rest l.here l.world
 
 abbrev pub decreases-loop-attribute : goal.decreases-loop-attribute

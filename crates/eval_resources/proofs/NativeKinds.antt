@@ -8,15 +8,15 @@ use Rattle.res_core.specs.declared.native_type.NativeType.{NativeType}
 use Rattle.res_core.specs.declared.native_type.NativeType.TheVariants as native
 
 pub native_kind : (n : NativeType) → IsTrue (is_kind (row n).kind)
-native_kind native.File = tt
-native_kind native.Package = tt
-native_kind native.Service = tt
-native_kind native.User = tt
-native_kind native.Group = tt
-native_kind native.Host = tt
-native_kind native.Cron = tt
-native_kind native.Exec = tt
-native_kind native.Notify = tt
+native_kind native.File = refl
+native_kind native.Package = refl
+native_kind native.Service = refl
+native_kind native.User = refl
+native_kind native.Group = refl
+native_kind native.Host = refl
+native_kind native.Cron = refl
+native_kind native.Exec = refl
+native_kind native.Notify = refl
 
 pub kind_seen : (r : NativeRow) (n : NativeType) → row_seen r ≡ row n → IsTrue (is_kind r.kind.now)
 kind_seen r n e = subst (λ (x : Row). IsTrue (is_kind x.kind)) (sym e) (native_kind n)

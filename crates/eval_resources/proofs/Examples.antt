@@ -1,13 +1,15 @@
 -- The definitions at worked examples. Each line with `refl` holds by computing.
 use Rattle.std.proofs.Common.{◌≡◌, ℕ, Bool, true, false, List, [], ◌∷◌, ◌++◌, Option, None, Some, Ok, Err, refl, codes}
 use Rattle.std.specs.Fmt.{digits}
+use Rattle.std.specs.declared.alloc.Global.{Global}
 use Rattle.override_rules.specs.Rights.{line_tests}
-use Rattle.pp_tree.specs.Building.{name_at, class_of, define_of, comparison}
+use Rattle.pp_tree.specs.Building.{name_at, class_of, define_of, comparison, resource}
 use Rattle.pp_tree.specs.Names.{normal, without_front_colons}
 use Rattle.pp_tree.specs.Tables.{Entries}
 use Rattle.pp_tree.specs.declared.definition.Definition.TheVariants as definition
 use Rattle.pp_tree.specs.declared.expr.Expr.{Expr}
 use Rattle.pp_tree.specs.declared.expr.Form.{out-Form}
+use Rattle.pp_tree.specs.declared.resource.ResourceForm.TheVariants as mark
 use Rattle.pp_tree.specs.declared.table.DefinitionName.TheVariants.{Code}
 use Rattle.pp_values.specs.Datum as d
 use Rattle.pp_values.specs.Datum.{Datum}
@@ -24,19 +26,21 @@ use Rattle.res_core.specs.Criteria.{all, by_tag}
 use Rattle.res_core.specs.Metaparameters.{is_relation_name, is_metaparameter}
 use Rattle.res_core.specs.NativeTypes.{row, native_of, attributes_of, all_natives}
 use Rattle.res_core.specs.TagNames.{segments, is_word_byte, is_tag_byte}
+use Rattle.res_core.specs.declared.action.Action.TheVariants as action
 use Rattle.res_core.specs.declared.form.Form.TheVariants as form
 use Rattle.res_core.specs.declared.native_type.NativeType.TheVariants as native
 use Rattle.eval_resources.specs.Bodies.{bodies_rule, bodies_from, body_rule, defaults_from, default_rule, filled}
 use Rattle.eval_resources.specs.Checks.{tested, native_checked, title_checked, names_known, names_apart, lines_checked}
 use Rattle.eval_resources.specs.Collectors.{tag_compared, native_by, register, tag_asked, collected_by}
-use Rattle.eval_resources.specs.Declaring.{set_from, given_tags, declare_rule}
-use Rattle.eval_resources.specs.Resources.{title_rule, titles_rule, declare_bodies}
+use Rattle.eval_resources.specs.Declaring.{set_from, given_tags, declare_rule, item_of, container_in}
+use Rattle.eval_resources.specs.Resources.{title_rule, titles_rule, declare_bodies, resource_rule, act_rule}
 use Rattle.eval_resources.specs.Lines.{Line, Body}
 use Rattle.eval_resources.specs.Reading.{line, lines_from, attribute_rule, setting_rule, splat_rule, splatted}
 use Rattle.eval_resources.specs.declared.named.Named.{Named}
 use Rattle.eval_resources.proofs.Samples.{text, int, list, more, nested, told, word, undef, default, a_hash, a_list, fails, sample}
-use Rattle.eval_resources.proofs.Samples.{sets, adds, titled_by, here, place, said, Tells, Refuses, Declares, Fails, Registers}
+use Rattle.eval_resources.proofs.Samples.{sets, adds, titled_by, here, place, said, Tells, Refuses, Declares, Fails, Registers, main, class_a, owner, overridden, book_by}
 use Rattle.eval_world.specs.Owners.{owner_at}
+use Rattle.eval_world.specs.declared.manifests.Manifests.{Manifests}
 use Rattle.eval_world.specs.Worlds.{write_log}
 
 abbrev a : List ℕ
@@ -281,6 +285,60 @@ relation_of_second : Fails (titles_rule form.Plain kind (text a ∷ text a ∷ [
     7 (what.Duplicate (record { kind = kind; title = a }) (place 7))
 unfolding titles_rule title_rule declare_rule tested native_checked native_of title_checked lines_checked names_known names_apart attributes_of set_from segments is_word_byte is_tag_byte is_relation_name is_metaparameter known_checked line_tests
 relation_of_second alloc manifests = refl
+
+-- an override line that came before it is tested then, and before relations: F10 at the line
+overridden_before : (alloc : Global) (manifests : Manifests)
+    → book_by (titles_rule form.Plain kind (text a ∷ []) (body_with (before (text c) ∷ [])) here (overridden alloc manifests))
+    ≡ Err (fault (place 9) (what.UnknownParameter (record { kind = kind; title = a }) (codes "mesage")))
+unfolding titles_rule title_rule declare_rule tested native_checked native_of title_checked lines_checked names_known names_apart attributes_of set_from segments is_word_byte is_tag_byte known_checked line_tests is_metaparameter
+overridden_before alloc manifests = refl
+
+-- in a class: its resource contains what it declares, whose tags go on; scope and source are those of the class
+in_class : item_of owner (new_row main mode.Plain ∷ class_a mode.Plain ∷ [])
+    (record { native = native.Notify; title = b }) (body_with (said (codes "tag") (codes "Mine") 8 ∷ []))
+    ≡ record {
+      item = record {
+        kind = kind;
+        title = b;
+        attributes = (codes "tag", text (codes "Mine")) ∷ [];
+        tags = a ∷ b ∷ codes "class" ∷ codes "mine" ∷ codes "notify" ∷ codes "own" ∷ [];
+      };
+      at = place 7;
+      scope = 3;
+      container = Some 1;
+      class = codes "class a";
+      known = codes "name" ∷ codes "message" ∷ [];
+    }
+unfolding set_from segments is_word_byte is_tag_byte attributes_of
+in_class = refl
+
+-- what is not live contains nothing, nor does what is not there
+virtual_container : container_in (new_row main mode.Plain ∷ class_a mode.Virtual ∷ []) 1 ≡ None
+virtual_container = refl
+
+no_container : container_in (new_row main mode.Plain ∷ []) 1 ≡ None
+no_container = refl
+
+-- ---- the whole expression
+
+-- `@@::Notify { 'a': }` by an action, and the kind is told by its normal name
+whole : Declares (resource_rule sample
+    (resource mark.Exported (codes "::nOtify") (titled_by (word a) [] 7 ∷ []) 6) here)
+    (notify mode.Exported a 7 ∷ [])
+unfolding resource_rule bodies_rule defaults_from bodies_from body_rule lines_from declare_bodies titles_rule title_rule declare_rule tested native_checked native_of title_checked lines_checked names_known names_apart attributes_of set_from segments is_word_byte is_tag_byte line_tests owner_at out-Form denote.Hole.Carrier.out normal without_front_colons
+whole alloc manifests = refl
+
+-- all bodies are evaluated before any test: the second one's F2 comes before the first one's F8, and before F5
+evaluated_first : Fails (resource_rule sample
+    (resource mark.Plain (codes "nothing") (titled_by undef [] 2 ∷ titled_by (fails 3) [] 3 ∷ []) 1) here)
+    3 (what.UnknownVariable (codes "x"))
+unfolding resource_rule bodies_rule defaults_from bodies_from body_rule lines_from owner_at out-Form denote.Hole.Carrier.out
+evaluated_first alloc manifests = refl
+
+-- of all other actions nothing is built
+defaults_action : Fails (act_rule (action.Defaults (codes "file") []) 5 here) 5 what.NotBuilt
+unfolding act_rule owner_at
+defaults_action alloc manifests = refl
 
 -- ---- collectors
 

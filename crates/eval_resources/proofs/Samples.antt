@@ -21,6 +21,7 @@ use Rattle.pp_values.specs.declared.fault.What.TheVariants as what
 use Rattle.pp_values.specs.declared.place.Place.{Place}
 use Rattle.res_book.specs.Rows.{new_row}
 use Rattle.res_book.specs.declared.collector.Collector.{Collector}
+use Rattle.res_book.specs.declared.mode.Mode.{Mode}
 use Rattle.res_book.specs.declared.mode.Mode.TheVariants as mode
 use Rattle.res_book.specs.declared.row.Row.{Row}
 use Rattle.res_core.specs.declared.declared.Declared.{Declared}
@@ -29,7 +30,10 @@ use Rattle.eval_world.specs.Outcomes.{Outcome, Step, ◌>>=◌, ◌>>◌, pure}
 use Rattle.eval_world.specs.Worlds.{empty, fault, write_log}
 use Rattle.eval_world.specs.declared.here.Here.{Here}
 use Rattle.eval_world.specs.declared.manifests.Manifests.{Manifests}
+use Rattle.eval_world.specs.declared.owner.Owner.{Owner}
 use Rattle.eval_world.specs.declared.world.World.{World}
+use Rattle.override_rules.specs.Lines as overrides
+use Rattle.override_rules.specs.declared.override_line.Right.TheVariants as right
 use Rattle.eval_resources.specs.Lines.{Line, Body}
 use Rattle.eval_resources.specs.Reading.{line}
 
@@ -133,6 +137,31 @@ main = record {
 
 abbrev pub world : Global → Manifests → World
 world alloc manifests = record (empty alloc manifests) { book = new_row main mode.Plain ∷ [] }
+
+-- the same with an override line on `Notify[a]`, which came before it: at line 9
+abbrev pub overridden : Global → Manifests → World
+overridden alloc manifests = record (world alloc manifests) { overrides = record {
+  lines = record {
+    target = record { kind = codes "notify"; title = codes "a" };
+    name = codes "mesage";
+    append = false;
+    value = d.text (codes "b");
+    at = place 9;
+    right = right.From (codes "class main") [];
+  } ∷ [];
+  scopes = [];
+  defaults = [];
+} }
+
+-- where a class `a` is evaluated: what it declares stands in declaration 1
+abbrev pub owner : Owner
+owner = record { file = codes "modules/a/manifests/init.pp"; source = codes "class a"; resource = 1; scope = 3 }
+
+-- `Class[a]`, which has a tag of its own
+abbrev pub class_a : Mode → Row
+class_a m = new_row (record main {
+  item = record main.item { title = codes "a"; tags = codes "a" ∷ codes "class" ∷ codes "own" ∷ [] };
+}) m
 
 -- ---- what the examples say of a step
 

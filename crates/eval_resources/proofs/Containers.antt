@@ -1,5 +1,6 @@
 -- Containers and numbers of declarations.
-use Rattle.std.proofs.Common.{◌≡◌, ℕ, zero, suc, ◌<◌, Bool, true, false, IsTrue, List, [], ◌∷◌, ◌++◌, length, length-append, refl, sym, ap, subst, ◌∙◌, arith}
+use Rattle.std.proofs.Common.{◌≡◌, ℕ, zero, suc, ◌<◌, Bool, true, false, IsTrue, List, [], ◌∷◌, ◌++◌, length}
+use Rattle.std.proofs.Common.{length-append, refl, sym, ap, subst, ◌∙◌, arith}
 use Rattle.std.proofs.Common.{Option, None, Some, Ok}
 use Rattle.std.specs.Prelude.{slice_get, if◌then◌else◌}
 use Rattle.res_core.specs.declared.declared.Declared.{Declared}

@@ -1,5 +1,6 @@
 -- The definitions at worked examples. Each line with `refl` holds by computing.
-use Rattle.std.proofs.Common.{◌≡◌, ℕ, Bool, true, false, List, [], ◌∷◌, ◌++◌, Option, None, Some, Ok, Err, refl, codes}
+use Rattle.std.proofs.Common.{◌≡◌, ℕ, Bool, true, false, List, [], ◌∷◌, ◌++◌, Option, None, Some, Ok, Err, refl}
+use Rattle.std.proofs.Common.{codes}
 use Rattle.std.specs.Fmt.{digits}
 use Rattle.std.specs.declared.alloc.Global.{Global}
 use Rattle.override_rules.specs.Rights.{line_tests}
@@ -30,15 +31,18 @@ use Rattle.res_core.specs.declared.action.Action.TheVariants as action
 use Rattle.res_core.specs.declared.form.Form.TheVariants as form
 use Rattle.res_core.specs.declared.native_type.NativeType.TheVariants as native
 use Rattle.eval_resources.specs.Bodies.{bodies_rule, bodies_from, body_rule, defaults_from, default_rule, filled}
-use Rattle.eval_resources.specs.Checks.{tested, native_checked, title_checked, names_known, names_apart, lines_checked}
+use Rattle.eval_resources.specs.Checks.{tested, native_checked, title_checked, names_known, names_apart}
+use Rattle.eval_resources.specs.Checks.{lines_checked}
 use Rattle.eval_resources.specs.Collectors.{tag_compared, native_by, register, tag_asked, collected_by}
 use Rattle.eval_resources.specs.Declaring.{set_from, given_tags, declare_rule, item_of, container_in}
 use Rattle.eval_resources.specs.Resources.{title_rule, titles_rule, declare_bodies, resource_rule, act_rule}
 use Rattle.eval_resources.specs.Lines.{Line, Body}
 use Rattle.eval_resources.specs.Reading.{line, lines_from, attribute_rule, setting_rule, splat_rule, splatted}
 use Rattle.eval_resources.specs.declared.named.Named.{Named}
-use Rattle.eval_resources.proofs.Samples.{text, int, list, more, nested, told, word, undef, default, a_hash, a_list, fails, sample}
-use Rattle.eval_resources.proofs.Samples.{sets, adds, titled_by, here, place, said, Tells, Refuses, Declares, Fails, Registers, main, class_a, owner, overridden, book_by}
+use Rattle.eval_resources.proofs.Samples.{text, int, list, more, nested, told, word, undef, default, a_hash, a_list}
+use Rattle.eval_resources.proofs.Samples.{fails, sample}
+use Rattle.eval_resources.proofs.Samples.{sets, adds, titled_by, here, place, said, Tells, Refuses, Declares, Fails}
+use Rattle.eval_resources.proofs.Samples.{Registers, main, class_a, owner, overridden, book_by}
 use Rattle.eval_world.specs.Owners.{owner_at}
 use Rattle.eval_world.specs.declared.manifests.Manifests.{Manifests}
 use Rattle.eval_world.specs.Worlds.{write_log}
@@ -81,9 +85,9 @@ first_fault alloc manifests = refl
 -- The default body is evaluated first, wherever it stands; then titles, then attributes. What a body writes is its own.
 default_body : Tells
     (bodies_rule sample
-      (titled_by (told a) (sets a (told b) 2 ∷ []) 2
-      ∷ titled_by default (sets a (told c) 3 ∷ sets b (told c) 4 ∷ []) 3
-      ∷ []) here)
+    (titled_by (told a) (sets a (told b) 2 ∷ []) 2
+    ∷ titled_by default (sets a (told c) 3 ∷ sets b (told c) 4 ∷ []) 3
+    ∷ []) here)
     (record {
       titles = text a ∷ [];
       lines = said a b 2 ∷ said b c 4 ∷ [];
@@ -101,11 +105,11 @@ undef_is_written = refl
 -- several default bodies are joined, so a name may stand twice; all bodies are filled in
 defaults_joined : Tells
     (bodies_rule sample
-      (titled_by default (sets a (word b) 1 ∷ []) 1
-      ∷ titled_by (word a) [] 2
-      ∷ titled_by default (sets a (word c) 3 ∷ sets b (word c) 3 ∷ []) 3
-      ∷ titled_by (word b) (sets a (word a) 4 ∷ []) 4
-      ∷ []) here)
+    (titled_by default (sets a (word b) 1 ∷ []) 1
+    ∷ titled_by (word a) [] 2
+    ∷ titled_by default (sets a (word c) 3 ∷ sets b (word c) 3 ∷ []) 3
+    ∷ titled_by (word b) (sets a (word a) 4 ∷ []) 4
+    ∷ []) here)
     (record { titles = text a ∷ []; lines = said a b 1 ∷ said a c 3 ∷ said b c 3 ∷ []; at = place 2 }
     ∷ record { titles = text b ∷ []; lines = said a a 4 ∷ said b c 3 ∷ []; at = place 4 } ∷ [])
     []
@@ -163,7 +167,7 @@ class = refl
 -- F26 names the class, and the kind alone where the title is no text
 virtual_class : tested [] form.Virtual (codes "class") (text (codes "::Web")) (body_with [])
     ≡ Err (fault (place 7)
-      (what.ClassVirtual (subject.Reference (record { kind = codes "class"; title = codes "web" }))))
+    (what.ClassVirtual (subject.Reference (record { kind = codes "class"; title = codes "web" }))))
 unfolding tested native_checked native_of normal without_front_colons
 virtual_class = refl
 
@@ -191,7 +195,8 @@ unfolding tested native_checked native_of title_checked lines_checked names_know
 unknown_name = refl
 
 -- F15 at the later line
-twice : tested [] form.Plain (codes "file") (text a) (body_with (mode_line 5 ∷ said (codes "tag") a 6 ∷ mode_line 8 ∷ []))
+twice : tested [] form.Plain (codes "file") (text a)
+    (body_with (mode_line 5 ∷ said (codes "tag") a 6 ∷ mode_line 8 ∷ []))
     ≡ Err (fault (place 8) (what.AlreadySet (subject.Reference file_a) (codes "mode")))
 unfolding tested native_checked native_of title_checked lines_checked names_known names_apart attributes_of known_checked is_metaparameter
 twice = refl
@@ -268,7 +273,8 @@ duplicate alloc manifests = refl
 
 -- the first title's faults come before the second one's, and a body's before the next one's
 first_body : Fails
-    (declare_bodies form.Plain kind (titled (text a ∷ int 4 ∷ []) (said (codes "mesage") a 3 ∷ []) 2 ∷ titled (int 4 ∷ []) [] 5 ∷ []) here)
+    (declare_bodies form.Plain kind
+    (titled (text a ∷ int 4 ∷ []) (said (codes "mesage") a 3 ∷ []) 2 ∷ titled (int 4 ∷ []) [] 5 ∷ []) here)
     3 (what.UnknownParameter (record { kind = kind; title = a }) (codes "mesage"))
 unfolding declare_bodies titles_rule title_rule declare_rule tested native_checked native_of title_checked lines_checked names_known names_apart attributes_of known_checked is_metaparameter
 first_body alloc manifests = refl
@@ -288,7 +294,8 @@ relation_of_second alloc manifests = refl
 
 -- an override line that came before it is tested then, and before relations: F10 at the line
 overridden_before : (alloc : Global) (manifests : Manifests)
-    → book_by (titles_rule form.Plain kind (text a ∷ []) (body_with (before (text c) ∷ [])) here (overridden alloc manifests))
+    → book_by
+    (titles_rule form.Plain kind (text a ∷ []) (body_with (before (text c) ∷ [])) here (overridden alloc manifests))
     ≡ Err (fault (place 9) (what.UnknownParameter (record { kind = kind; title = a }) (codes "mesage")))
 unfolding titles_rule title_rule declare_rule tested native_checked native_of title_checked lines_checked names_known names_apart attributes_of set_from segments is_word_byte is_tag_byte known_checked line_tests is_metaparameter
 overridden_before alloc manifests = refl

@@ -18,9 +18,9 @@ names-insert_entry : (ss : List Setting) (name : List ℕ) (d : Datum) →
 names-insert_entry [] name d = refl
 names-insert_entry (s ∷ ss) name d =
     elim (text_cmp name s.0) as (λ o.
-      setting_names (match_ordering o ((name, d) ∷ s ∷ ss) ((s.0, d) ∷ ss) (s ∷ insert_entry text_cmp ss name d))
-      ≡ match_ordering o (name ∷ setting_names (s ∷ ss)) (setting_names (s ∷ ss))
-        (s.0 ∷ insert_key text_cmp (setting_names ss) name)) [
+    setting_names (match_ordering o ((name, d) ∷ s ∷ ss) ((s.0, d) ∷ ss) (s ∷ insert_entry text_cmp ss name d))
+    ≡ match_ordering o (name ∷ setting_names (s ∷ ss)) (setting_names (s ∷ ss))
+    (s.0 ∷ insert_key text_cmp (setting_names ss) name)) [
       | Less ↦ refl
       | Equal ↦ refl
       | Greater ↦ ap (λ ns. s.0 ∷ ns) (names-insert_entry ss name d)

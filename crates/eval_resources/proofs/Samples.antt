@@ -1,5 +1,6 @@
 -- Small trees, what they mean one level further in, and a world, for the examples.
-use Rattle.std.proofs.Common.{◌≡◌, ℕ, Bool, true, false, List, [], ◌∷◌, ◌++◌, length, Option, None, Some, Result, Ok, Err, map, codes}
+use Rattle.std.proofs.Common.{◌≡◌, ℕ, Bool, true, false, List, [], ◌∷◌, ◌++◌, length, Option, None, Some, Result}
+use Rattle.std.proofs.Common.{Ok, Err, map, codes}
 use Rattle.std.specs.Prelude.{pos, if◌then◌else◌}
 use Rattle.std.specs.Str.{bytes_eq}
 use Rattle.std.specs.declared.alloc.Global.{Global}
@@ -127,7 +128,12 @@ place at = record { file = codes "manifests/site.pp"; line = at }
 
 abbrev pub main : Declared
 main = record {
-  item = record { kind = codes "class"; title = codes "main"; attributes = []; tags = codes "class" ∷ codes "main" ∷ [] };
+  item = record {
+    kind = codes "class";
+    title = codes "main";
+    attributes = [];
+    tags = codes "class" ∷ codes "main" ∷ [];
+  };
   at = place 1;
   scope = 0;
   container = None;
@@ -140,18 +146,20 @@ world alloc manifests = record (empty alloc manifests) { book = new_row main mod
 
 -- the same with an override line on `Notify[a]`, which came before it: at line 9
 abbrev pub overridden : Global → Manifests → World
-overridden alloc manifests = record (world alloc manifests) { overrides = record {
-  lines = record {
-    target = record { kind = codes "notify"; title = codes "a" };
-    name = codes "mesage";
-    append = false;
-    value = d.text (codes "b");
-    at = place 9;
-    right = right.From (codes "class main") [];
-  } ∷ [];
-  scopes = [];
-  defaults = [];
-} }
+overridden alloc manifests = record (world alloc manifests) {
+  overrides = record {
+    lines = record {
+      target = record { kind = codes "notify"; title = codes "a" };
+      name = codes "mesage";
+      append = false;
+      value = d.text (codes "b");
+      at = place 9;
+      right = right.From (codes "class main") [];
+    } ∷ [];
+    scopes = [];
+    defaults = [];
+  };
+}
 
 -- where a class `a` is evaluated: what it declares stands in declaration 1
 abbrev pub owner : Owner

@@ -1,5 +1,6 @@
 -- Collectors: `File <<| |>>` and `File <<| tag == 'a' |>>`. All others are not built.
-use Rattle.std.specs.Prelude.{ℕ, Bool, true, false, ◌&&◌, if◌then◌else◌, List, [], ◌∷◌, Option, None, Some, option_and_then, Ok, codes}
+use Rattle.std.specs.Prelude.{ℕ, Bool, true, false, ◌&&◌, if◌then◌else◌, List, [], ◌∷◌, Option, None, Some}
+use Rattle.std.specs.Prelude.{option_and_then, Ok, codes}
 use Rattle.std.specs.Str.{bytes_eq}
 use Rattle.pp_tree.specs.Layers.{TestLayer}
 use Rattle.pp_tree.specs.Names.{normal}
@@ -75,13 +76,18 @@ asked_by inner (Some q) at here = tag_asked inner (tag_of q) at here
 
 -- it is registered behind the others
 unfoldable pub register : NativeType → Criterion → ℕ → Here → Step (Unit {0})
-register n criterion at here = λ w. Ok (tt, record w { relations = with_collector (record {
-  kind = (row n).kind;
-  query = criterion;
-  at = place_at w here at;
-  exported = true;
-  realized = None;
-}) w.relations })
+register n criterion at here = λ w. Ok (
+  tt,
+  record w {
+    relations = with_collector (record {
+      kind = (row n).kind;
+      query = criterion;
+      at = place_at w here at;
+      exported = true;
+      realized = None;
+    }) w.relations;
+  },
+)
 
 abbrev pub collected_by : Inner → Option NativeType → Option Query → ℕ → Here → Step (Unit {0})
 collected_by inner None q at here = not_built here at

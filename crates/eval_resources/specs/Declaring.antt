@@ -1,5 +1,6 @@
 -- What a title of a body declares.
-use Rattle.std.specs.Prelude.{ℕ, Bool, true, false, if◌then◌else◌, List, [], ◌∷◌, map, Option, None, Some, Result, Ok, Err, slice_get, codes}
+use Rattle.std.specs.Prelude.{ℕ, Bool, true, false, if◌then◌else◌, List, [], ◌∷◌, map, Option, None, Some, Result}
+use Rattle.std.specs.Prelude.{Ok, Err, slice_get, codes}
 use Rattle.std.specs.BTreeMap.{insert_entry}
 use Rattle.pp_funcs.specs.Lists.{flat}
 use Rattle.pp_values.specs.Datum as d

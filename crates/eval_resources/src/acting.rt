@@ -14,15 +14,29 @@ use pp_values::{Fault, Stop, Text, Value, What};
 use res_core::{Action, Body, Form, Line, is_relation_name};
 use std::alloc::Global;
 
-/// Does what a statement that begins at this line asks for. Of a resource each title of each body is declared, in order.
+/// Does what a statement that begins at this line asks for. Of a resource each title of each body is declared, in
+/// order.
 #[tactic(auto, unfolding(crate::specs::Resources::act_rule))]
 pub fn act(world: &mut World<'_>, action: &Action, line: u32, here: Here) -> Result<(), Stop>
     ensures { Gives nothing (spec.act_rule action.now line here world.old) result world.new }
 {
     match action {
-        Action::Resource { form, kind, bodies } => declare_bodies(world, *form, kind, bodies.as_slice(), here),
-        Action::Override { target: _, lines: _ } => Err(Stop::Fault(world.fault(here, line, What::NotBuilt)?)),
-        Action::Defaults { kind: _, lines: _ } => Err(Stop::Fault(world.fault(here, line, What::NotBuilt)?)),
+        Action::Resource { form, kind, bodies } => declare_bodies(
+            world,
+            *form,
+            kind,
+            bodies.as_slice(),
+            here,
+        ),
+        Action::Override {
+            target: _,
+            lines: _,
+        } => Err(Stop::Fault(world.fault(here, line, What::NotBuilt)?)),
+        Action::Defaults { kind: _, lines: _ } => Err(Stop::Fault(world.fault(
+            here,
+            line,
+            What::NotBuilt,
+        )?)),
         Action::Collect {
             exported: _,
             kind: _,
@@ -38,7 +52,13 @@ pub fn act(world: &mut World<'_>, action: &Action, line: u32, here: Here) -> Res
 }
 
 #[tactic(auto, unfolding(crate::specs::Resources::declare_bodies))]
-fn declare_bodies(world: &mut World<'_>, form: Form, kind: &Text, bodies: &[Body], here: Here) -> Result<(), Stop>
+fn declare_bodies(
+    world: &mut World<'_>,
+    form: Form,
+    kind: &Text,
+    bodies: &[Body],
+    here: Here,
+) -> Result<(), Stop>
     ensures { Gives nothing
         (spec.declare_bodies form kind.now (bodies_of bodies.now) here world.old) result world.new }
 {
@@ -83,7 +103,14 @@ fn declare_title(
     ensures { Gives nothing
         (spec.title_rule form kind.now (view title.now) (body_of body.now) here world.old) result world.new }
 {
-    let named = tested(world.alloc, &world.manifests.main.definitions, form, kind, title, body)?;
+    let named = tested(
+        world.alloc,
+        &world.manifests.main.definitions,
+        form,
+        kind,
+        title,
+        body,
+    )?;
     let number = declare(world, form, named, body, here)?;
     world.overrides.stand(world.alloc, &world.book, number)?;
     check_relations(world.alloc, body.lines.as_slice())

@@ -115,8 +115,8 @@ fn with_other<F: Fn(&mut World<'_>, Goal<'_>, Here, u32) -> Result<Evaluated, St
     here: Here,
 ) -> Result<Bodies, Stop>
     requires { Nests (M.within forms.now.left) forms.now.left (F.pre forms.now.inner) (F.post forms.now.inner) }
-    ensures { Gives bodies_of (spec.body_more (M.within forms.now.left) (spec.is_default body.now) (lines_of defaults.now)
-        (bodies_of done) body.now here world.old) result world.new }
+    ensures { Gives bodies_of (spec.body_more (M.within forms.now.left) (spec.is_default body.now)
+        (lines_of defaults.now) (bodies_of done) body.now here world.old) result world.new }
 {
     if is_default(body) {
         return Ok(done);

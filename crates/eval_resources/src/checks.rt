@@ -30,7 +30,12 @@ pub fn tested(
     title_tested(alloc, native, title, body)
 }
 
-fn title_tested(alloc: Global, native: NativeType, title: &Value, body: &Body) -> Result<Named, Stop>
+fn title_tested(
+    alloc: Global,
+    native: NativeType,
+    title: &Value,
+    body: &Body,
+) -> Result<Named, Stop>
     ensures { Answers result (spec.title_tested native (view title.now) (body_of body.now)) }
 {
     let title = check_title(alloc, title, &body.at)?;

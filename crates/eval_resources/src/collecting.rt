@@ -6,7 +6,9 @@ ghost use Rattle.eval_world.specs.Outcomes.{Gives, nothing, same};
 
 use crate::kinds::{kind_of, normal_name};
 use eval_world::{Evaluated, Forms, Goal, Here, Meaning, World};
-use pp_tree::collector::{Collector as Written, Comparison, Conjunction, Query as WrittenQuery, Test};
+use pp_tree::collector::{
+    Collector as Written, Comparison, Conjunction, Query as WrittenQuery, Test,
+};
 use pp_tree::expr::Expr;
 use pp_values::{Memory, Stop, What};
 use res_book::Collector;
@@ -22,7 +24,8 @@ pub fn collector<F: Fn(&mut World<'_>, Goal<'_>, Here, u32) -> Result<Evaluated,
     here: Here,
 ) -> Result<(), Stop>
     requires { Nests (M.within forms.now.left) forms.now.left (F.pre forms.now.inner) (F.post forms.now.inner) }
-    ensures { Gives nothing (spec.collector_rule (M.within forms.now.left) written.now here world.old) result world.new }
+    ensures { Gives nothing
+        (spec.collector_rule (M.within forms.now.left) written.now here world.old) result world.new }
 {
     match native_asked(world.alloc, written)? {
         None => Err(Stop::Fault(world.fault(here, written.at, What::NotBuilt)?)),
@@ -133,7 +136,13 @@ fn tag_compared(comparison: &Comparison) -> Option<&Expr>
 }
 
 #[tactic(auto, unfolding(crate::specs::Collectors::register))]
-fn register(world: &mut World<'_>, native: NativeType, query: QueryBox, line: u32, here: Here) -> Result<(), Stop>
+fn register(
+    world: &mut World<'_>,
+    native: NativeType,
+    query: QueryBox,
+    line: u32,
+    here: Here,
+) -> Result<(), Stop>
     ensures { Gives nothing (spec.register native query line here world.old) result world.new }
 {
     let kind = kind_of(world.alloc, native)?;

@@ -21,7 +21,13 @@ use std::alloc::Global;
 
 /// Declares the resource. The answer is its number.
 #[tactic(auto, unfolding(crate::specs::Declaring::declare_rule), using(crate::proofs::Containers::contained, crate::proofs::Containers::numbered))]
-pub fn declare(world: &mut World<'_>, form: Form, named: Named, body: &Body, here: Here) -> Result<u32, Stop>
+pub fn declare(
+    world: &mut World<'_>,
+    form: Form,
+    named: Named,
+    body: &Body,
+    here: Here,
+) -> Result<u32, Stop>
     ensures number { Gives same (spec.declare_rule form named (body_of body.now) here world.old) result world.new }
     ensures within { IfOk result (λ n. n < length world.new.book) }
 {
@@ -40,7 +46,13 @@ fn mode_of(form: Form) -> Mode
     }
 }
 
-fn item_of(alloc: Global, owner: &Owner, book: &Book, named: Named, body: &Body) -> Result<Declared, Memory>
+fn item_of(
+    alloc: Global,
+    owner: &Owner,
+    book: &Book,
+    named: Named,
+    body: &Body,
+) -> Result<Declared, Memory>
     ensures { IfOk result (λ d. d ≡ spec.item_of owner.now book.now named (body_of body.now)) }
 {
     let container = container_in(book, owner.resource);

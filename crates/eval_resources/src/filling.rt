@@ -41,7 +41,12 @@ pub fn has_name(names: &BTreeSet<Text>, name: &Text) -> bool
 
 /// The lines whose names are not among these, behind those that are there.
 #[tactic(auto, using(crate::proofs::NameSets::not_among_step))]
-fn with_unwritten(alloc: Global, done: Lines, names: &BTreeSet<Text>, lines: &[Line]) -> Result<Lines, Memory>
+fn with_unwritten(
+    alloc: Global,
+    done: Lines,
+    names: &BTreeSet<Text>,
+    lines: &[Line],
+) -> Result<Lines, Memory>
     ensures { IfOk result (λ ls. lines_of ls
         ≡ lines_of done ++ spec.not_among names.now.keys (lines_of lines.now)) }
 {
@@ -54,7 +59,12 @@ fn with_unwritten(alloc: Global, done: Lines, names: &BTreeSet<Text>, lines: &[L
     Ok(all)
 }
 
-fn with_one(alloc: Global, mut done: Lines, names: &BTreeSet<Text>, line: &Line) -> Result<Lines, Memory>
+fn with_one(
+    alloc: Global,
+    mut done: Lines,
+    names: &BTreeSet<Text>,
+    line: &Line,
+) -> Result<Lines, Memory>
     ensures { IfOk result (λ ls. lines_of ls
         ≡ lines_of done ++ spec.not_among names.now.keys (line_of line.now ∷ [])) }
 {

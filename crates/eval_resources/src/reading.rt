@@ -36,7 +36,10 @@ pub fn lines<F: Fn(&mut World<'_>, Goal<'_>, Here, u32) -> Result<Evaluated, Sto
 }
 
 #[tactic(auto, unfolding(crate::specs::Reading::attribute_rule))]
-fn with_attribute<F: Fn(&mut World<'_>, Goal<'_>, Here, u32) -> Result<Evaluated, Stop>, M: Meaning>(
+fn with_attribute<
+    F: Fn(&mut World<'_>, Goal<'_>, Here, u32) -> Result<Evaluated, Stop>,
+    M: Meaning,
+>(
     forms: &Forms<F, M>,
     world: &mut World<'_>,
     done: Lines,
@@ -110,7 +113,13 @@ fn with_splat<F: Fn(&mut World<'_>, Goal<'_>, Here, u32) -> Result<Evaluated, St
 }
 
 #[tactic(auto, using(crate::proofs::Back::pairs_back))]
-fn with_splatted(world: &World<'_>, done: Lines, value: &Value, line: u32, here: Here) -> Result<Lines, Stop>
+fn with_splatted(
+    world: &World<'_>,
+    done: Lines,
+    value: &Value,
+    line: u32,
+    here: Here,
+) -> Result<Lines, Stop>
     ensures { Gives lines_of (spec.splat_by (lines_of done) (view value.now) line here world.now) result world.now }
 {
     match value {
@@ -127,7 +136,12 @@ fn with_splatted(world: &World<'_>, done: Lines, value: &Value, line: u32, here:
 
 /// A line for each pair.
 #[tactic(auto, unfolding(crate::specs::Reading::splatted))]
-fn with_pairs(alloc: Global, done: Lines, pairs: &[(Value, Value)], at: &Place) -> Result<Lines, Memory>
+fn with_pairs(
+    alloc: Global,
+    done: Lines,
+    pairs: &[(Value, Value)],
+    at: &Place,
+) -> Result<Lines, Memory>
     ensures { IfOk result (λ ls. lines_of ls ≡ spec.splatted (lines_of done) (pair_views pairs.now) at.now) }
 {
     let mut all = done;
@@ -140,7 +154,8 @@ fn with_pairs(alloc: Global, done: Lines, pairs: &[(Value, Value)], at: &Place) 
 }
 
 fn with_pair(alloc: Global, done: Lines, pair: &(Value, Value), at: &Place) -> Result<Lines, Memory>
-    ensures { IfOk result (λ ls. lines_of ls ≡ spec.with_pair (lines_of done) (view pair.now.0) (view pair.now.1) at.now) }
+    ensures { IfOk result (λ ls. lines_of ls
+        ≡ spec.with_pair (lines_of done) (view pair.now.0) (view pair.now.1) at.now) }
 {
     let name = text_of(alloc, &pair.0)?;
     let value = Evaluated::copy_of(alloc, &pair.1)?;

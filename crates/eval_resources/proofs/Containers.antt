@@ -1,10 +1,10 @@
 -- Containers and numbers of declarations.
-use Rattle.std.proofs.Common.{◌≡◌, ℕ, zero, suc, ◌<◌, Bool, true, false, IsTrue, List, [], ◌∷◌, ◌++◌, length}
-use Rattle.std.proofs.Common.{length-append, refl, sym, ap, subst, ◌∙◌, arith}
-use Rattle.std.proofs.Common.{Option, None, Some, Ok}
-use Rattle.std.specs.Prelude.{slice_get, if◌then◌else◌}
+use Rattle.std.proofs.Common.{◌≡◌, ℕ, zero, suc, ◌<◌, Bool, true, false, List, [], ◌∷◌, length}
+use Rattle.std.proofs.Common.{length-append, refl, ap, arith}
+use Rattle.std.proofs.Common.{None, Some, Ok}
+use Rattle.std.specs.Prelude.{if◌then◌else◌}
 use Rattle.res_core.specs.declared.declared.Declared.{Declared}
-use Rattle.res_book.specs.Rows.{declared, is_live, is_live_at, is_contained, new_row, passes}
+use Rattle.res_book.specs.Rows.{declared, is_live_at, is_contained, new_row}
 use Rattle.res_book.specs.declared.mode.Mode.{Mode}
 use Rattle.res_book.specs.declared.row.Row.{Row}
 use Rattle.res_book.proofs.Growth.{declared-appends}

@@ -1,5 +1,5 @@
 -- The definitions at worked examples. Each line with `refl` holds by computing.
-use Rattle.std.proofs.Common.{◌≡◌, ℕ, Bool, true, false, List, [], ◌∷◌, ◌++◌, Option, None, Some, Ok, Err, refl}
+use Rattle.std.proofs.Common.{◌≡◌, ℕ, Bool, true, false, List, [], ◌∷◌, Option, None, Some, Ok, Err, refl}
 use Rattle.std.proofs.Common.{codes}
 use Rattle.std.specs.Fmt.{digits}
 use Rattle.std.specs.declared.alloc.Global.{Global}
@@ -25,7 +25,7 @@ use Rattle.res_book.specs.declared.row.Row.{Row}
 use Rattle.res_core.specs.AttributeChecks.{known_checked}
 use Rattle.res_core.specs.Criteria.{all, by_tag}
 use Rattle.res_core.specs.Metaparameters.{is_relation_name, is_metaparameter}
-use Rattle.res_core.specs.NativeTypes.{row, native_of, attributes_of, all_natives}
+use Rattle.res_core.specs.NativeTypes.{native_of, attributes_of}
 use Rattle.res_core.specs.TagNames.{segments, is_word_byte, is_tag_byte}
 use Rattle.res_core.specs.declared.action.Action.TheVariants as action
 use Rattle.res_core.specs.declared.form.Form.TheVariants as form
@@ -38,8 +38,7 @@ use Rattle.eval_resources.specs.Declaring.{set_from, given_tags, declare_rule, i
 use Rattle.eval_resources.specs.Resources.{title_rule, titles_rule, declare_bodies, resource_rule, act_rule}
 use Rattle.eval_resources.specs.Lines.{Line, Body}
 use Rattle.eval_resources.specs.Reading.{line, lines_from, attribute_rule, setting_rule, splat_rule, splatted}
-use Rattle.eval_resources.specs.declared.named.Named.{Named}
-use Rattle.eval_resources.proofs.Samples.{text, int, list, more, nested, told, word, undef, default, a_hash, a_list}
+use Rattle.eval_resources.proofs.Samples.{text, int, nested, told, word, undef, default, a_hash, a_list}
 use Rattle.eval_resources.proofs.Samples.{fails, sample}
 use Rattle.eval_resources.proofs.Samples.{sets, adds, titled_by, here, place, said, Tells, Refuses, Declares, Fails}
 use Rattle.eval_resources.proofs.Samples.{Registers, main, class_a, owner, overridden, book_by}

@@ -1,5 +1,5 @@
 -- The kinds of the native types are kinds.
-use Rattle.std.proofs.Common.{◌≡◌, true, IsTrue, refl, subst, sym}
+use Rattle.std.proofs.Common.{◌≡◌, IsTrue, refl, subst, sym}
 use Rattle.pp_values.specs.Kinds.{is_kind}
 use Rattle.res_core.specs.NativeRows.{row_seen}
 use Rattle.res_core.specs.NativeTypes.{row, Row}

@@ -1,8 +1,7 @@
 -- Small trees, what they mean one level further in, and a world, for the examples.
-use Rattle.std.proofs.Common.{◌≡◌, ℕ, Bool, true, false, List, [], ◌∷◌, ◌++◌, length, Option, None, Some, Result}
+use Rattle.std.proofs.Common.{◌≡◌, ℕ, false, List, [], ◌∷◌, None, Result}
 use Rattle.std.proofs.Common.{Ok, Err, map, codes}
-use Rattle.std.specs.Prelude.{pos, if◌then◌else◌}
-use Rattle.std.specs.Str.{bytes_eq}
+use Rattle.std.specs.Prelude.{pos}
 use Rattle.std.specs.declared.alloc.Global.{Global}
 use Rattle.pp_tree.specs.Building.{expr_at, form_of, line_of, setting, splat, body}
 use Rattle.pp_tree.specs.Layers.{FormLayer}
@@ -27,15 +26,14 @@ use Rattle.res_book.specs.declared.mode.Mode.TheVariants as mode
 use Rattle.res_book.specs.declared.row.Row.{Row}
 use Rattle.res_core.specs.declared.declared.Declared.{Declared}
 use Rattle.eval_world.specs.Inner.{Inner}
-use Rattle.eval_world.specs.Outcomes.{Outcome, Step, ◌>>=◌, ◌>>◌, pure}
+use Rattle.eval_world.specs.Outcomes.{Outcome, Step, ◌>>◌, pure}
 use Rattle.eval_world.specs.Worlds.{empty, fault, write_log}
 use Rattle.eval_world.specs.declared.here.Here.{Here}
 use Rattle.eval_world.specs.declared.manifests.Manifests.{Manifests}
 use Rattle.eval_world.specs.declared.owner.Owner.{Owner}
 use Rattle.eval_world.specs.declared.world.World.{World}
-use Rattle.override_rules.specs.Lines as overrides
 use Rattle.override_rules.specs.declared.override_line.Right.TheVariants as right
-use Rattle.eval_resources.specs.Lines.{Line, Body}
+use Rattle.eval_resources.specs.Lines.{Line}
 use Rattle.eval_resources.specs.Reading.{line}
 
 -- ---- values

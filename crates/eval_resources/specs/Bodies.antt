@@ -1,5 +1,5 @@
 -- The bodies of a resource expression: the `default` body first, and then each other one.
-use Rattle.std.specs.Prelude.{ℕ, Bool, true, false, not, if◌then◌else◌, List, [], ◌∷◌, ◌++◌, filter, map}
+use Rattle.std.specs.Prelude.{ℕ, Bool, true, false, not, List, [], ◌∷◌, ◌++◌, filter, map}
 use Rattle.pp_tree.specs.Building.{form_of}
 use Rattle.pp_tree.specs.Layers.{FormLayer}
 use Rattle.pp_tree.specs.declared.collector.Test.TheOpen.{Form-F}

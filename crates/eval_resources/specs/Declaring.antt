@@ -25,7 +25,6 @@ use Rattle.eval_world.specs.Outcomes.{Step}
 use Rattle.eval_world.specs.Owners.{owner_at}
 use Rattle.eval_world.specs.declared.here.Here.{Here}
 use Rattle.eval_world.specs.declared.owner.Owner.{Owner}
-use Rattle.eval_world.specs.declared.world.World.{World}
 use Rattle.eval_resources.specs.declared.named.Named.{Named}
 use Rattle.eval_resources.specs.Lines.{Line, Body}
 

@@ -1,5 +1,5 @@
 -- What a resource expression does once its values are there, and the whole of it.
-use Rattle.std.specs.Prelude.{ℕ, Bool, true, false, ◌&&◌, not, if◌then◌else◌, List, [], ◌∷◌, Option, None, Some}
+use Rattle.std.specs.Prelude.{ℕ, Bool, ◌&&◌, List, [], ◌∷◌, Option, None, Some}
 use Rattle.std.specs.Prelude.{Result, Ok, Err, find}
 use Rattle.pp_tree.specs.Names.{normal}
 use Rattle.pp_tree.specs.declared.expr.Expr.{Expr}

@@ -1,0 +1,397 @@
+-- The definitions at worked examples. Each line with `refl` holds by computing.
+use Rattle.std.proofs.Common.{◌≡◌, ℕ, Bool, true, false, List, [], ◌∷◌, Option, None, Some, Ok, Err, refl}
+use Rattle.std.proofs.Common.{codes}
+use Rattle.std.specs.Fmt.{digits}
+use Rattle.std.specs.declared.alloc.Global.{Global}
+use Rattle.override_rules.specs.Rights.{line_tests}
+use Rattle.pp_tree.specs.Building.{name_at, class_of, define_of, comparison, resource}
+use Rattle.pp_tree.specs.Names.{normal, without_front_colons}
+use Rattle.pp_tree.specs.Tables.{Entries}
+use Rattle.pp_tree.specs.declared.definition.Definition.TheVariants as definition
+use Rattle.pp_tree.specs.declared.expr.Expr.{Expr}
+use Rattle.pp_tree.specs.declared.expr.Form.{out-Form}
+use Rattle.pp_tree.specs.declared.resource.ResourceForm.TheVariants as mark
+use Rattle.pp_tree.specs.declared.table.DefinitionName.TheVariants.{Code}
+use Rattle.pp_values.specs.Datum as d
+use Rattle.pp_values.specs.Datum.{Datum}
+use Rattle.pp_values.specs.Faults.{fault}
+use Rattle.pp_values.specs.declared.fault.Subject.TheVariants as subject
+use Rattle.pp_values.specs.declared.fault.What.TheVariants as what
+use Rattle.pp_values.specs.declared.reference.Reference.{Reference}
+use Rattle.res_book.specs.Rows.{new_row}
+use Rattle.res_book.specs.declared.mode.Mode.{Mode}
+use Rattle.res_book.specs.declared.mode.Mode.TheVariants as mode
+use Rattle.res_book.specs.declared.row.Row.{Row}
+use Rattle.res_core.specs.AttributeChecks.{known_checked}
+use Rattle.res_core.specs.Criteria.{all, by_tag}
+use Rattle.res_core.specs.Metaparameters.{is_relation_name, is_metaparameter}
+use Rattle.res_core.specs.NativeTypes.{native_of, attributes_of}
+use Rattle.res_core.specs.TagNames.{segments, is_word_byte, is_tag_byte}
+use Rattle.res_core.specs.declared.action.Action.TheVariants as action
+use Rattle.res_core.specs.declared.form.Form.TheVariants as form
+use Rattle.res_core.specs.declared.native_type.NativeType.TheVariants as native
+use Rattle.eval_resources.specs.Bodies.{bodies_rule, bodies_from, body_rule, defaults_from, default_rule, filled}
+use Rattle.eval_resources.specs.Checks.{tested, native_checked, title_checked, names_known, names_apart}
+use Rattle.eval_resources.specs.Checks.{lines_checked}
+use Rattle.eval_resources.specs.Collectors.{tag_compared, native_by, register, tag_asked, collected_by}
+use Rattle.eval_resources.specs.Declaring.{set_from, given_tags, declare_rule, item_of, container_in}
+use Rattle.eval_resources.specs.Resources.{title_rule, titles_rule, declare_bodies, resource_rule, act_rule}
+use Rattle.eval_resources.specs.Lines.{Line, Body}
+use Rattle.eval_resources.specs.Reading.{line, lines_from, attribute_rule, setting_rule, splat_rule, splatted}
+use Rattle.eval_resources.proofs.Samples.{text, int, nested, told, word, undef, default, a_hash, a_list}
+use Rattle.eval_resources.proofs.Samples.{fails, sample}
+use Rattle.eval_resources.proofs.Samples.{sets, adds, titled_by, here, place, said, Tells, Refuses, Declares, Fails}
+use Rattle.eval_resources.proofs.Samples.{Registers, main, class_a, owner, overridden, book_by}
+use Rattle.eval_world.specs.Owners.{owner_at}
+use Rattle.eval_world.specs.declared.manifests.Manifests.{Manifests}
+use Rattle.eval_world.specs.Worlds.{write_log}
+
+abbrev a : List ℕ
+a = codes "a"
+
+abbrev b : List ℕ
+b = codes "b"
+
+abbrev c : List ℕ
+c = codes "c"
+
+-- ---- lines
+
+in_order : Tells (lines_from sample [] (sets a (told c) 3 ∷ sets b (told a) 4 ∷ []) here)
+    (said a c 3 ∷ said b a 4 ∷ []) (c ∷ a ∷ [])
+unfolding lines_from attribute_rule setting_rule write_log out-Form denote.Hole.Carrier.out owner_at
+in_order alloc manifests = refl
+
+-- the pairs of a splat stand in its place, at its line; 3 becomes a text
+splat_in_place : Tells (lines_from sample [] (sets a (word c) 3 ∷ adds a_hash 4 ∷ sets b (word c) 5 ∷ []) here)
+    (said a c 3 ∷ said (codes "owner") (codes "root") 4 ∷ said (codes "3") c 4 ∷ said b c 5 ∷ []) []
+unfolding lines_from attribute_rule setting_rule splat_rule splatted out-Form denote.Hole.Carrier.out owner_at digits
+splat_in_place alloc manifests = refl
+
+-- F11 where it is no hash, at the line of the attribute
+splat_of_list : Refuses (lines_from sample [] (sets a (word c) 3 ∷ adds a_list 4 ∷ sets b (fails 5) 5 ∷ []) here)
+    4 (what.BadOperand (codes "*"))
+unfolding lines_from attribute_rule setting_rule splat_rule out-Form denote.Hole.Carrier.out owner_at
+splat_of_list alloc manifests = refl
+
+first_fault : Refuses (lines_from sample [] (sets a (fails 3) 3 ∷ adds a_list 4 ∷ []) here)
+    3 (what.UnknownVariable (codes "x"))
+unfolding lines_from attribute_rule setting_rule splat_rule out-Form denote.Hole.Carrier.out owner_at
+first_fault alloc manifests = refl
+
+-- ---- bodies
+
+-- The default body is evaluated first, wherever it stands; then titles, then attributes. What a body writes is its own.
+default_body : Tells
+    (bodies_rule sample
+    (titled_by (told a) (sets a (told b) 2 ∷ []) 2
+    ∷ titled_by default (sets a (told c) 3 ∷ sets b (told c) 4 ∷ []) 3
+    ∷ []) here)
+    (record {
+      titles = text a ∷ [];
+      lines = said a b 2 ∷ said b c 4 ∷ [];
+      at = place 2;
+    } ∷ [])
+    (c ∷ c ∷ a ∷ b ∷ [])
+unfolding bodies_rule defaults_from default_rule bodies_from body_rule lines_from attribute_rule setting_rule write_log out-Form denote.Hole.Carrier.out owner_at
+default_body alloc manifests = refl
+
+-- an Undef that is written hides the default's value
+undef_is_written : filled (line a false d.undef (place 2) ∷ []) (said a c 3 ∷ said b c 3 ∷ [])
+    ≡ line a false d.undef (place 2) ∷ said b c 3 ∷ []
+undef_is_written = refl
+
+-- several default bodies are joined, so a name may stand twice; all bodies are filled in
+defaults_joined : Tells
+    (bodies_rule sample
+    (titled_by default (sets a (word b) 1 ∷ []) 1
+    ∷ titled_by (word a) [] 2
+    ∷ titled_by default (sets a (word c) 3 ∷ sets b (word c) 3 ∷ []) 3
+    ∷ titled_by (word b) (sets a (word a) 4 ∷ []) 4
+    ∷ []) here)
+    (record { titles = text a ∷ []; lines = said a b 1 ∷ said a c 3 ∷ said b c 3 ∷ []; at = place 2 }
+    ∷ record { titles = text b ∷ []; lines = said a a 4 ∷ said b c 3 ∷ []; at = place 4 } ∷ [])
+    []
+unfolding bodies_rule defaults_from default_rule bodies_from body_rule lines_from attribute_rule setting_rule out-Form denote.Hole.Carrier.out owner_at
+defaults_joined alloc manifests = refl
+
+-- lists of titles are flattened
+titles_flattened : Tells (body_rule sample [] (titled_by a_list [] 2) here)
+    (record { titles = text a ∷ text b ∷ int 4 ∷ []; lines = []; at = place 2 }) []
+unfolding body_rule lines_from out-Form denote.Hole.Carrier.out owner_at
+titles_flattened alloc manifests = refl
+
+-- ---- the tests of a title
+
+abbrev vhost : Entries
+vhost =
+    (Code (codes "web::vhost"), definition.Define (define_of (name_at (codes "web::vhost") 1) [] [] 1))
+    ∷ (Code (codes "web"), definition.Class (class_of (name_at (codes "web") 2) [] None [] 2))
+    ∷ []
+
+abbrev body_with : List Line → Body
+body_with ls = record { titles = []; lines = ls; at = place 7 }
+
+abbrev file_a : Reference
+file_a = record { kind = codes "file"; title = a }
+
+abbrev mode_line : ℕ → Line
+mode_line at = said (codes "mode") (codes "0644") at
+
+-- F10 at its line
+abbrev owners : Line
+owners = said (codes "owners") a 8
+
+passes : tested [] form.Exported (codes "file") (text a) (body_with (mode_line 8 ∷ said (codes "noop") a 9 ∷ []))
+    ≡ Ok (record { native = native.File; title = a })
+unfolding tested native_checked native_of title_checked lines_checked names_known names_apart attributes_of known_checked is_metaparameter
+passes = refl
+
+-- F5 at the body; before a title that is none, and before unknown attributes
+unknown_kind : tested vhost form.Plain (codes "web") (int 4) (body_with (owners ∷ []))
+    ≡ Err (fault (place 7) (what.UnknownType (codes "web")))
+unfolding tested native_checked native_of
+unknown_kind = refl
+
+-- an instance of a define is not built
+instance : tested vhost form.Plain (codes "web::vhost") (text a) (body_with []) ≡ Err (fault (place 7) what.NotBuilt)
+unfolding tested native_checked native_of
+instance = refl
+
+-- `class { 'a': }` is not built
+class : tested vhost form.Plain (codes "class") (text a) (body_with []) ≡ Err (fault (place 7) what.NotBuilt)
+unfolding tested native_checked native_of
+class = refl
+
+-- F26 names the class, and the kind alone where the title is no text
+virtual_class : tested [] form.Virtual (codes "class") (text (codes "::Web")) (body_with [])
+    ≡ Err (fault (place 7)
+    (what.ClassVirtual (subject.Reference (record { kind = codes "class"; title = codes "web" }))))
+unfolding tested native_checked native_of normal without_front_colons
+virtual_class = refl
+
+exported_class : tested [] form.Exported (codes "class") (int 4) (body_with [])
+    ≡ Err (fault (place 7) (what.ClassVirtual (subject.Kind (codes "class"))))
+unfolding tested native_checked native_of
+exported_class = refl
+
+-- F8 at the body, before unknown attributes
+no_text : tested [] form.Plain (codes "file") (int 4) (body_with (owners ∷ []))
+    ≡ Err (fault (place 7) (what.TypeMismatch (codes "title")))
+unfolding tested native_checked native_of title_checked
+no_text = refl
+
+empty_title : tested [] form.Plain (codes "file") (text []) (body_with [])
+    ≡ Err (fault (place 7) (what.TypeMismatch (codes "title")))
+unfolding tested native_checked native_of title_checked
+empty_title = refl
+
+-- F10 at the first line whose name is unknown, also behind a name that stands twice
+unknown_name : tested [] form.Plain (codes "file") (text a)
+    (body_with (mode_line 5 ∷ mode_line 6 ∷ owners ∷ said b a 9 ∷ []))
+    ≡ Err (fault (place 8) (what.UnknownParameter file_a (codes "owners")))
+unfolding tested native_checked native_of title_checked lines_checked names_known attributes_of known_checked is_metaparameter
+unknown_name = refl
+
+-- F15 at the later line
+twice : tested [] form.Plain (codes "file") (text a)
+    (body_with (mode_line 5 ∷ said (codes "tag") a 6 ∷ mode_line 8 ∷ []))
+    ≡ Err (fault (place 8) (what.AlreadySet (subject.Reference file_a) (codes "mode")))
+unfolding tested native_checked native_of title_checked lines_checked names_known names_apart attributes_of known_checked is_metaparameter
+twice = refl
+
+-- ---- attributes and tags
+
+-- by the order of their names; Undef sets none
+rising : set_from [] (said c a 1 ∷ line b false d.undef (place 2) ∷ said a b 3 ∷ []) ≡ (a, text b) ∷ (c, text a) ∷ []
+unfolding set_from
+rising = refl
+
+-- lists are flattened, and what is no text counts by its text
+tag_texts : given_tags ((a, text c) ∷ (codes "tag", nested) ∷ []) ≡ a ∷ b ∷ codes "4" ∷ []
+unfolding digits
+tag_texts = refl
+
+tag_of_one : given_tags ((codes "tag", d.flag true) ∷ []) ≡ codes "true" ∷ []
+tag_of_one = refl
+
+no_tag : given_tags ((a, text c) ∷ []) ≡ []
+no_tag = refl
+
+-- ---- what is declared
+
+abbrev titled : List Datum → List Line → ℕ → Body
+titled titles ls at = record { titles = titles; lines = ls; at = place at }
+
+-- an empty `notify` of this title, at a line
+abbrev notify : Mode → List ℕ → ℕ → Row
+notify m title at = new_row (record {
+  item = record {
+    kind = codes "notify";
+    title = title;
+    attributes = [];
+    tags = title ∷ codes "class" ∷ codes "main" ∷ codes "notify" ∷ [];
+  };
+  at = place at;
+  scope = 0;
+  container = Some 0;
+  class = codes "class main";
+  known = codes "name" ∷ codes "message" ∷ [];
+}) m
+
+-- what a step needs to be computed
+abbrev kind : List ℕ
+kind = codes "notify"
+
+-- body by body, title by title
+each_title : Declares
+    (declare_bodies form.Plain kind (titled (text a ∷ text b ∷ []) [] 2 ∷ titled (text c ∷ []) [] 3 ∷ []) here)
+    (notify mode.Plain a 2 ∷ notify mode.Plain b 2 ∷ notify mode.Plain (codes "c") 3 ∷ [])
+unfolding declare_bodies titles_rule title_rule declare_rule tested native_checked native_of title_checked lines_checked names_known names_apart attributes_of set_from segments is_word_byte is_tag_byte line_tests owner_at
+each_title alloc manifests = refl
+
+-- virtual and exported ones
+virtual : Declares (titles_rule form.Virtual kind (text a ∷ []) (body_with []) here) (notify mode.Virtual a 7 ∷ [])
+unfolding titles_rule title_rule declare_rule tested native_checked native_of title_checked lines_checked names_known names_apart attributes_of set_from segments is_word_byte is_tag_byte line_tests owner_at
+virtual alloc manifests = refl
+
+exported : Declares (titles_rule form.Exported kind (text a ∷ []) (body_with []) here) (notify mode.Exported a 7 ∷ [])
+unfolding titles_rule title_rule declare_rule tested native_checked native_of title_checked lines_checked names_known names_apart attributes_of set_from segments is_word_byte is_tag_byte line_tests owner_at
+exported alloc manifests = refl
+
+-- without a title nothing is tested
+no_titles : Declares (titles_rule form.Plain (codes "nothing") [] (body_with (owners ∷ [])) here) []
+unfolding titles_rule
+no_titles alloc manifests = refl
+
+-- F14 of the second title, with the place of the first
+duplicate : Fails (titles_rule form.Plain kind (text a ∷ text a ∷ []) (body_with []) here)
+    7 (what.Duplicate (record { kind = kind; title = a }) (place 7))
+unfolding titles_rule title_rule declare_rule tested native_checked native_of title_checked lines_checked names_known names_apart attributes_of set_from segments is_word_byte is_tag_byte line_tests
+duplicate alloc manifests = refl
+
+-- the first title's faults come before the second one's, and a body's before the next one's
+first_body : Fails
+    (declare_bodies form.Plain kind
+    (titled (text a ∷ int 4 ∷ []) (said (codes "mesage") a 3 ∷ []) 2 ∷ titled (int 4 ∷ []) [] 5 ∷ []) here)
+    3 (what.UnknownParameter (record { kind = kind; title = a }) (codes "mesage"))
+unfolding declare_bodies titles_rule title_rule declare_rule tested native_checked native_of title_checked lines_checked names_known names_apart attributes_of known_checked is_metaparameter
+first_body alloc manifests = refl
+
+-- a relation is not built: F31 at its line, after all other tests of the title; one that is Undef is none
+abbrev before : Datum → Line
+before value = line (codes "before") false value (place 8)
+
+relation : Fails (titles_rule form.Plain kind (text a ∷ []) (body_with (before (text c) ∷ [])) here) 8 what.NotBuilt
+unfolding titles_rule title_rule declare_rule tested native_checked native_of title_checked lines_checked names_known names_apart attributes_of set_from segments is_word_byte is_tag_byte is_relation_name is_metaparameter known_checked line_tests
+relation alloc manifests = refl
+
+relation_of_second : Fails (titles_rule form.Plain kind (text a ∷ text a ∷ []) (body_with (before d.undef ∷ [])) here)
+    7 (what.Duplicate (record { kind = kind; title = a }) (place 7))
+unfolding titles_rule title_rule declare_rule tested native_checked native_of title_checked lines_checked names_known names_apart attributes_of set_from segments is_word_byte is_tag_byte is_relation_name is_metaparameter known_checked line_tests
+relation_of_second alloc manifests = refl
+
+-- an override line that came before it is tested then, and before relations: F10 at the line
+overridden_before : (alloc : Global) (manifests : Manifests)
+    → book_by
+    (titles_rule form.Plain kind (text a ∷ []) (body_with (before (text c) ∷ [])) here (overridden alloc manifests))
+    ≡ Err (fault (place 9) (what.UnknownParameter (record { kind = kind; title = a }) (codes "mesage")))
+unfolding titles_rule title_rule declare_rule tested native_checked native_of title_checked lines_checked names_known names_apart attributes_of set_from segments is_word_byte is_tag_byte known_checked line_tests is_metaparameter
+overridden_before alloc manifests = refl
+
+-- in a class: its resource contains what it declares, whose tags go on; scope and source are those of the class
+in_class : item_of owner (new_row main mode.Plain ∷ class_a mode.Plain ∷ [])
+    (record { native = native.Notify; title = b }) (body_with (said (codes "tag") (codes "Mine") 8 ∷ []))
+    ≡ record {
+      item = record {
+        kind = kind;
+        title = b;
+        attributes = (codes "tag", text (codes "Mine")) ∷ [];
+        tags = a ∷ b ∷ codes "class" ∷ codes "mine" ∷ codes "notify" ∷ codes "own" ∷ [];
+      };
+      at = place 7;
+      scope = 3;
+      container = Some 1;
+      class = codes "class a";
+      known = codes "name" ∷ codes "message" ∷ [];
+    }
+unfolding set_from segments is_word_byte is_tag_byte attributes_of
+in_class = refl
+
+-- what is not live contains nothing, nor does what is not there
+virtual_container : container_in (new_row main mode.Plain ∷ class_a mode.Virtual ∷ []) 1 ≡ None
+virtual_container = refl
+
+no_container : container_in (new_row main mode.Plain ∷ []) 1 ≡ None
+no_container = refl
+
+-- ---- the whole expression
+
+-- `@@::Notify { 'a': }` by an action, and the kind is told by its normal name
+whole : Declares (resource_rule sample
+    (resource mark.Exported (codes "::nOtify") (titled_by (word a) [] 7 ∷ []) 6) here)
+    (notify mode.Exported a 7 ∷ [])
+unfolding resource_rule bodies_rule defaults_from bodies_from body_rule lines_from declare_bodies titles_rule title_rule declare_rule tested native_checked native_of title_checked lines_checked names_known names_apart attributes_of set_from segments is_word_byte is_tag_byte line_tests owner_at out-Form denote.Hole.Carrier.out normal without_front_colons
+whole alloc manifests = refl
+
+-- all bodies are evaluated before any test: the second one's F2 comes before the first one's F8, and before F5
+evaluated_first : Fails (resource_rule sample
+    (resource mark.Plain (codes "nothing") (titled_by undef [] 2 ∷ titled_by (fails 3) [] 3 ∷ []) 1) here)
+    3 (what.UnknownVariable (codes "x"))
+unfolding resource_rule bodies_rule defaults_from bodies_from body_rule lines_from owner_at out-Form denote.Hole.Carrier.out
+evaluated_first alloc manifests = refl
+
+-- of all other actions nothing is built
+defaults_action : Fails (act_rule (action.Defaults (codes "file") []) 5 here) 5 what.NotBuilt
+unfolding act_rule owner_at
+defaults_action alloc manifests = refl
+
+-- ---- collectors
+
+abbrev tag_test : List ℕ → Bool → Option Expr
+tag_test w equal = tag_compared (comparison w equal (told a) 4)
+
+tag_is_built : tag_test (codes "tag") true ≡ Some (told a)
+tag_is_built = refl
+
+unlike_is_not : tag_test (codes "tag") false ≡ None
+unlike_is_not = refl
+
+title_is_not : tag_test (codes "title") true ≡ None
+title_is_not = refl
+
+exported_ones : native_by (codes "::Notify") true [] ≡ Some native.Notify
+unfolding native_of normal without_front_colons
+exported_ones = refl
+
+without_block : native_by (codes "Notify") true (sets a (word a) 1 ∷ []) ≡ None
+without_block = refl
+
+local_ones : native_by (codes "Notify") false [] ≡ None
+local_ones = refl
+
+classes : native_by (codes "Class") true [] ≡ None
+unfolding native_of normal without_front_colons
+classes = refl
+
+-- the value is evaluated, and then the collector is registered
+registered : Registers (collected_by sample (Some native.Notify) None 3 here)
+    (record { kind = kind; query = all; at = place 3; exported = true; realized = None })
+unfolding register owner_at
+registered alloc manifests = refl
+
+tagged : Tells (tag_asked sample (Some (told a)) 3 here) (by_tag (text a)) (a ∷ [])
+unfolding write_log out-Form denote.Hole.Carrier.out
+tagged alloc manifests = refl
+
+no_tag_value : Refuses (tag_asked sample (Some (fails 3)) 3 here) 3 (what.UnknownVariable (codes "x"))
+unfolding out-Form denote.Hole.Carrier.out owner_at
+no_tag_value alloc manifests = refl
+
+other_query : Refuses (tag_asked sample None 3 here) 3 what.NotBuilt
+unfolding owner_at
+other_query alloc manifests = refl
+
+other_collector : Refuses (collected_by sample None None 3 here) 3 what.NotBuilt
+unfolding owner_at
+other_collector alloc manifests = refl

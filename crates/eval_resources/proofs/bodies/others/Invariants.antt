@@ -1,0 +1,13 @@
+-- What is left decides.
+use Rattle.std.proofs.Common.{◌≡◌, [], length}
+use Rattle.eval_resources.specs.Bodies.{bodies_from}
+use Rattle.eval_resources.specs.Lines.{lines_of, bodies_of}
+use Rattle.eval_resources.proofs.bodies.others.Given as goal
+
+abbrev pub invariant-loop-body : goal.invariant-loop-body
+invariant-loop-body g l =
+    bodies_from (g.M.Meaning.within l.forms.left) (lines_of l.defaults) [] l.written l.here l.fn.world
+    ≡ bodies_from (g.M.Meaning.within l.forms.left) (lines_of l.defaults) (bodies_of l.done) l.rest l.here l.world
+
+abbrev pub decreases-loop-body : goal.decreases-loop-body
+decreases-loop-body g l = length l.rest

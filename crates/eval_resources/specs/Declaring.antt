@@ -1,0 +1,108 @@
+-- What a title of a body declares.
+use Rattle.std.specs.Prelude.{ℕ, Bool, true, false, if◌then◌else◌, List, [], ◌∷◌, map, Option, None, Some, Result}
+use Rattle.std.specs.Prelude.{Ok, Err, slice_get, codes}
+use Rattle.std.specs.BTreeMap.{insert_entry}
+use Rattle.pp_funcs.specs.Lists.{flat}
+use Rattle.pp_values.specs.Datum as d
+use Rattle.pp_values.specs.Datum.{Datum}
+use Rattle.pp_values.specs.Rising.{text_cmp}
+use Rattle.pp_values.specs.Settings.{Setting}
+use Rattle.pp_values.specs.TextOf.{text_of}
+use Rattle.pp_values.specs.declared.fault.Fault.{Fault}
+use Rattle.res_book.specs.Rows as rows
+use Rattle.res_book.specs.Rows.{is_live_at}
+use Rattle.res_book.specs.declared.mode.Mode.{Mode}
+use Rattle.res_book.specs.declared.mode.Mode.TheVariants as mode
+use Rattle.res_book.specs.declared.row.Row.{Row}
+use Rattle.res_core.specs.AttributeViews.{set_in}
+use Rattle.res_core.specs.NativeTypes.{row, attributes_of}
+use Rattle.res_core.specs.TagNames.{tags}
+use Rattle.res_core.specs.declared.declared.Declared.{Declared}
+use Rattle.res_core.specs.declared.resource.Resource.{Resource}
+use Rattle.res_core.specs.declared.form.Form.{Form}
+use Rattle.res_core.specs.declared.form.Form.TheVariants as form
+use Rattle.eval_world.specs.Outcomes.{Step}
+use Rattle.eval_world.specs.Owners.{owner_at}
+use Rattle.eval_world.specs.declared.here.Here.{Here}
+use Rattle.eval_world.specs.declared.owner.Owner.{Owner}
+use Rattle.eval_resources.specs.declared.named.Named.{Named}
+use Rattle.eval_resources.specs.Lines.{Line, Body}
+
+-- ---- attributes
+
+abbrev pub is_value : Datum → Bool
+is_value d.undef = false
+is_value _ = true
+
+-- an attribute whose value is Undef is not set
+abbrev pub with_line : List Setting → Line → List Setting
+with_line done l = if is_value l.value then insert_entry text_cmp done l.name l.value else done
+
+-- the attributes that lines set, with those that are there, by the order of their names
+unfoldable pub set_from : List Setting → List Line → List Setting
+set_from done [] = done
+set_from done (l ∷ ls) = set_from (with_line done l) ls
+
+-- ---- tags
+
+-- the texts in a value: lists are flattened, and what is no text counts by its text
+abbrev pub texts_in : Datum → List (List ℕ)
+texts_in value = map text_of (flat value)
+
+abbrev pub texts_where : Option Datum → List (List ℕ)
+texts_where None = []
+texts_where (Some value) = texts_in value
+
+-- those of the attribute `tag`
+abbrev pub given_tags : List Setting → List (List ℕ)
+given_tags ss = texts_where (set_in ss (codes "tag"))
+
+abbrev pub row_tags : Option Row → List (List ℕ)
+row_tags None = []
+row_tags (Some r) = r.item.item.tags
+
+abbrev pub tags_in : Option ℕ → List Row → List (List ℕ)
+tags_in None book = []
+tags_in (Some n) book = row_tags (slice_get book n)
+
+-- ---- the declaration
+
+-- the resource of the owner contains it, as far as that is a live declaration
+abbrev pub container_in : List Row → ℕ → Option ℕ
+container_in book resource = if is_live_at book resource then Some resource else None
+
+-- with these attributes, it has its own tags and those of what contains it
+abbrev pub resource_by : List Row → Option ℕ → Named → List Setting → Resource
+resource_by book container named set = record {
+  kind = (row named.native).kind;
+  title = named.title;
+  attributes = set;
+  tags = tags (row named.native).kind named.title (given_tags set) (tags_in container book);
+}
+
+abbrev pub item_by : Owner → List Row → Option ℕ → Named → Body → Declared
+item_by owner book container named b = record {
+  item = resource_by book container named (set_from [] b.lines);
+  at = b.at;
+  scope = owner.scope;
+  container = container;
+  class = owner.source;
+  known = attributes_of named.native;
+}
+
+abbrev pub item_of : Owner → List Row → Named → Body → Declared
+item_of owner book named b = item_by owner book (container_in book owner.resource) named b
+
+abbrev pub mode_of : Form → Mode
+mode_of form.Plain = mode.Plain
+mode_of form.Virtual = mode.Virtual
+mode_of form.Exported = mode.Exported
+
+abbrev pub with_book : Result (ℕ × List Row) Fault → Step ℕ
+with_book (Ok p) = λ w. Ok (p.0, record w { book = p.1 })
+with_book (Err f) = λ w. Err f
+
+-- it is put into the book: F14, F28; its number
+unfoldable pub declare_rule : Form → Named → Body → Here → Step ℕ
+declare_rule written named b here = λ w.
+    with_book (rows.declared (item_of (owner_at here.owner w.owners) w.book named b) (mode_of written) w.book) w

@@ -1,0 +1,7 @@
+pub mod Lines
+pub mod Reading
+pub mod Bodies
+pub mod Checks
+pub mod Declaring
+pub mod Resources
+pub mod Collectors

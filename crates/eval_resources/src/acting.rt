@@ -1,0 +1,149 @@
+//! What statements ask for, with their values there.
+ghost use Rattle.std.specs.Prelude.{◌≡◌, option_map, find};
+ghost use Rattle.eval_resources.specs.Lines.{bodies_of, body_of, line_of, lines_of};
+ghost use Rattle.eval_resources.specs.Resources as spec;
+ghost use Rattle.eval_world.specs.Outcomes.{Gives, nothing};
+ghost use Rattle.pp_values.specs.Answers.{Answers};
+ghost use Rattle.pp_values.specs.Views.{view, views};
+
+use crate::attributes::is_value;
+use crate::checks::tested;
+use crate::declaring::declare;
+use eval_world::{Here, World};
+use pp_values::{Fault, Stop, Text, Value, What};
+use res_core::{Action, Body, Form, Line, is_relation_name};
+use std::alloc::Global;
+
+/// Does what a statement that begins at this line asks for. Of a resource each title of each body is declared, in
+/// order.
+#[tactic(auto, unfolding(crate::specs::Resources::act_rule))]
+pub fn act(world: &mut World<'_>, action: &Action, line: u32, here: Here) -> Result<(), Stop>
+    ensures { Gives nothing (spec.act_rule action.now line here world.old) result world.new }
+{
+    match action {
+        Action::Resource { form, kind, bodies } => declare_bodies(
+            world,
+            *form,
+            kind,
+            bodies.as_slice(),
+            here,
+        ),
+        Action::Override {
+            target: _,
+            lines: _,
+        } => Err(Stop::Fault(world.fault(here, line, What::NotBuilt)?)),
+        Action::Defaults { kind: _, lines: _ } => Err(Stop::Fault(world.fault(
+            here,
+            line,
+            What::NotBuilt,
+        )?)),
+        Action::Collect {
+            exported: _,
+            kind: _,
+            query: _,
+            lines: _,
+        } => Err(Stop::Fault(world.fault(here, line, What::NotBuilt)?)),
+        Action::Relate {
+            left: _,
+            right: _,
+            signal: _,
+        } => Err(Stop::Fault(world.fault(here, line, What::NotBuilt)?)),
+    }
+}
+
+#[tactic(auto, unfolding(crate::specs::Resources::declare_bodies))]
+fn declare_bodies(
+    world: &mut World<'_>,
+    form: Form,
+    kind: &Text,
+    bodies: &[Body],
+    here: Here,
+) -> Result<(), Stop>
+    ensures { Gives nothing
+        (spec.declare_bodies form kind.now (bodies_of bodies.now) here world.old) result world.new }
+{
+    let mut rest = bodies;
+    while let Some((body, more)) = rest.split_first() {
+        declare_titles(world, form, kind, body.titles.as_slice(), body, here)?;
+        rest = more;
+    }
+    Ok(())
+}
+
+#[tactic(auto, unfolding(crate::specs::Resources::titles_rule))]
+fn declare_titles(
+    world: &mut World<'_>,
+    form: Form,
+    kind: &Text,
+    titles: &[Value],
+    body: &Body,
+    here: Here,
+) -> Result<(), Stop>
+    ensures { Gives nothing
+        (spec.titles_rule form kind.now (views titles.now) (body_of body.now) here world.old) result world.new }
+{
+    let mut rest = titles;
+    while let Some((title, more)) = rest.split_first() {
+        declare_title(world, form, kind, title, body, here)?;
+        rest = more;
+    }
+    Ok(())
+}
+
+/// The tests of one title, its declaration, the override lines that came before it, its relations.
+#[tactic(auto, unfolding(crate::specs::Resources::title_rule))]
+fn declare_title(
+    world: &mut World<'_>,
+    form: Form,
+    kind: &Text,
+    title: &Value,
+    body: &Body,
+    here: Here,
+) -> Result<(), Stop>
+    ensures { Gives nothing
+        (spec.title_rule form kind.now (view title.now) (body_of body.now) here world.old) result world.new }
+{
+    let named = tested(
+        world.alloc,
+        &world.manifests.main.definitions,
+        form,
+        kind,
+        title,
+        body,
+    )?;
+    let number = declare(world, form, named, body, here)?;
+    world.overrides.stand(world.alloc, &world.book, number)?;
+    check_relations(world.alloc, body.lines.as_slice())
+}
+
+/// Relations by attributes are not built.
+fn check_relations(alloc: Global, lines: &[Line]) -> Result<(), Stop>
+    ensures { Answers result (spec.relations_checked (lines_of lines.now)) }
+{
+    match first_relation(lines) {
+        None => Ok(()),
+        Some(line) => {
+            let at = line.at.copy(alloc)?;
+            Err(Stop::Fault(Fault::new(alloc, at, What::NotBuilt)?))
+        }
+    }
+}
+
+fn first_relation(lines: &[Line]) -> Option<&Line>
+    ensures { option_map (λ l. line_of l.now) result ≡ find spec.relates (lines_of lines.now) }
+{
+    let mut rest = lines;
+    while let Some((line, more)) = rest.split_first() {
+        if relates(line) {
+            return Some(line);
+        }
+        rest = more;
+    }
+    None
+}
+
+fn relates(line: &Line) -> bool
+    ensures { result ≡ spec.relates (line_of line.now) }
+{
+    is_relation_name(&line.name) && is_value(&line.value)
+}

@@ -1,0 +1,78 @@
+//! The attributes that lines set.
+ghost use Rattle.std.specs.Prelude.{◌≡◌, [], IfOk, OnOk, IsTrue};
+ghost use Rattle.eval_resources.specs.Declaring as spec;
+ghost use Rattle.eval_resources.specs.Lines.{line_of, lines_of};
+ghost use Rattle.pp_values.specs.Rising.{is_rising};
+ghost use Rattle.pp_values.specs.Settings.{setting_names};
+ghost use Rattle.pp_values.specs.Views.{view};
+ghost use Rattle.res_core.specs.AttributeViews.{setting};
+
+use eval_world::Evaluated;
+use pp_values::{Memory, Text, Value};
+use res_core::{Attribute, Attributes, Line};
+use std::alloc::Global;
+use std::collections::BTreeMap;
+
+/// The attributes that these lines set, by the order of their names. A value that is Undef sets none.
+#[tactic(auto, using(crate::proofs::Rising::rising_set))]
+pub fn attributes(alloc: Global, lines: &[Line]) -> Result<Attributes, Memory>
+    ensures { IfOk result (λ a. a ≡ spec.set_from [] (lines_of lines.now)) }
+{
+    let set = gathered(alloc, lines)?;
+    from_map(alloc, set)
+}
+
+#[tactic(auto, unfolding(crate::specs::Declaring::set_from))]
+fn gathered(alloc: Global, lines: &[Line]) -> Result<BTreeMap<Text, Evaluated>, Memory>
+    ensures { IfOk result (λ m. m.entries ≡ spec.set_from [] (lines_of lines.now)) }
+{
+    let mut set = BTreeMap::new(alloc);
+    let mut rest = lines;
+    while let Some((line, more)) = rest.split_first() {
+        put(alloc, &mut set, line)?;
+        rest = more;
+    }
+    Ok(set)
+}
+
+fn put(alloc: Global, set: &mut BTreeMap<Text, Evaluated>, line: &Line) -> Result<(), Memory>
+    ensures { OnOk result (set.new.entries ≡ spec.with_line set.old.entries (line_of line.now)) }
+{
+    if is_value(&line.value) {
+        let name = line.name.copy(alloc)?;
+        let value = Evaluated::copy_of(alloc, &line.value)?;
+        set.insert(name, value)?;
+    }
+    Ok(())
+}
+
+/// Whether a value is not Undef.
+pub fn is_value(value: &Value) -> bool
+    ensures { result ≡ spec.is_value (view value.now) }
+{
+    match value {
+        Value::Undef => false,
+        _ => true,
+    }
+}
+
+fn from_map(alloc: Global, set: BTreeMap<Text, Evaluated>) -> Result<Attributes, Memory>
+    requires { IsTrue (is_rising (setting_names set.entries)) }
+    ensures { IfOk result (λ a. a ≡ set.entries) }
+{
+    let mut items = Vec::new(alloc);
+    for entry in set {
+        items.push(attribute_of(entry))?;
+    }
+    Ok(Attributes::from_vec(items))
+}
+
+fn attribute_of(entry: (Text, Evaluated)) -> Attribute
+    ensures { setting result ≡ entry }
+{
+    let (name, value) = entry;
+    Attribute {
+        name,
+        value: value.into_value(),
+    }
+}

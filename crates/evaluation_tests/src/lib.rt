@@ -2,4 +2,8 @@
 #![tactic(auto)]
 
 #[cfg(test)]
+mod manifests;
+#[cfg(test)]
+mod scopes;
+#[cfg(test)]
 mod steps;

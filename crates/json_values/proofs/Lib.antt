@@ -1,4 +1,7 @@
 pub mod SettingMembers
 pub mod FormLemmas
 pub mod Floats
+pub mod Items
+mod RisingKeys
+mod DataSteps
 mod Examples

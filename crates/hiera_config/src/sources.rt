@@ -37,6 +37,7 @@ impl Drop for Source {
 }
 
 /// What is looked for: a key, in the files of a configuration's folder.
+#[derive(Clone, Copy)]
 struct Search<'a> {
     data: &'a SiteData,
     folder: &'a str,
@@ -44,6 +45,7 @@ struct Search<'a> {
 }
 
 /// A path for each value that a name stands for.
+#[derive(Clone, Copy)]
 struct MappedPath<'a> {
     level: &'a Level,
     name: &'a str,

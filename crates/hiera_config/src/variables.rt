@@ -16,6 +16,7 @@ pub struct Hidden<'a> {
 }
 
 /// Where the variables of data and of paths are read.
+#[derive(Clone, Copy)]
 pub struct Variables<'a> {
     scopes: &'a Scopes,
     scope: ScopeId,

@@ -1,0 +1,4 @@
+pub mod Meets
+mod CutLemmas
+mod BlankLemmas
+mod PieceLemmas

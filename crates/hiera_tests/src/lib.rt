@@ -7,3 +7,5 @@ mod configurations;
 mod data;
 #[cfg(test)]
 mod forms;
+#[cfg(test)]
+mod sources;

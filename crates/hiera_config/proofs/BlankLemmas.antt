@@ -11,12 +11,12 @@ first_blank : List ℕ → Option (List ℕ)
 first_blank [] = None
 first_blank (b ∷ bs) = if is_blank b then Some bs else None
 
+and_true : (t : Bool) (bs : List ℕ) → (if (t && true) then Some bs else None) ≡ (if t then Some bs else None)
+and_true true bs = refl
+and_true false bs = refl
+
 one_off : (b x : ℕ) (bs : List ℕ) → after_prefix (x ∷ []) (b ∷ bs) ≡ (if b == x then Some bs else None)
-one_off b x bs =
-    elim (nat_eq b x) as (λ t. (if (t && true) then Some bs else None) ≡ (if t then Some bs else None)) [
-      | true ↦ refl
-      | false ↦ refl
-    ]
+one_off b x bs = and_true (nat_eq b x) bs
 
 joined_tests : (p q r s : Bool) (bs : List ℕ) → or_text (if p then Some bs else None) (or_text (if q then Some bs else None) (or_text (if r then Some bs else None) (if s then Some bs else None)))
     ≡ (if (p || (q || (r || s))) then Some bs else None)

@@ -82,6 +82,24 @@ module _ {A T X : Type 0} (step : A → T → Meant A) (of : X → T) where
   turn_made a b xs i x h at made =
       sym (turn_at a xs i x h at ∙ ap (λ o. go_on o (λ c. in_turn step c (map of (drop (i + 1) xs)))) made)
 
+-- the same, of the items themselves
+module _ {A T : Type 0} (step : A → T → Meant A) where
+  pub step_at : (a : A) (xs : List T) (i : ℕ) (x : T) → i < length xs → x ≡ get_or xs i x
+      → in_turn step a (drop i xs) ≡ go_on (step a x) (λ b. in_turn step b (drop (i + 1) xs))
+  unfolding in_turn
+  step_at a [] i x h at = absurd (omega arith)
+  step_at a (y ∷ xs) zero x h at = rw at refl
+  step_at a (y ∷ xs) (suc i) x h at =
+      let h' : i < length xs = omega arith in
+      let e : suc i + 1 ≡ suc (i + 1) = omega arith in
+      rw e (step_at a xs i x h' at)
+
+  pub step_made : (a b : A) (xs : List T) (i : ℕ) (x : T) → i < length xs → x ≡ get_or xs i x → step a x ≡ Ok b
+      → in_turn step b (drop (i + 1) xs) ≡ in_turn step a (drop i xs)
+  unfolding go_on
+  step_made a b xs i x h at made =
+      sym (step_at a xs i x h at ∙ ap (λ o. go_on o (λ c. in_turn step c (drop (i + 1) xs))) made)
+
 pub turns_end : {A T : Type 0} (step : A → T → Meant A) (a : A) (left : List T) → left ≡ [] → in_turn step a left ≡ Ok a
 unfolding in_turn
 turns_end step a left is = rw is refl

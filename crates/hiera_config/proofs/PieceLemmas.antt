@@ -1,8 +1,8 @@
 -- The pieces of a text, one after another.
 use Rattle.std.proofs.Common.{◌≡◌, ℕ, zero, suc, ◌+◌, ◌<◌, Bool, true, false, if◌then◌else◌, nat_eq, List, [], ◌∷◌, ◌++◌, length, drop, Option, Some, None, option_map, refl, ap, sym, ◌∙◌, arith, codes, length-drop}
 use Rattle.std.specs.List.{starts_with}
-use Rattle.hiera_config.specs.declared.pieces.Piece.{Piece}
-use Rattle.hiera_config.specs.declared.pieces.Piece.TheVariants as piece
+use Rattle.hiera_config.specs.declared.interpolation.Piece.{Piece}
+use Rattle.hiera_config.specs.declared.interpolation.Piece.TheVariants as piece
 use Rattle.hiera_config.specs.Cuts.{Cut, longer, cut_at, trimmed}
 use Rattle.hiera_config.specs.Pieces.{Form, variable, looked_up, said, alias, unlawful, broken_from, form_pieces, closed_pieces, opened_pieces, pieces_from, pieces_by}
 use Rattle.hiera_config.specs.Written.{piece_in, goes_on}
@@ -101,3 +101,13 @@ module _ (form : List ℕ → Form) where
   pub pieces_last : (t : List ℕ) (c d : Cut) (f : Form) → Some c ≡ cut_at (codes "%{") t → Some d ≡ cut_at (codes "}") c.1 → f ≡ form (trimmed d.0) → goes_on f ≡ false
       → pieces_by form t ≡ piece.Letters c.0 ∷ piece_in c.1 f ∷ []
   pieces_last t c d f e g is off = pieces_closed t c d f e g is ∙ ap (λ ps. piece.Letters c.0 ∷ ps) (form_last c.1 d.1 f off)
+
+-- ---- two pieces more
+
+pub two_more : (ps : List Piece) (a b : Piece) (rest : List Piece) → ((ps ++ a ∷ []) ++ b ∷ []) ++ rest ≡ ps ++ (a ∷ b ∷ rest)
+two_more [] a b rest = refl
+two_more (p ∷ ps) a b rest = ap (λ (l : List Piece). p ∷ l) (two_more ps a b rest)
+
+pub two_last : (ps : List Piece) (a b : Piece) → (ps ++ a ∷ []) ++ b ∷ [] ≡ ps ++ (a ∷ b ∷ [])
+two_last [] a b = refl
+two_last (p ∷ ps) a b = ap (λ (l : List Piece). p ∷ l) (two_last ps a b)

@@ -1,5 +1,5 @@
 -- What a configuration says. None where it is not lawful.
-use Rattle.std.specs.Prelude.{ℕ, Bool, true, false, ◌&&◌, ◌==◌, if◌then◌else◌, List, [], ◌∷◌, Option, None, Some, option_map, option_and_then, Result, codes}
+use Rattle.std.specs.Prelude.{◌≡◌, ⊤, ℕ, Bool, true, false, ◌&&◌, ◌==◌, if◌then◌else◌, List, [], ◌∷◌, Option, None, Some, option_map, option_and_then, Result, codes}
 use Rattle.std.specs.List.{list_any}
 use Rattle.std.specs.Option.{ok_or}
 use Rattle.std.specs.Str.{bytes_eq}
@@ -9,6 +9,8 @@ use Rattle.serde_json.specs.Read.{read}
 use Rattle.pp_values.specs.Faults.{fault}
 use Rattle.pp_values.specs.declared.fault.Fault.{Fault}
 use Rattle.pp_values.specs.declared.fault.What.TheVariants as what
+use Rattle.pp_values.specs.declared.fault.Stop.{Stop}
+use Rattle.pp_values.specs.declared.fault.Stop.TheVariants as stop
 use Rattle.pp_values.specs.declared.place.Place.{Place}
 use Rattle.json_values.specs.FromData.{both}
 use Rattle.json_values.specs.Forms.{guard}
@@ -160,3 +162,8 @@ is_module (layer.Module name) = true
 -- a text that is none is the fault of its path
 abbrev pub config_or_fault : List ℕ → List ℕ → Layer → Place → Result Config Fault
 config_or_fault path text layer at = ok_or (config_read (is_module layer) text) (fault at (what.BadData path))
+
+-- the stop tells that the file at a path is faulty, unless memory ran out
+abbrev pub IsBadData : Stop → List ℕ → Place → Type 0
+IsBadData (stop.Fault f) path at = f ≡ fault at (what.BadData path)
+IsBadData stop.Memory path at = ⊤

@@ -1,5 +1,6 @@
 -- The files of a site's data, and the documents that they are.
-use Rattle.std.specs.Prelude.{ℕ, Bool, List, [], ◌∷◌, Option, is_some}
+use Rattle.std.specs.Prelude.{ℕ, Bool, nat_eq, List, [], ◌∷◌, Option, is_some, codes}
+use Rattle.std.specs.List.{starts_with}
 use Rattle.std.specs.FinMap.{find, put}
 use Rattle.serde_json.specs.Data.{Data}
 use Rattle.serde_json.specs.Find.{as_object}
@@ -20,6 +21,10 @@ text_at path files = find text_cmp path files
 unfoldable pub put_in : List File → List File → List File
 put_in files [] = files
 put_in files (p ∷ ps) = put text_cmp p.0 p.1 (put_in files ps)
+
+-- whether a configuration that stands there is a module's
+abbrev pub is_of_module : List ℕ → Bool
+is_of_module path = starts_with nat_eq path (codes "modules/")
 
 -- whether JSON is a document of data: an object
 abbrev pub is_document : Data → Bool

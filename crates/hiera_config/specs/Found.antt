@@ -4,9 +4,9 @@ use denote.Ref.{Bor}
 use Rattle.pp_values.specs.Datum.{Datum}
 use Rattle.pp_values.specs.Views.{view}
 use Rattle.hiera_config.specs.declared.config.Config.{Config}
-use Rattle.hiera_config.specs.declared.sources.Source as declared
-use Rattle.hiera_config.specs.declared.sources.Search.{Search}
-use Rattle.hiera_config.specs.declared.sources.MappedPath.{MappedPath}
+use Rattle.hiera_config.specs.declared.searching.Source as declared
+use Rattle.hiera_config.specs.declared.searching.Search.{Search}
+use Rattle.hiera_config.specs.declared.searching.MappedPath.{MappedPath}
 use Rattle.hiera_config.specs.Meant.{Meant, in_turn}
 use Rattle.hiera_config.specs.Sources.{Source, no_levels, in_mapped}
 use Rattle.hiera_config.specs.Variables.{Variables}

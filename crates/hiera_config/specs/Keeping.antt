@@ -1,20 +1,16 @@
 -- How the files of data are kept.
-use Rattle.std.specs.Prelude.{◌≡◌, ℕ, Bool, nat_eq, List, map, Option, option_map, codes}
-use Rattle.std.specs.List.{All, starts_with}
+use Rattle.std.specs.Prelude.{◌≡◌, ℕ, List, map, Option, option_map}
+use Rattle.std.specs.List.{All}
 use Rattle.serde_json.specs.Read.{read}
 use Rattle.serde_json.specs.View.{view as json_view}
 use Rattle.hiera_config.specs.declared.config.Config.{Config}
 use Rattle.hiera_config.specs.declared.site_data.DataFile.{DataFile}
 use Rattle.hiera_config.specs.Config.{config_read}
-use Rattle.hiera_config.specs.Documents.{File}
+use Rattle.hiera_config.specs.Documents.{File, is_of_module}
 
 -- paths and texts
 abbrev pub filed : List (List ℕ × DataFile) → List File
 filed = map (λ e. (e.0, e.1.text))
-
--- whether a configuration that stands there is a module's
-abbrev pub is_of_module : List ℕ → Bool
-is_of_module path = starts_with nat_eq path (codes "modules/")
 
 -- what is kept of the file at a path is what its text means
 pub record IsKept (path : List ℕ) (file : DataFile) : Type 0 where

@@ -1,7 +1,7 @@
 -- The pieces of a text of the data: letters, and what stands between `%{` and `}`.
 use Rattle.std.specs.Prelude.{ℕ, zero, suc, Bool, true, false, if◌then◌else◌, List, [], ◌∷◌, ◌++◌, length, Option, None, Some, option_and_then, is_some, codes}
-use Rattle.hiera_config.specs.declared.pieces.Piece.{Piece}
-use Rattle.hiera_config.specs.declared.pieces.Piece.TheVariants as piece
+use Rattle.hiera_config.specs.declared.interpolation.Piece.{Piece}
+use Rattle.hiera_config.specs.declared.interpolation.Piece.TheVariants as piece
 use Rattle.hiera_config.specs.Cuts.{Cut, cut_at, after_prefix, before_suffix, trimmed}
 
 -- what stands between `%{` and `}`

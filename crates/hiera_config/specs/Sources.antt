@@ -12,7 +12,7 @@ use Rattle.hiera_config.specs.declared.config.Level.{Level}
 use Rattle.hiera_config.specs.declared.config.Config.{Config}
 use Rattle.hiera_config.specs.Config.{config_read}
 use Rattle.hiera_config.specs.Cuts.{Cut, cut_at}
-use Rattle.hiera_config.specs.Documents.{File, text_at, is_document, strict}
+use Rattle.hiera_config.specs.Documents.{File, text_at, is_of_module, is_document, strict}
 use Rattle.hiera_config.specs.Meant.{Meant, go_on, in_turn}
 use Rattle.hiera_config.specs.Variables.{Variables, hiding, variable, path_text, mapped_values}
 
@@ -93,18 +93,19 @@ abbrev pub config_or_bad : List ℕ → Option Config → Meant Config
 config_or_bad path None = Err (what.BadData path)
 config_or_bad path (Some config) = Ok config
 
-abbrev pub config_at : Bool → List ℕ → Option (List ℕ) → Meant Config
-config_at is_module path None = Ok no_levels
-config_at is_module path (Some text) = config_or_bad path (config_read is_module text)
+-- its path tells whether it is a module's
+abbrev pub config_at : List ℕ → Option (List ℕ) → Meant Config
+config_at path None = Ok no_levels
+config_at path (Some text) = config_or_bad path (config_read (is_of_module path) text)
 
 -- the configuration of a folder; without one there are no levels
-abbrev pub config_in : List File → Bool → List ℕ → Meant Config
-config_in files is_module folder = config_at is_module (config_path folder) (text_at (config_path folder) files)
+abbrev pub config_in : List File → List ℕ → Meant Config
+config_in files folder = config_at (config_path folder) (text_at (config_path folder) files)
 
 -- the levels of the global layer, or of the environment
 unfoldable pub in_layer : List File → List ℕ → Variables → List ℕ → List Source → Meant (List Source)
 in_layer files key variables folder found =
-    go_on (config_in files false folder) (λ config. in_levels files key folder variables found config.levels)
+    go_on (config_in files folder) (λ config. in_levels files key folder variables found config.levels)
 
 -- the default levels count where no source has the key
 abbrev pub or_default : List File → List ℕ → Variables → List ℕ → List Level → List Source → Meant (List Source)
@@ -118,7 +119,7 @@ in_module_config files key variables folder found config =
 unfoldable pub in_module : List File → List ℕ → Variables → Option (List ℕ) → List Source → Meant (List Source)
 in_module files key variables None found = Ok found
 in_module files key variables (Some name) found =
-    go_on (config_in files true (module_folder name)) (in_module_config files key variables (module_folder name) found)
+    go_on (config_in files (module_folder name)) (in_module_config files key variables (module_folder name) found)
 
 -- the sources of a key: of the global layer, of the environment, and of this module, if there is one
 abbrev pub sources : List File → Variables → Option (List ℕ) → List ℕ → Meant (List Source)

@@ -6,8 +6,8 @@ use Rattle.pp_values.specs.TextOf.{text_of}
 use Rattle.scope_core.specs.Scopes.{Scopes, found}
 use Rattle.hiera_merge.specs.Digging.{parts, root, steps, dug}
 use Rattle.hiera_config.specs.Meant.{Meant, in_turn}
-use Rattle.hiera_config.specs.declared.pieces.Piece.{Piece}
-use Rattle.hiera_config.specs.declared.pieces.Piece.TheVariants as piece
+use Rattle.hiera_config.specs.declared.interpolation.Piece.{Piece}
+use Rattle.hiera_config.specs.declared.interpolation.Piece.TheVariants as piece
 use Rattle.hiera_config.specs.Pieces.{path_pieces}
 use Rattle.pp_values.specs.declared.fault.What.TheVariants as what
 

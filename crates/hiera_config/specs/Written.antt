@@ -1,7 +1,7 @@
 -- The piece that a form makes, of which the code of pieces speaks.
 use Rattle.std.specs.Prelude.{ℕ, Bool, true, false, List, ◌++◌, codes}
-use Rattle.hiera_config.specs.declared.pieces.Piece.{Piece}
-use Rattle.hiera_config.specs.declared.pieces.Piece.TheVariants as piece
+use Rattle.hiera_config.specs.declared.interpolation.Piece.{Piece}
+use Rattle.hiera_config.specs.declared.interpolation.Piece.TheVariants as piece
 use Rattle.hiera_config.specs.Pieces.{Form, variable, looked_up, said, alias, unlawful}
 
 abbrev pub piece_in : List ℕ → Form → Piece

@@ -1,12 +1,12 @@
 //! Configurations out of JSON.
-ghost use Rattle.std.specs.Prelude.{◌≡◌, IfOk, Err, option_map};
+ghost use Rattle.std.specs.Prelude.{◌≡◌, IfOk, option_map};
 ghost use Rattle.serde_json.specs.Find.{get, as_object};
 ghost use Rattle.serde_json.specs.Read.{read};
 ghost use Rattle.serde_json.specs.View.{view as json_view};
-ghost use Rattle.pp_values.specs.Answers.{Answers, fault_told, IsRefused};
+ghost use Rattle.pp_values.specs.Answers.{Answers};
 ghost use Rattle.pp_values.specs.Faults.{fault};
 ghost use Rattle.pp_values.specs.declared.fault.What.TheVariants as what;
-ghost use Rattle.hiera_config.specs.Config.{config_of, config_read, config_with, config_or_fault, is_module, default_folder, folder_in, is_version, has_only, config_names, config_from};
+ghost use Rattle.hiera_config.specs.Config.{config_of, config_read, config_with, config_or_fault, is_module, default_folder, folder_in, is_version, has_only, config_names, config_from, IsBadData};
 ghost use Rattle.json_values.specs.FromData.{both};
 
 use crate::config::{Config, Layer, Levels};
@@ -33,7 +33,7 @@ pub fn read_config(
 }
 
 fn bad_config(alloc: Global, path: &Text, at: &Place) -> Stop
-    ensures { IsRefused (fault_told result) (Err {A = Config} (fault at.now (what.BadData path.now))) }
+    ensures { IsBadData result path.now at.now }
 {
     match faulty(alloc, path, at) {
         Ok(fault) => Stop::Fault(fault),

@@ -7,7 +7,7 @@ ghost use Rattle.hiera_config.specs.Variables.{path_text, path_piece, variable, 
 ghost use Rattle.hiera_config.specs.Sources.{path_of, joined_path};
 
 use crate::config::Level;
-use crate::pieces::{Piece, path_pieces};
+use crate::interpolation::{Piece, path_pieces};
 use crate::refused::{Refused, bad_interpolation};
 use crate::variables::Variables;
 use pp_values::{Memory, Text, write_value};

@@ -1,13 +1,11 @@
 //! The files of a site's data.
-ghost use Rattle.std.specs.Prelude.{◌≡◌, [], is_ok, if◌then◌else◌, nat_eq, codes, IfOk, IfSome, option_map};
+ghost use Rattle.std.specs.Prelude.{◌≡◌, [], is_ok, if◌then◌else◌, IfOk, IfSome, option_map, option_and_then};
 ghost use Rattle.std.specs.FinMap.{find, put};
-ghost use Rattle.std.specs.List.{starts_with};
 ghost use Rattle.pp_values.specs.Rising.{text_cmp};
 ghost use Rattle.hiera_config.specs.Config.{config_of};
-ghost use Rattle.hiera_config.specs.Documents.{put_in};
-ghost use Rattle.hiera_config.specs.Keeping.{filed, is_of_module, IsKept};
+ghost use Rattle.hiera_config.specs.Documents.{is_of_module, put_in};
+ghost use Rattle.hiera_config.specs.Keeping.{filed, IsKept};
 ghost use Rattle.serde_json.specs.View.{view as json_view};
-ghost use Rattle.std.specs.Prelude.{option_and_then};
 
 use crate::config::Config;
 use crate::config_reading::{config_of, parsed};

@@ -1,6 +1,5 @@
 -- The loops of data, and the facts that they make.
-use Rattle.std.proofs.Common.{◌≡◌, ◌+◌, true, false, Bool, ◌&&◌, IsTrue, List, [], ◌∷◌, ◌++◌, Option, Some, None, option_map, Ok, Err, Result, String, string_bytes, refl, ap, sym, ◌∙◌, subst, Less, IsErrAnd, drop, ⊤}
-use Rattle.std.proofs.lemmas.Result.{err_from_is_err_and}
+use Rattle.std.proofs.Common.{◌≡◌, true, Bool, ◌&&◌, IsTrue, List, [], ◌∷◌, ◌++◌, Option, Some, None, String, string_bytes, refl, ap, sym, ◌∙◌, Less}
 use Rattle.std.specs.declared.alloc.Global.{Global}
 use Rattle.std.specs.Cmp.{first_so, second_so}
 use Rattle.std.specs.Cmp.Derive.{both_true}
@@ -12,15 +11,12 @@ use Rattle.std.specs.String.{string_cmp}
 use Rattle.serde_json.specs.declared.value.Value.{Value as Json}
 use Rattle.serde_json.specs.View.{view as json_view, items_view, members_view}
 use Rattle.pp_values.specs.declared.value.Value.{Value}
-use Rattle.pp_values.specs.Datum.{Datum, text, Data, Entries, Pair, no_data, datum, no_entries, entry, data_of, entries_of}
+use Rattle.pp_values.specs.Datum.{Datum, text, entry, data_of, entries_of}
 use Rattle.pp_values.specs.Facts.{is_fact, are_members, are_pairs, is_next_above}
-use Rattle.pp_values.specs.Keys.{are_distinct}
 use Rattle.pp_values.specs.Views.{view, views, pair_views}
-use Rattle.json_values.specs.declared.stops.DataStop.{DataStop}
-use Rattle.json_values.specs.declared.stops.DataStop.TheVariants as stop
 use Rattle.json_values.specs.declared.stops.Numbers.{Numbers}
-use Rattle.json_values.specs.FromData.{data_value, item_values, member_values, both, IsData}
-use Rattle.json_values.proofs.Items.{Entry, list_so_far, hash_so_far, list_step, hash_step, list_whole, hash_whole}
+use Rattle.json_values.specs.FromData.{data_value, item_values, member_values, both}
+use Rattle.json_values.proofs.Items.{Entry, list_so_far, hash_so_far, list_step, hash_step, hash_whole}
 
 -- ---- items
 
@@ -28,18 +24,12 @@ pub item_made : (m : Numbers) (values : List Value) (value : Value) (item : Json
     → list_so_far (values ++ value ∷ []) (item_values m (items_view left)) ≡ list_so_far values (item_values m (items_view (item ∷ left)))
 item_made m values value item left made = list_step (item_values m (items_view left)) values value ∙ sym (rw made refl)
 
-pub item_refused : (m : Numbers) (values : List Value) (item : Json) (left : List Json) → data_value m (json_view item) ≡ None → list_so_far values (item_values m (items_view (item ∷ left))) ≡ None
-item_refused m values item left made = rw made refl
-
 -- ---- members
 
 pub member_made : (m : Numbers) (pairs : List (Value × Value)) (key value : Value) (name : String Global) (member : Json) (es left : List Entry) → es ≡ (name, member) ∷ left → view key ≡ text (string_bytes name)
     → data_value m (json_view member) ≡ Some (view value) → hash_so_far (pairs ++ (key, value) ∷ []) (member_values m (members_view left)) ≡ hash_so_far pairs (member_values m (members_view es))
 member_made m pairs key value name member es left is named made =
     hash_step (member_values m (members_view left)) pairs (key, value) ∙ sym (rw (is, made, named) refl)
-
-pub member_refused : (m : Numbers) (pairs : List (Value × Value)) (name : String Global) (member : Json) (es left : List Entry) → es ≡ (name, member) ∷ left → data_value m (json_view member) ≡ None → hash_so_far pairs (member_values m (members_view es)) ≡ None
-member_refused m pairs name member es left is made = rw (is, made) refl
 
 pub no_members_left : (m : Numbers) (pairs : List (Value × Value)) (es : List Entry) → es ≡ [] → hash_so_far pairs (member_values m (members_view es)) ≡ Some (entries_of (pair_views pairs))
 no_members_left m pairs es is = rw is (hash_whole pairs)
@@ -88,15 +78,3 @@ members_are_facts m (e ∷ es) (p ∷ ps) is sorted facts =
     let rest : member_values m (members_view es) ≡ Some (entries_of (pair_views ps)) = s.3 ∙ ap Some (cc (s.4)) in
     let after = members_are_facts m es ps rest sorted.1 (second_so (is_fact (view p.1)) (have_facts ps) facts) in
     rw (← here) (both_true (first_so (is_fact (view p.1)) (have_facts ps) facts) (both_true (first_above m e.0 es ps rest sorted.0) after))
-
--- ---- refusals
-
-pub refused : {A B V W : Type 0} (shown : V → A) (shown' : W → B) (s : DataStop) (o : Option A) (p : Option B) (r : Result W DataStop) → (o ≡ None → p ≡ None) → IsData shown (Err s) o → IsErrAnd r (λ t. t ≡ s) → IsData shown' r p
-refused shown shown' stop.Number o p r next h is =
-    let q = err_from_is_err_and r is in
-    let same : r ≡ Err stop.Number = q.1 ∙ ap Err q.2 in
-    subst (λ x. IsData shown' x p) (sym same) (next h)
-refused shown shown' stop.Memory o p r next h is =
-    let q = err_from_is_err_and r is in
-    let same : r ≡ Err stop.Memory = q.1 ∙ ap Err q.2 in
-    subst (λ x. IsData shown' x p) (sym same) tt

@@ -4,4 +4,6 @@ pub mod Floats
 pub mod Items
 mod RisingKeys
 mod DataSteps
+mod FormSteps
 mod Examples
+mod ReadingExamples

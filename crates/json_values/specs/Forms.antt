@@ -77,13 +77,20 @@ last_value [] = undef
 last_value (p ∷ []) = p.1
 last_value (p ∷ q ∷ ps) = last_value (q ∷ ps)
 
+-- the members of an object of three
+abbrev pub three : List Pair → Option (Pair × (Pair × Pair))
+three (m ∷ k ∷ t ∷ []) = Some (m, (k, t))
+three ps = None
+
 abbrev pub is_reference : Pair → Pair → Pair → Bool
 is_reference m k t =
     is_text (codes "__ptype") m.0 && (is_text (codes "Ref") m.1 && (is_text (codes "kind") k.0 && is_text (codes "title") t.0))
 
+abbrev pub reference_in : Pair × (Pair × Pair) → Option Datum
+reference_in ms = guard (is_reference ms.0 ms.1.0 ms.1.1) (reference_of ms.1.0.1 ms.1.1.1)
+
 abbrev pub marked_reference : List Pair → Option Datum
-marked_reference (m ∷ k ∷ t ∷ []) = guard (is_reference m k t) (reference_of k.1 t.1)
-marked_reference ps = None
+marked_reference ps = option_and_then reference_in (three ps)
 
 abbrev pub marked_value : List Pair → Option Datum
 marked_value ps = if is_long ps then hash_in_turn (last_value ps) else marked_reference ps

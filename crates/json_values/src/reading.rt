@@ -4,8 +4,8 @@ ghost use Rattle.serde_json.specs.View.{view as json_view, items_view, members_v
 ghost use Rattle.pp_values.specs.Datum.{data_of, entries_of};
 ghost use Rattle.pp_values.specs.Keys.{are_distinct, lacks};
 ghost use Rattle.pp_values.specs.Kinds.{kind_of};
-ghost use Rattle.pp_values.specs.Views.{view, views, pair_views};
-ghost use Rattle.json_values.specs.Forms.{value_of, values_of, members_of, object_value, marked_value, is_long, last_value, hash_in_turn, in_turn, long_hash, marked_reference, reference_of, reference_to, is_text, IsForm};
+ghost use Rattle.pp_values.specs.Views.{view, views, pair_view, pair_views};
+ghost use Rattle.json_values.specs.Forms.{value_of, values_of, members_of, object_value, marked_value, is_long, last_value, hash_in_turn, in_turn, long_hash, three, is_reference, marked_reference, reference_of, reference_to, is_text, IsForm};
 
 use crate::stops::FormStop;
 use crate::value_forms::is_plain;
@@ -127,11 +127,13 @@ fn in_turn(alloc: Global, items: Vec<Value>) -> Result<Vec<(Value, Value)>, Form
 fn long_hash(pairs: Vec<(Value, Value)>) -> Result<Value, FormStop>
     ensures { IsForm view result (long_hash (entries_of (pair_views pairs.items))) }
 {
-    if are_distinct(pairs.as_slice()) && !is_plain(pairs.as_slice()) {
-        Ok(Value::Hash(Pairs::from_vec(pairs)))
-    } else {
-        Err(FormStop::NoForm)
+    if !are_distinct(pairs.as_slice()) {
+        return Err(FormStop::NoForm);
     }
+    if is_plain(pairs.as_slice()) {
+        return Err(FormStop::NoForm);
+    }
+    Ok(Value::Hash(Pairs::from_vec(pairs)))
 }
 
 fn are_distinct(pairs: &[(Value, Value)]) -> bool
@@ -163,20 +165,36 @@ fn lacks(key: &Value, pairs: &[(Value, Value)]) -> bool
 fn marked_reference(alloc: Global, members: &[(Value, Value)]) -> Result<Value, FormStop>
     ensures { IsForm view result (marked_reference (pair_views members.now)) }
 {
-    match members {
-        [(mark, said), (kind_name, kind), (title_name, title)] => {
-            if is_text(mark, "__ptype")
-                && is_text(said, "Ref")
-                && is_text(kind_name, "kind")
-                && is_text(title_name, "title")
-            {
-                reference_of(alloc, kind, title)
+    match three(members) {
+        Some((mark, kind, title)) => {
+            if is_reference(mark, kind, title) {
+                reference_of(alloc, &kind.1, &title.1)
             } else {
                 Err(FormStop::NoForm)
             }
         }
-        _ => Err(FormStop::NoForm),
+        None => Err(FormStop::NoForm),
     }
+}
+
+/// The members of an object of three.
+fn three(members: &[(Value, Value)]) -> Option<(&(Value, Value), &(Value, Value), &(Value, Value))>
+    ensures { option_map (λ ms. (pair_view ms.0.now, (pair_view ms.1.now, pair_view ms.2.now))) result
+        ≡ three (pair_views members.now) }
+{
+    match members {
+        [mark, kind, title] => Some((mark, kind, title)),
+        _ => None,
+    }
+}
+
+fn is_reference(mark: &(Value, Value), kind: &(Value, Value), title: &(Value, Value)) -> bool
+    ensures { result ≡ is_reference (pair_view mark.now) (pair_view kind.now) (pair_view title.now) }
+{
+    is_text(&mark.0, "__ptype")
+        && is_text(&mark.1, "Ref")
+        && is_text(&kind.0, "kind")
+        && is_text(&title.0, "title")
 }
 
 fn reference_of(alloc: Global, kind: &Value, title: &Value) -> Result<Value, FormStop>

@@ -20,6 +20,6 @@ have_forms-has_form-requires t c = (omega (arith, c.decreases, item_falls c.args
 pub pairs_have_forms-has_form-requires : goal.pairs_have_forms-has_form-requires
 pairs_have_forms-has_form-requires t c = (omega (arith, c.decreases, pair_falls c.args.pairs.now _ _ _ refl c.loop-key-test.true c.loop-key-item.is), tt)
 
-pub pairs_have_forms-has_form-requires-in-loop-key : goal.pairs_have_forms-has_form-requires-in-loop-key
-pairs_have_forms-has_form-requires-in-loop-key t c =
+pub pairs_have_forms-has_form-requires-else-not-has_form : goal.pairs_have_forms-has_form-requires-else-not-has_form
+pairs_have_forms-has_form-requires-else-not-has_form t c =
     (omega (arith, c.decreases, pair_falls c.args.pairs.now _ _ _ refl c.loop-key-test.true c.loop-key-item.is), tt)

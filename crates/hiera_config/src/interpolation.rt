@@ -1,6 +1,6 @@
 //! The pieces of a text of the data.
-ghost use Rattle.std.specs.Prelude.{◌≡◌, ◌∷◌, ◌++◌, IfOk, OnOk, option_map, codes};
-ghost use Rattle.hiera_config.specs.declared.pieces.Piece.TheVariants as piece;
+ghost use Rattle.std.specs.Prelude.{◌≡◌, [], ◌∷◌, ◌++◌, IfOk, OnOk, option_map, codes};
+ghost use Rattle.hiera_config.specs.declared.interpolation.Piece.TheVariants as piece;
 ghost use Rattle.hiera_config.specs.FormView.{form_view, form_by};
 ghost use Rattle.hiera_config.specs.Written.{piece_in, goes_on};
 ghost use Rattle.hiera_config.specs.Pieces.{pieces, path_pieces, pieces_by, whole_alias, if_ends, alias_of};

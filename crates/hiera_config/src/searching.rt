@@ -1,10 +1,9 @@
 //! The sources of a key.
-ghost use Rattle.std.specs.Prelude.{◌≡◌, false, IfOk, map, option_map};
+ghost use Rattle.std.specs.Prelude.{◌≡◌, IfOk, map, option_map};
 ghost use Rattle.pp_values.specs.Views.{view, views, pair_views};
 ghost use Rattle.serde_json.specs.View.{view as json_view};
 ghost use Rattle.hiera_config.specs.Documents.{strict};
 ghost use Rattle.hiera_config.specs.Found.{source_views, shown_config, mapped_from, in_mapped_by};
-ghost use Rattle.hiera_config.specs.Keeping.{is_of_module};
 ghost use Rattle.hiera_config.specs.Meant.{MeetsBy, in_turn};
 ghost use Rattle.hiera_config.specs.Seen.{seen};
 ghost use Rattle.hiera_config.specs.Sources as spec;
@@ -80,7 +79,6 @@ fn add_from_layer(
     key: &str,
     found: &mut Vec<Source>,
 ) -> Result<(), Refused>
-    requires { is_of_module (spec.config_path folder.now) ≡ false }
     ensures { MeetsBy (λ u. source_views found.new.items) result
         (spec.in_layer data.now key.now (seen variables.now) folder.now (source_views found.old.items)) }
 {
@@ -135,7 +133,7 @@ fn config_in<'a>(
     folder: &str,
 ) -> Result<Option<&'a Config>, Refused>
     ensures { MeetsBy shown_config result
-        (spec.config_in data.now (is_of_module (spec.config_path folder.now)) folder.now) }
+        (spec.config_in data.now folder.now) }
 {
     let path = config_path(alloc, folder)?;
     match data.get(&path) {

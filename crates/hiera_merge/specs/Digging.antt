@@ -11,11 +11,11 @@ parts key = slice_split (λ b. b == 46) key
 
 abbrev pub root : List (List ℕ) → List ℕ
 root [] = []
-root (first ∷ steps) = first
+root (first ∷ rest) = first
 
 abbrev pub steps : List (List ℕ) → List (List ℕ)
 steps [] = []
-steps (first ∷ steps) = steps
+steps (first ∷ rest) = rest
 
 -- the number that decimal digits spell, behind those of `n`
 abbrev pub place_from : ℕ → List ℕ → Option ℕ
@@ -35,4 +35,4 @@ member step d = None
 
 abbrev pub dug : List (List ℕ) → Datum → Option Datum
 dug [] d = Some d
-dug (step ∷ steps) d = option_and_then (dug steps) (member step d)
+dug (step ∷ rest) d = option_and_then (dug rest) (member step d)

@@ -42,15 +42,14 @@ value_or d (Some e) = e
 -- two hashes key by key, with their keys in the order of `hash`; two lists joined; of other values the higher
 abbrev mutual
   pub deep : Datum → Datum → Datum
-  deep (hash hs) (hash ls) = hash (entries_of (deep_pairs hs (pairs_of ls) (pairs_of ls)))
+  deep (hash hs) (hash ls) = hash (entries_of (deep_pairs hs (pairs_of ls)))
   deep (list hs) (list ls) = list (data_of (joined (members_of ls) (members_of hs)))
   deep high low = high
 
-  -- the higher's pairs put over what is there, each value merged with the lower's where that has the key
-  pub deep_pairs : Entries → List Pair → List Pair → List Pair
-  deep_pairs no_entries lower out = out
-  deep_pairs (entry k v es) lower out =
-      deep_pairs es lower (with_pair k (value_or v (option_map (deep v) (value_at k lower))) out)
+  -- the higher's pairs put over the lower's, each value merged with the one that the key has there
+  pub deep_pairs : Entries → List Pair → List Pair
+  deep_pairs no_entries out = out
+  deep_pairs (entry k v es) out = deep_pairs es (with_pair k (value_or v (option_map (deep v) (value_at k out))) out)
 
 -- from the highest value down, one at a time
 abbrev pub deep_merge : Datum → List Datum → Datum

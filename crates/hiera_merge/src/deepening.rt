@@ -37,11 +37,11 @@ fn deep(alloc: Global, high: &Value, low: &Value) -> Result<Value, Memory>
 
 #[cycle(deep)]
 fn deep_pairs(alloc: Global, high: &Pairs, low: &Pairs) -> Result<Pairs, Memory>
-    ensures { IfOk result (λ ps. ps ≡ deep_pairs (entries_of high.now) low.now low.now) }
+    ensures { IfOk result (λ ps. ps ≡ deep_pairs (entries_of high.now) low.now) }
 {
     let mut out = copy_pairs(alloc, low)?;
     for (key, value) in high.as_slice() {
-        let value = deep_value(alloc, value, low.get(key))?;
+        let value = deep_value(alloc, value, out.get(key))?;
         let key = copy(alloc, key)?;
         out.put(key, value)?;
     }

@@ -5,14 +5,14 @@ ghost use Rattle.pp_values.specs.Keys.{same_key, value_at};
 ghost use Rattle.pp_values.specs.Views.{view, views, pair_views};
 ghost use Rattle.hiera_merge.specs.Digging.{parts, root, steps, place_of, place_from, member, dug};
 
-use pp_values::{Memory, Value};
-use std::alloc::Global;
+use pp_values::Value;
+use std::alloc::{AllocError, Global};
 
 /// The parts of a key between its dots: the root key, which may be empty, and the steps behind it.
-pub fn parts(alloc: Global, key: &str) -> Result<Vec<&str>, Memory>
+pub fn parts(alloc: Global, key: &str) -> Result<Vec<&str>, AllocError>
     ensures { IfOk result (λ v. map (λ x. x.now) v.items ≡ parts key.now) }
 {
-    Ok(key.split('.').collect(alloc)?)
+    key.split('.').collect(alloc)
 }
 
 /// The root key among the parts.
@@ -68,7 +68,7 @@ fn value_of<'a>(pairs: &'a [(Value, Value)], name: &str) -> Option<&'a Value>
     None
 }
 
-fn is_text(key: &Value, name: &str) -> bool
+pub fn is_text(key: &Value, name: &str) -> bool
     ensures { result ≡ same_key (text name.now) (view key.now) }
 {
     match key {
@@ -87,20 +87,33 @@ fn item_at<'a>(items: &'a [Value], step: &str) -> Option<&'a Value>
     item_from(items, step.as_bytes())
 }
 
-/// The member at the place that these digits spell. It stops at the first digit that leads past the last member.
+/// The member at the place that these digits spell. It stops where the digits so far lead past the last member.
+#[tactic(auto, using(crate::proofs::Places::at_end))]
 fn item_from<'a>(items: &'a [Value], digits: &[u8]) -> Option<&'a Value>
     ensures { option_map (λ v. view v.now) result
         ≡ option_and_then (slice_get (views items.now)) (place_from 0 digits.now) }
 {
+    let count = items.len() as u128;
     let mut place: u128 = 0;
-    for digit in digits {
+    let mut left = digits;
+    while let [digit, after @ ..] = left {
+        if place >= count {
+            return None;
+        }
         if !digit.is_ascii_digit() {
             return None;
         }
         place = place * 10 + u128::from(digit - b'0');
-        if place >= items.len() as u128 {
-            return None;
-        }
+        left = after;
     }
-    items.get(place as usize)
+    if place >= count {
+        return None;
+    }
+    item(items, place as usize)
+}
+
+fn item(items: &[Value], place: usize) -> Option<&Value>
+    ensures { option_map (λ v. view v.now) result ≡ slice_get (views items.now) place }
+{
+    items.get(place)
 }

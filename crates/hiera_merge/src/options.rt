@@ -1,9 +1,11 @@
 //! What `lookup_options` says of one key.
 ghost use Rattle.std.specs.Prelude.{◌≡◌, option_map};
+ghost use Rattle.pp_values.specs.Datum as d;
 ghost use Rattle.pp_values.specs.Datum.{entries_of};
 ghost use Rattle.pp_values.specs.Views.{view};
 ghost use Rattle.hiera_merge.specs.Options.{sole, merge_by_name, merge_in, merge_of};
 
+use crate::digging::is_text;
 use crate::merge::Merge;
 use pp_values::{Pairs, Value};
 
@@ -17,13 +19,17 @@ pub fn merge_of(options: &Value) -> Option<Merge>
     }
 }
 
+#[tactic(auto, using(crate::proofs::OptionLemmas::merge_of_more))]
 fn merge_of_pairs(pairs: &Pairs) -> Option<Merge>
-    ensures { result ≡ merge_of (view (v.Hash pairs.now)) }
+    ensures { result ≡ merge_of (d.hash (entries_of pairs.now)) }
 {
     if pairs.is_empty() {
         return Some(Merge::First);
     }
-    merge_in(sole(pairs, "merge")?)
+    match sole(pairs, "merge") {
+        Some(value) => merge_in(value),
+        None => None,
+    }
 }
 
 /// The merge that a value names: by its name, or by a hash that has its name as `strategy` and nothing else.
@@ -47,17 +53,19 @@ fn merge_by_name(value: &Value) -> Option<Merge>
 }
 
 /// The value of this key, where it is the hash's only one.
+#[tactic(auto, using(crate::proofs::OptionLemmas::sole_of_more))]
 fn sole<'a>(pairs: &'a Pairs, name: &str) -> Option<&'a Value>
     ensures { option_map (λ v. view v.now) result ≡ sole name.now (entries_of pairs.now) }
 {
     match pairs.as_slice() {
-        [(Value::Text(key), value)] => {
-            if key.is(name) {
+        [] => None,
+        [(key, value)] => {
+            if is_text(key, name) {
                 Some(value)
             } else {
                 None
             }
         }
-        _ => None,
+        [_, _, ..] => None,
     }
 }

@@ -17,5 +17,4 @@ decreases-deep_value l = 2 * datum_size (view l.high.now) + 1
 
 abbrev pub invariant-deep_pairs-loop-key : goal.invariant-deep_pairs-loop-key
 invariant-deep_pairs-loop-key l =
-    deep_pairs (entries_of (pair_views (drop l.key-index l.key-items))) l.low l.out
-    ≡ deep_pairs (entries_of (pair_views l.key-items)) l.low l.low
+    deep_pairs (entries_of (pair_views (drop l.key-index l.key-items))) l.out ≡ deep_pairs (entries_of (pair_views l.key-items)) l.low

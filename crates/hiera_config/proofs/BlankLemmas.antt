@@ -15,8 +15,8 @@ and_true : (t : Bool) (bs : List ℕ) → (if (t && true) then Some bs else None
 and_true true bs = refl
 and_true false bs = refl
 
-one_off : (b x : ℕ) (bs : List ℕ) → after_prefix (x ∷ []) (b ∷ bs) ≡ (if b == x then Some bs else None)
-one_off b x bs = and_true (nat_eq b x) bs
+one_off : (b x : ℕ) (bs : List ℕ) → after_prefix (x ∷ []) (b ∷ bs) ≡ (if x == b then Some bs else None)
+one_off b x bs = and_true (nat_eq x b) bs
 
 joined_tests : (p q r s : Bool) (bs : List ℕ) → or_text (if p then Some bs else None) (or_text (if q then Some bs else None) (or_text (if r then Some bs else None) (if s then Some bs else None)))
     ≡ (if (p || (q || (r || s))) then Some bs else None)
@@ -30,7 +30,7 @@ first_blank_is : (t : List ℕ) → without_first_blank t ≡ first_blank t
 unfolding first_blank
 first_blank_is [] = refl
 first_blank_is (b ∷ bs) =
-    rw (one_off b 32 bs, one_off b 9 bs, one_off b 13 bs, one_off b 10 bs) (joined_tests (b == 32) (b == 9) (b == 13) (b == 10) bs)
+    rw (one_off b 32 bs, one_off b 9 bs, one_off b 13 bs, one_off b 10 bs) (joined_tests (32 == b) (9 == b) (13 == b) (10 == b) bs)
 
 pub start_more : (t r : List ℕ) → Some r ≡ without_first_blank t → trimmed_start t ≡ trimmed_start r
 unfolding first_blank trimmed_start
@@ -124,12 +124,12 @@ none_rest : (o p : Option (List ℕ)) → None ≡ or_text o p → None ≡ p
 none_rest None p h = h
 none_rest (Some u) p h = absurd (cc h)
 
-blank_there : (t r : List ℕ) (x y : ℕ) → t ≡ r ++ x ∷ [] → (x == y) ≡ true → None ≡ before_suffix (y ∷ []) t → ⊥
+blank_there : (t r : List ℕ) (x y : ℕ) → t ≡ r ++ x ∷ [] → (y == x) ≡ true → None ≡ before_suffix (y ∷ []) t → ⊥
 blank_there t r x y is same none =
-    let e : x ≡ y = (Decides-eqb x y).0 same in
+    let e : x ≡ y = sym ((Decides-eqb y x).0 same) in
     not_none _ _ (found_at_end t r y (is ∙ ap (λ z. r ++ z ∷ []) e)) none
 
-never_blank : (t r : List ℕ) (x : ℕ) → t ≡ r ++ x ∷ [] → (p q s u : Bool) → (x == 32) ≡ p → (x == 9) ≡ q → (x == 13) ≡ s → (x == 10) ≡ u → (p || (q || (s || u))) ≡ true
+never_blank : (t r : List ℕ) (x : ℕ) → t ≡ r ++ x ∷ [] → (p q s u : Bool) → (32 == x) ≡ p → (9 == x) ≡ q → (13 == x) ≡ s → (10 == x) ≡ u → (p || (q || (s || u))) ≡ true
     → None ≡ before_suffix (32 ∷ []) t → None ≡ before_suffix (9 ∷ []) t → None ≡ before_suffix (13 ∷ []) t → None ≡ before_suffix (10 ∷ []) t → ⊥
 never_blank t r x is true q s u a b c d h n1 n2 n3 n4 = blank_there t r x 32 is a n1
 never_blank t r x is false true s u a b c d h n1 n2 n3 n4 = blank_there t r x 9 is b n2
@@ -145,4 +145,4 @@ end_end t h =
     let h3 = none_rest (before_suffix (9 ∷ []) t) _ h2 in
     let n3 = none_first (before_suffix (13 ∷ []) t) _ h3 in
     let n4 = none_rest (before_suffix (13 ∷ []) t) _ h3 in
-    unblanked t (λ x r blank is. never_blank t r x is (x == 32) (x == 9) (x == 13) (x == 10) refl refl refl refl blank n1 n2 n3 n4)
+    unblanked t (λ x r blank is. never_blank t r x is (32 == x) (9 == x) (13 == x) (10 == x) refl refl refl refl blank n1 n2 n3 n4)

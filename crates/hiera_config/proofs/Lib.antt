@@ -7,4 +7,3 @@ mod ConfigExamples
 mod SourceExamples
 mod ReadLists
 mod FileLemmas
-mod Mapped

@@ -25,7 +25,7 @@ before_suffix mark text = if ends_with nat_eq text mark then Some (take (length 
 
 -- a space, a tab, or the end of a line
 abbrev pub is_blank : ℕ → Bool
-is_blank b = (b == 32) || ((b == 9) || ((b == 13) || (b == 10)))
+is_blank b = (32 == b) || ((9 == b) || ((13 == b) || (10 == b)))
 
 unfoldable pub trimmed_start : List ℕ → List ℕ
 trimmed_start [] = []

@@ -7,6 +7,7 @@ mod cutting;
 mod forms;
 pub mod interpolation;
 mod level_reading;
+mod mapping;
 pub mod modules;
 mod paths;
 pub mod refused;

@@ -1,21 +1,22 @@
 //! The sources of a key.
-ghost use Rattle.std.specs.Prelude.{◌≡◌, IfOk, map, option_map};
-ghost use Rattle.pp_values.specs.Views.{view, views, pair_views};
+ghost use Rattle.std.specs.Prelude.{◌≡◌, IfOk, option_map};
+ghost use Rattle.pp_values.specs.Views.{view, views};
 ghost use Rattle.serde_json.specs.View.{view as json_view};
 ghost use Rattle.hiera_config.specs.Documents.{strict};
 ghost use Rattle.hiera_config.specs.Found.{source_views, shown_config, mapped_from, in_mapped_by};
 ghost use Rattle.hiera_config.specs.Meant.{MeetsBy, in_turn};
 ghost use Rattle.hiera_config.specs.Seen.{seen};
 ghost use Rattle.hiera_config.specs.Sources as spec;
-ghost use Rattle.hiera_config.specs.Variables.{variable as variable_of, mapped_values, pair_list};
+ghost use Rattle.hiera_config.specs.Variables.{variable as variable_of, mapped_values};
 
 use crate::config::{Config, Level, LevelPaths};
+use crate::mapping::mapped_values;
 use crate::paths::path_of;
 use crate::refused::{Refused, bad_data};
 use crate::site_data::SiteData;
 use crate::variables::Variables;
 use json_values::{DataStop, Numbers, from_data};
-use pp_values::{Kept, Memory, Text, Value, Values, copy};
+use pp_values::{Memory, Text, Value};
 use serde_json::Value as Json;
 use std::alloc::Global;
 
@@ -252,62 +253,25 @@ fn add_from_mapped(
         (mapped_from search.now (seen variables.now) mapped.now (source_views found.old.items)
         (mapped_values (variable_of (seen variables.now) variable.now))) }
 {
-    match variables.value(alloc, variable)? {
-        Some(Value::Undef) => Ok(()),
-        Some(Value::List(items)) => {
-            add_for_items(alloc, search, variables, mapped, items.as_slice(), found)
-        }
-        Some(Value::Hash(pairs)) => {
-            add_for_pairs(alloc, search, variables, mapped, pairs.as_slice(), found)
-        }
-        Some(value) => add_for_value(alloc, search, variables, mapped, value, found),
-        None => Ok(()),
-    }
+    let values = mapped_values(alloc, variables.value(alloc, variable)?)?;
+    add_for_values(alloc, search, variables, mapped, values.as_slice(), found)
 }
 
-fn add_for_items(
+fn add_for_values(
     alloc: Global,
     search: &Search<'_>,
     variables: &Variables<'_>,
     mapped: &MappedPath<'_>,
-    items: &[Value],
+    values: &[Value],
     found: &mut Vec<Source>,
 ) -> Result<(), Refused>
     ensures { MeetsBy (λ u. source_views found.new.items) result
-        (mapped_from search.now (seen variables.now) mapped.now (source_views found.old.items) (views items.now)) }
+        (mapped_from search.now (seen variables.now) mapped.now (source_views found.old.items) (views values.now)) }
 {
-    for item in items {
-        add_for_value(alloc, search, variables, mapped, item, found)?;
+    for value in values {
+        add_for_value(alloc, search, variables, mapped, value, found)?;
     }
     Ok(())
-}
-
-fn add_for_pairs(
-    alloc: Global,
-    search: &Search<'_>,
-    variables: &Variables<'_>,
-    mapped: &MappedPath<'_>,
-    pairs: &[(Value, Value)],
-    found: &mut Vec<Source>,
-) -> Result<(), Refused>
-    ensures { MeetsBy (λ u. source_views found.new.items) result
-        (mapped_from search.now (seen variables.now) mapped.now (source_views found.old.items)
-        (map pair_list (pair_views pairs.now))) }
-{
-    for (key, value) in pairs {
-        let pair = Kept::new(pair_of(alloc, key, value)?);
-        add_for_value(alloc, search, variables, mapped, pair.as_ref(), found)?;
-    }
-    Ok(())
-}
-
-fn pair_of(alloc: Global, key: &Value, value: &Value) -> Result<Value, Memory>
-    ensures { IfOk result (λ v. view v ≡ pair_list (view key.now, view value.now)) }
-{
-    let mut pair = Values::new(alloc);
-    pair.push(copy(alloc, key)?)?;
-    pair.push(copy(alloc, value)?)?;
-    Ok(Value::List(pair))
 }
 
 /// The name stands for this value.

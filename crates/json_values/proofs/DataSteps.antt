@@ -11,7 +11,7 @@ use Rattle.std.specs.String.{string_cmp}
 use Rattle.serde_json.specs.declared.value.Value.{Value as Json}
 use Rattle.serde_json.specs.View.{view as json_view, items_view, members_view}
 use Rattle.pp_values.specs.declared.value.Value.{Value}
-use Rattle.pp_values.specs.Datum.{Datum, text, entry, data_of, entries_of}
+use Rattle.pp_values.specs.Datum.{text, data_of, entries_of}
 use Rattle.pp_values.specs.Facts.{is_fact, are_members, are_pairs, is_next_above}
 use Rattle.pp_values.specs.Views.{view, views, pair_views}
 use Rattle.json_values.specs.declared.stops.Numbers.{Numbers}

@@ -1,11 +1,9 @@
 -- One item, and one member, after another.
-use Rattle.std.proofs.Common.{◌≡◌, ℕ, zero, suc, ◌+◌, ◌<◌, length, drop, get_or, arith, List, [], ◌∷◌, ◌++◌, Option, Some, None, option_map, String, string_bytes, refl, ap, sym, ◌∙◌}
+use Rattle.std.proofs.Common.{◌≡◌, ℕ, zero, suc, ◌+◌, ◌<◌, length, drop, get_or, arith, List, [], ◌∷◌, ◌++◌, Option, Some, None, option_map, String, refl, ap, sym}
 use Rattle.std.specs.declared.alloc.Global.{Global}
-use Rattle.serde_json.specs.Data as j
 use Rattle.serde_json.specs.declared.value.Value.{Value as Json}
-use Rattle.serde_json.specs.View.{view as json_view, items_view, members_view}
 use Rattle.pp_values.specs.declared.value.Value.{Value}
-use Rattle.pp_values.specs.Datum.{Datum, text, Data, Entries, no_data, datum, no_entries, entry, data_of, entries_of}
+use Rattle.pp_values.specs.Datum.{Data, Entries, no_data, datum, no_entries, entry, data_of, entries_of}
 use Rattle.pp_values.specs.Views.{view, views, pair_views}
 use Rattle.json_values.specs.FromData.{both}
 

@@ -1,12 +1,12 @@
 -- Some JSON as data, and some forms as values.
-use Rattle.std.proofs.Common.{◌≡◌, ℕ, true, List, [], ◌∷◌, pos, negsuc, Option, Some, None, refl, codes}
+use Rattle.std.proofs.Common.{◌≡◌, ℕ, true, List, [], pos, negsuc, Some, None, refl, codes}
 use Rattle.std.specs.Prelude.{Float}
 use Rattle.serde_json.specs.Data as j
 use Rattle.pp_values.specs.Datum as d
 use Rattle.json_values.specs.declared.stops.Numbers.TheVariants as numbers
 use Rattle.json_values.specs.FromData.{data_value}
 use Rattle.json_values.specs.ValueForm.{form, long_form, reference_form}
-use Rattle.json_values.specs.Forms.{has_form, form_of, value_of}
+use Rattle.json_values.specs.Forms.{form_of, value_of}
 
 -- ---- data
 

@@ -1,5 +1,5 @@
 -- Names in rising order are keys, each once.
-use Rattle.std.proofs.Common.{◌≡◌, true, false, Bool, ◌&&◌, not, IsTrue, ℕ, List, [], ◌∷◌, refl, ap, sym, ◌∙◌, subst, bytes_eq, Ordering, Less, Equal, Greater, nat_cmp}
+use Rattle.std.proofs.Common.{◌≡◌, true, false, Bool, ◌&&◌, not, ℕ, List, [], ◌∷◌, refl, ap, ◌∙◌, bytes_eq, Ordering, Less, Equal, Greater}
 use Rattle.std.proofs.lemmas.Cmp.{nat_list_cmp_total, tied_itself}
 use Rattle.std.proofs.lemmas.Slice.Eq.{bytes_eq-Decides}
 use Rattle.std.specs.Cmp.{first_so, second_so}

@@ -1,11 +1,11 @@
 -- Which value has a form, and which value a form is of.
-use Rattle.std.specs.Prelude.{◌≡◌, ⊤, ℕ, ℤ, Bool, true, false, ◌&&◌, not, if◌then◌else◌, List, [], ◌∷◌, Option, Some, None, option_map, option_and_then, Result, Ok, Err, codes}
+use Rattle.std.specs.Prelude.{◌≡◌, ⊤, ℕ, Bool, true, false, ◌&&◌, not, if◌then◌else◌, List, [], ◌∷◌, Option, Some, None, option_map, option_and_then, Result, Ok, Err, codes}
 use Rattle.std.specs.Str.{bytes_eq}
 use Rattle.serde_json.specs.Data as j
 use Rattle.serde_json.specs.Find.{as_i64}
 use Rattle.pp_values.specs.Datum.{Datum, undef, flag, int, text, list, hash, reference, kind, default, Data, no_data, datum, Entries, no_entries, entry, Pair, pairs_of}
 use Rattle.pp_values.specs.Keys.{are_distinct}
-use Rattle.pp_values.specs.Kinds.{is_kind, kind_of}
+use Rattle.pp_values.specs.Kinds.{kind_of}
 use Rattle.json_values.specs.FromData.{both}
 use Rattle.json_values.specs.ValueForm.{form, is_plain}
 use Rattle.json_values.specs.declared.stops.FormStop.{FormStop}

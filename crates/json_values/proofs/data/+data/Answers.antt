@@ -1,4 +1,4 @@
-use Rattle.std.proofs.Common.{◌≡◌, ◌+◌, Some, sym, ap, subst, ◌∙◌, drop, IsTrue}
+use Rattle.std.proofs.Common.{◌+◌, Some, sym, ap, subst, ◌∙◌, drop, IsTrue}
 use Rattle.std.proofs.Math.ListN.{drop_of_length-le}
 use Rattle.serde_json.specs.View.{items_view, members_view}
 use Rattle.pp_values.specs.Datum.{text, data_of, entries_of}

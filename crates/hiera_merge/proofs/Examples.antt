@@ -1,9 +1,9 @@
 -- Sources, the highest first, by each merge; merges by name and by options; parts by dotted keys.
-use Rattle.std.proofs.Common.{◌≡◌, ℕ, List, [], ◌∷◌, Option, Some, None, pos, codes, refl}
+use Rattle.std.proofs.Common.{◌≡◌, ℕ, List, [], ◌∷◌, Some, None, pos, codes, refl}
 use Rattle.pp_values.specs.Datum as d
 use Rattle.pp_values.specs.Datum.{Datum, Pair, data_of, entries_of}
 use Rattle.hiera_merge.specs.declared.merge.Merge.TheVariants as by
-use Rattle.hiera_merge.specs.Digging.{parts, member, dug}
+use Rattle.hiera_merge.specs.Digging.{parts, dug}
 use Rattle.hiera_merge.specs.Merges.{merged}
 use Rattle.hiera_merge.specs.Options.{merge_named, merge_in, merge_of}
 
@@ -43,7 +43,7 @@ hashes = refl
 -- in depth, with the keys in the same order, and the lower's members of lists first
 deeps : merged by.Deep high (middle ∷ low ∷ [])
     ≡ Some (hash (at (codes "c") (hash (at (codes "y") (n 2) ∷ at (codes "x") (n 1) ∷ [])) ∷ at (codes "d") (n 5) ∷ at (codes "a") (n 1)
-      ∷ at (codes "b") (list (n 2 ∷ n 3 ∷ n 1 ∷ [])) ∷ []))
+    ∷ at (codes "b") (list (n 2 ∷ n 3 ∷ n 1 ∷ [])) ∷ []))
 deeps = refl
 
 -- from the highest down, which shows where kinds differ: the list wins over the hash, and takes the lower list's members

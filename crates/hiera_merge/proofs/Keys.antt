@@ -1,5 +1,5 @@
 -- Each key of a hash is one.
-use Rattle.std.proofs.Common.{◌≡◌, ℕ, zero, suc, ◌<◌, ◌&&◌, IsTrue, List, [], ◌∷◌, length, get_or, arith, ap, true, ◌∙◌}
+use Rattle.std.proofs.Common.{◌≡◌, ℕ, zero, suc, ◌<◌, IsTrue, List, [], ◌∷◌, length, get_or, arith, ap, true, ◌∙◌}
 use Rattle.std.specs.Cmp.{first_so, second_so}
 use Rattle.pp_values.specs.declared.value.Value.{Value}
 use Rattle.pp_values.specs.Datum.{Pair}

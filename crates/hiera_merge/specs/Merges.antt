@@ -2,7 +2,7 @@
 use Rattle.std.specs.Prelude.{Bool, true, false, not, if◌then◌else◌, List, [], ◌∷◌, ◌++◌, Option, Some, None, option_map}
 use Rattle.std.specs.List.{list_any, list_all, fold}
 use Rattle.pp_funcs.specs.Lists.{flat, flat_members, with_new}
-use Rattle.pp_values.specs.Datum.{Datum, undef, list, hash, Data, Entries, no_entries, entry, Pair, data_of, members_of, entries_of, pairs_of}
+use Rattle.pp_values.specs.Datum.{Datum, list, hash, Entries, no_entries, entry, Pair, data_of, members_of, entries_of, pairs_of}
 use Rattle.pp_values.specs.Keys.{value_at, with_pair}
 use Rattle.hiera_merge.specs.declared.merge.Merge.{Merge}
 use Rattle.hiera_merge.specs.declared.merge.Merge.TheVariants as by

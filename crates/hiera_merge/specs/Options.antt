@@ -1,5 +1,5 @@
 -- Merges by name, and what `lookup_options` says of one key.
-use Rattle.std.specs.Prelude.{ℕ, if◌then◌else◌, List, [], ◌∷◌, Option, Some, None, option_and_then, codes}
+use Rattle.std.specs.Prelude.{ℕ, if◌then◌else◌, List, Option, Some, None, option_and_then, codes}
 use Rattle.std.specs.Str.{bytes_eq}
 use Rattle.pp_values.specs.Datum.{Datum, text, hash, Entries, no_entries, entry}
 use Rattle.pp_values.specs.Keys.{same_key}

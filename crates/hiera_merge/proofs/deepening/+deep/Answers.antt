@@ -1,13 +1,12 @@
 use Rattle.std.proofs.Common.{arith, ap}
 use Rattle.pp_values.specs.Datum as d
 use Rattle.pp_values.specs.Datum.{entries_of, data_of}
-use Rattle.pp_values.specs.Sizes.{datum_size, pairs_size}
+use Rattle.pp_values.specs.Sizes.{datum_size}
 use Rattle.pp_values.specs.Falls.{entries_size-entries_of}
 use Rattle.pp_values.specs.Views.{view}
 use Rattle.pp_values.proofs.Inner.{pair_falls}
 use Rattle.pp_values.proofs.Lists.{pairs_of-entries_of, members_of-data_of}
 use Rattle.hiera_merge.proofs.Keys.{key_at}
-use Rattle.hiera_merge.specs.Merges.{joined}
 use Rattle.hiera_merge.proofs.deepening.+deep.Goals as goal
 
 pub deep-deep_pairs-requires : goal.deep-deep_pairs-requires
@@ -33,6 +32,12 @@ deep-returns-in_ok-deep_pairs-in-Hash-Hash t c =
 
 pub deep-returns-in_ok-joined-in-List-List : goal.deep-returns-in_ok-joined-in-List-List
 deep-returns-in_ok-joined-in-List-List t c =
-    rw (c.in-List-List.is-0, c.in-List-List.is-1, members_of-data_of c.in-List-List.low, members_of-data_of c.in-List-List.high,
-      ← c.as_slice.ensures, ← c.as_slice-in-List-List.ensures)
+    rw (
+      c.in-List-List.is-0,
+      c.in-List-List.is-1,
+      members_of-data_of c.in-List-List.low,
+      members_of-data_of c.in-List-List.high,
+      ← c.as_slice.ensures,
+      ← c.as_slice-in-List-List.ensures,
+    )
     (ap (λ ds. d.list (data_of ds)) c.in_ok-joined-in-List-List.ensures)

@@ -103,3 +103,7 @@ module _ {A T : Type 0} (step : A → T → Meant A) where
 pub turns_end : {A T : Type 0} (step : A → T → Meant A) (a : A) (left : List T) → left ≡ [] → in_turn step a left ≡ Ok a
 unfolding in_turn
 turns_end step a left is = rw is refl
+
+-- what begins with nothing found
+pub from_none : {A B X : Type 0} {k : A → Meant B} (start : List X → Meant A) (found : List X) → found ≡ [] → go_on (start []) k ≡ go_on (start found) k
+from_none {k = k} start found is = ap (λ xs. go_on (start xs) k) (sym is)

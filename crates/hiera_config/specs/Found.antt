@@ -24,7 +24,7 @@ shown_config (Some c) = c.now
 -- the name of a mapped path stands for a value, or for each of several
 abbrev pub in_mapped_by : Search → Variables → MappedPath → List Source → Datum → Meant (List Source)
 in_mapped_by search variables m found d =
-    in_mapped search.data.now search.key.now search.folder.now m.level.now variables m.name.now m.template.now found d
+    in_mapped search.files.now search.key.now search.folder.now m.level.now variables m.name.now m.template.now found d
 
 abbrev pub mapped_from : Search → Variables → MappedPath → List Source → List Datum → Meant (List Source)
 mapped_from search variables m found ds = in_turn (in_mapped_by search variables m) found ds

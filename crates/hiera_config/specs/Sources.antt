@@ -47,11 +47,11 @@ in_file files key found path = in_text key found path (text_at path files)
 
 -- a path: the configuration's folder, the level's folder of data, `/`, and what the template says
 abbrev pub joined_path : List ℕ → List ℕ → List ℕ → List ℕ
-joined_path folder data template = folder ++ data ++ codes "/" ++ template
+joined_path folder inner template = folder ++ inner ++ codes "/" ++ template
 
 abbrev pub path_of : Variables → List ℕ → Level → List ℕ → Meant (List ℕ)
 path_of variables folder level template =
-    go_on (path_text variables level.folder) (λ data. go_on (path_text variables template) (λ path. Ok (joined_path folder data path)))
+    go_on (path_text variables level.folder) (λ inner. go_on (path_text variables template) (λ path. Ok (joined_path folder inner path)))
 
 unfoldable pub in_template : List File → List ℕ → List ℕ → Level → Variables → List Source → List ℕ → Meant (List Source)
 in_template files key folder level variables found template =
@@ -123,9 +123,9 @@ in_module files key variables (Some name) found =
 
 -- the sources of a key: of the global layer, of the environment, and of this module, if there is one
 abbrev pub sources : List File → Variables → Option (List ℕ) → List ℕ → Meant (List Source)
-sources files variables module key =
+sources files variables name key =
     go_on (in_layer files key variables global_folder [])
-    (λ found. go_on (in_layer files key variables [] found) (in_module files key variables module))
+    (λ found. go_on (in_layer files key variables [] found) (in_module files key variables name))
 
 -- ---- the module of a key
 

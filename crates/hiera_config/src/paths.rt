@@ -23,16 +23,16 @@ pub fn path_of(
 ) -> Result<Text, Refused>
     ensures { MeetsBy (λ t. t) result (path_of (seen variables.now) folder.now level.now template.now) }
 {
-    let data = path_text(alloc, variables, level.folder.as_str())?;
+    let inner = path_text(alloc, variables, level.folder.as_str())?;
     let path = path_text(alloc, variables, template)?;
-    Ok(joined_path(alloc, folder, data.as_str(), path.as_str())?)
+    Ok(joined_path(alloc, folder, inner.as_str(), path.as_str())?)
 }
 
-fn joined_path(alloc: Global, folder: &str, data: &str, path: &str) -> Result<Text, Memory>
-    ensures { IfOk result (λ t. t ≡ joined_path folder.now data.now path.now) }
+fn joined_path(alloc: Global, folder: &str, inner: &str, path: &str) -> Result<Text, Memory>
+    ensures { IfOk result (λ t. t ≡ joined_path folder.now inner.now path.now) }
 {
     let mut joined = String::from_str(alloc, folder)?;
-    joined.push_str(data)?;
+    joined.push_str(inner)?;
     joined.push_str("/")?;
     joined.push_str(path)?;
     Ok(Text::new(joined))

@@ -39,7 +39,7 @@ impl Drop for Source {
 /// What is looked for: a key, in the files of a configuration's folder.
 #[derive(Clone, Copy)]
 struct Search<'a> {
-    data: &'a SiteData,
+    files: &'a SiteData,
     folder: &'a str,
     key: &'a str,
 }
@@ -56,65 +56,79 @@ struct MappedPath<'a> {
 /// one.
 pub fn sources(
     alloc: Global,
-    data: &SiteData,
+    files: &SiteData,
     variables: &Variables<'_>,
-    module: Option<&str>,
+    module_name: Option<&str>,
     key: &str,
 ) -> Result<Vec<Source>, Refused>
     ensures { MeetsBy (λ v. source_views v.items) result
-        (spec.sources data.now (seen variables.now) (option_map (λ m. m.now) module.entry) key.now) }
+        (spec.sources files.now (seen variables.now) (option_map (λ m. m.now) module_name.entry) key.now) }
 {
     let mut found = Vec::new(alloc);
-    add_from_layer(alloc, data, variables, "global/", key, &mut found)?;
-    add_from_layer(alloc, data, variables, "", key, &mut found)?;
-    add_from_module(alloc, data, variables, module, key, &mut found)?;
+    add_from_layer(alloc, files, variables, "global/", key, &mut found)?;
+    add_from_layer(alloc, files, variables, "", key, &mut found)?;
+    add_from_module(alloc, files, variables, module_name, key, &mut found)?;
     Ok(found)
 }
 
 #[tactic(auto, unfolding(crate::specs::Sources::in_layer))]
 fn add_from_layer(
     alloc: Global,
-    data: &SiteData,
+    files: &SiteData,
     variables: &Variables<'_>,
     folder: &str,
     key: &str,
     found: &mut Vec<Source>,
 ) -> Result<(), Refused>
     ensures { MeetsBy (λ u. source_views found.new.items) result
-        (spec.in_layer data.now key.now (seen variables.now) folder.now (source_views found.old.items)) }
+        (spec.in_layer files.now key.now (seen variables.now) folder.now (source_views found.old.items)) }
 {
-    match config_in(alloc, data, folder)? {
-        Some(config) => {
-            let search = Search { data, folder, key };
-            add_from_levels(alloc, &search, variables, config.levels.as_slice(), found)
-        }
-        None => Ok(()),
-    }
+    let config = config_in(alloc, files, folder)?;
+    let search = Search { files, folder, key };
+    add_from_levels(alloc, &search, variables, levels_of(config), found)
 }
 
 #[tactic(auto, unfolding(crate::specs::Sources::in_module))]
 fn add_from_module(
     alloc: Global,
-    data: &SiteData,
+    files: &SiteData,
     variables: &Variables<'_>,
-    module: Option<&str>,
+    module_name: Option<&str>,
     key: &str,
     found: &mut Vec<Source>,
 ) -> Result<(), Refused>
     ensures { MeetsBy (λ u. source_views found.new.items) result
-        (spec.in_module data.now key.now (seen variables.now) (option_map (λ m. m.now) module.entry)
+        (spec.in_module files.now key.now (seen variables.now) (option_map (λ m. m.now) module_name.entry)
         (source_views found.old.items)) }
 {
-    let Some(name) = module else {
+    let Some(name) = module_name else {
         return Ok(());
     };
     let folder = module_folder(alloc, name)?;
-    match config_in(alloc, data, folder.as_str())? {
-        Some(config) => {
-            let search = Search { data, folder: folder.as_str(), key };
-            add_from_config(alloc, &search, variables, config, found)
-        }
-        None => Ok(()),
+    let config = config_in(alloc, files, folder.as_str())?;
+    let search = Search {
+        files,
+        folder: folder.as_str(),
+        key,
+    };
+    add_from_config(alloc, &search, variables, config, found)
+}
+
+fn levels_of<'a>(config: Option<&'a Config>) -> &'a [Level]
+    ensures { result.now ≡ (shown_config config.entry).levels }
+{
+    match config {
+        Some(config) => config.levels.as_slice(),
+        None => &[],
+    }
+}
+
+fn default_levels_of<'a>(config: Option<&'a Config>) -> &'a [Level]
+    ensures { result.now ≡ (shown_config config.entry).default_levels }
+{
+    match config {
+        Some(config) => config.default_levels.as_slice(),
+        None => &[],
     }
 }
 
@@ -130,14 +144,14 @@ fn module_folder(alloc: Global, name: &str) -> Result<Text, Memory>
 /// The configuration of a folder, if there is one.
 fn config_in<'a>(
     alloc: Global,
-    data: &'a SiteData,
+    files: &'a SiteData,
     folder: &str,
 ) -> Result<Option<&'a Config>, Refused>
     ensures { MeetsBy shown_config result
-        (spec.config_in data.now folder.now) }
+        (spec.config_in files.now folder.now) }
 {
     let path = config_path(alloc, folder)?;
-    match data.get(&path) {
+    match files.get(&path) {
         Some(file) => match &file.config {
             Some(config) => Ok(Some(config)),
             None => Err(bad_data(alloc, path.as_str())),
@@ -159,16 +173,30 @@ fn add_from_config(
     alloc: Global,
     search: &Search<'_>,
     variables: &Variables<'_>,
-    config: &Config,
+    config: Option<&Config>,
     found: &mut Vec<Source>,
 ) -> Result<(), Refused>
     ensures { MeetsBy (λ u. source_views found.new.items) result
-        (spec.in_module_config search.now.data.now search.now.key.now (seen variables.now) search.now.folder.now
-        (source_views found.old.items) config.now) }
+        (spec.in_module_config search.now.files.now search.now.key.now (seen variables.now) search.now.folder.now
+        (source_views found.old.items) (shown_config config.entry)) }
 {
-    add_from_levels(alloc, search, variables, config.levels.as_slice(), found)?;
+    add_from_levels(alloc, search, variables, levels_of(config), found)?;
+    add_default(alloc, search, variables, default_levels_of(config), found)
+}
+
+fn add_default(
+    alloc: Global,
+    search: &Search<'_>,
+    variables: &Variables<'_>,
+    levels: &[Level],
+    found: &mut Vec<Source>,
+) -> Result<(), Refused>
+    ensures { MeetsBy (λ u. source_views found.new.items) result
+        (spec.or_default search.now.files.now search.now.key.now (seen variables.now) search.now.folder.now levels.now
+        (source_views found.old.items)) }
+{
     if found.is_empty() {
-        add_from_levels(alloc, search, variables, config.default_levels.as_slice(), found)
+        add_from_levels(alloc, search, variables, levels, found)
     } else {
         Ok(())
     }
@@ -182,7 +210,7 @@ fn add_from_levels(
     found: &mut Vec<Source>,
 ) -> Result<(), Refused>
     ensures { MeetsBy (λ u. source_views found.new.items) result
-        (spec.in_levels search.now.data.now search.now.key.now search.now.folder.now (seen variables.now)
+        (spec.in_levels search.now.files.now search.now.key.now search.now.folder.now (seen variables.now)
         (source_views found.old.items) levels.now) }
 {
     for level in levels {
@@ -200,7 +228,7 @@ fn add_from_level(
     found: &mut Vec<Source>,
 ) -> Result<(), Refused>
     ensures { MeetsBy (λ u. source_views found.new.items) result
-        (spec.in_level search.now.data.now search.now.key.now search.now.folder.now (seen variables.now)
+        (spec.in_level search.now.files.now search.now.key.now search.now.folder.now (seen variables.now)
         (source_views found.old.items) level.now) }
 {
     match &level.paths {
@@ -231,7 +259,7 @@ fn add_from_templates(
     found: &mut Vec<Source>,
 ) -> Result<(), Refused>
     ensures { MeetsBy (λ u. source_views found.new.items) result
-        (in_turn (spec.in_template search.now.data.now search.now.key.now search.now.folder.now level.now
+        (in_turn (spec.in_template search.now.files.now search.now.key.now search.now.folder.now level.now
         (seen variables.now)) (source_views found.old.items) templates.now) }
 {
     for template in templates {
@@ -288,7 +316,14 @@ fn add_for_value(
         (in_mapped_by search.now (seen variables.now) mapped.now (source_views found.old.items) (view value.now)) }
 {
     let variables = variables.hiding(mapped.name, value);
-    add_from_template(alloc, search, &variables, mapped.level, mapped.template, found)
+    add_from_template(
+        alloc,
+        search,
+        &variables,
+        mapped.level,
+        mapped.template,
+        found,
+    )
 }
 
 #[tactic(auto, unfolding(crate::specs::Sources::in_template))]
@@ -301,25 +336,25 @@ fn add_from_template(
     found: &mut Vec<Source>,
 ) -> Result<(), Refused>
     ensures { MeetsBy (λ u. source_views found.new.items) result
-        (spec.in_template search.now.data.now search.now.key.now search.now.folder.now level.now (seen variables.now)
+        (spec.in_template search.now.files.now search.now.key.now search.now.folder.now level.now (seen variables.now)
         (source_views found.old.items) template.now) }
 {
     let path = path_of(alloc, variables, search.folder, level, template)?;
-    add_from_file(alloc, search.data, search.key, path, found)
+    add_from_file(alloc, search.files, search.key, path, found)
 }
 
 /// What the file at a path has for the key. Where there is no file, nothing.
 fn add_from_file(
     alloc: Global,
-    data: &SiteData,
+    files: &SiteData,
     key: &str,
     path: Text,
     found: &mut Vec<Source>,
 ) -> Result<(), Refused>
     ensures { MeetsBy (λ u. source_views found.new.items) result
-        (spec.in_file data.now key.now (source_views found.old.items) path) }
+        (spec.in_file files.now key.now (source_views found.old.items) path) }
 {
-    match data.get(&path) {
+    match files.get(&path) {
         Some(file) => add_from_json(alloc, &file.json, key, path, found),
         None => Ok(()),
     }
@@ -362,12 +397,7 @@ fn add_member(
     }
 }
 
-fn add_value(
-    alloc: Global,
-    json: &Json,
-    path: Text,
-    found: &mut Vec<Source>,
-) -> Result<(), Refused>
+fn add_value(alloc: Global, json: &Json, path: Text, found: &mut Vec<Source>) -> Result<(), Refused>
     ensures { MeetsBy (λ u. source_views found.new.items) result
         (spec.value_or_fault (source_views found.old.items) path (strict (json_view json.now))) }
 {

@@ -68,7 +68,10 @@ impl<'a> Variables<'a> {
         let file = Text::from_str(alloc, "")?;
         let name = Text::from_str(alloc, name)?;
         // A name without a value is the only fault, and its place is not told.
-        match self.scopes.read(alloc, self.scope, &name, &Place { file, line: 0 }) {
+        match self
+            .scopes
+            .read(alloc, self.scope, &name, &Place { file, line: 0 })
+        {
             Ok(value) => Ok(Some(value)),
             Err(_) => Ok(None),
         }

@@ -13,10 +13,10 @@ loop-before-preserved c =
     let rest = pieces_by (form_by c.args.in_path) c.in-Some-cut_at.after.now in (
       search rules,
       ap (λ (ps : List Piece). ps ++ rest) (c.in_ok-add_form.ensures.added ∙ ap (λ (ps : List Piece). ps ++ piece_in c.in-Some.behind.now form ∷ []) c.in_ok-push.ensures.items)
-      ∙ two_more c.loop-before.pieces.items (piece.Letters c.in_ok-from_str.field-0) (piece_in c.in-Some.behind.now form) rest
-      ∙ ap (λ t. c.loop-before.pieces.items ++ (piece.Letters t ∷ piece_in c.in-Some.behind.now form ∷ rest)) c.in_ok-from_str.ensures
-      ∙ ap (λ ps. c.loop-before.pieces.items ++ ps) (sym (pieces_more (form_by c.args.in_path) _ _ _ form c.in-Some.ensures c.in-Some-cut_at.ensures (c.form_by.ensures ∙ ap (form_by c.args.in_path) c.trimmed.ensures) (sym c.in_ok-add_form.ensures.goes_on ∙ c.if-not-branch.false)))
-      ∙ c.loop-before.invariant.1,
+          ∙ two_more c.loop-before.pieces.items (piece.Letters c.in_ok-from_str.field-0) (piece_in c.in-Some.behind.now form) rest
+          ∙ ap (λ t. c.loop-before.pieces.items ++ (piece.Letters t ∷ piece_in c.in-Some.behind.now form ∷ rest)) c.in_ok-from_str.ensures
+          ∙ ap (λ ps. c.loop-before.pieces.items ++ ps) (sym (pieces_more (form_by c.args.in_path) _ _ _ form c.in-Some.ensures c.in-Some-cut_at.ensures (c.form_by.ensures ∙ ap (form_by c.args.in_path) c.trimmed.ensures) (sym c.in_ok-add_form.ensures.goes_on ∙ c.if-not-branch.false)))
+          ∙ c.loop-before.invariant.1,
     )
 
 pub loop-before-smaller : goal.loop-before-smaller
@@ -41,4 +41,8 @@ returns-then-not-branch c =
     ∙ c.loop-before.invariant.1
 
 pub returns : goal.returns
-returns c = ?
+returns c =
+    c.in_ok-push-2.ensures.items
+    ∙ ap (λ t. c.loop-before.pieces.items ++ piece.Letters t ∷ []) c.in_ok-from_str-2.ensures
+    ∙ ap (λ ps. c.loop-before.pieces.items ++ ps) (sym (pieces_whole (form_by c.args.in_path) _ c.in_default.ensures))
+    ∙ c.loop-before.invariant.1

@@ -8,5 +8,5 @@ use Rattle.hiera_config.proofs.searching.add_from_templates.Given as goal
 
 abbrev pub invariant-loop-template : goal.invariant-loop-template
 invariant-loop-template l =
-    in_turn (in_template l.search.data.now l.search.key.now l.search.folder.now l.level (seen l.variables)) (source_views l.found.items) (drop l.template-index l.templates)
-    ≡ in_turn (in_template l.search.data.now l.search.key.now l.search.folder.now l.level (seen l.variables)) (source_views l.initial.found.items) l.templates
+    in_turn (in_template l.search.files.now l.search.key.now l.search.folder.now l.level (seen l.variables)) (source_views l.found.items) (drop l.template-index l.templates)
+    ≡ in_turn (in_template l.search.files.now l.search.key.now l.search.folder.now l.level (seen l.variables)) (source_views l.initial.found.items) l.templates

@@ -44,13 +44,22 @@ fn looks(
     let scopes = scopes_with(alloc, "facts", "{\"who\":\"me\",\"list\":[1,\"%{nope}\"]}")?;
     let key = Text::from_str(alloc, key)?;
     let file = Text::from_str(alloc, "lookup")?;
-    let answer = lookup(alloc, &data, &scopes, ScopeId::TOP, &key, merge, &Place { file, line: 1 });
+    let answer = lookup(
+        alloc,
+        &data,
+        &scopes,
+        ScopeId::TOP,
+        &key,
+        merge,
+        &Place { file, line: 1 },
+    );
     Ok(told(alloc, answer)?.as_str() == want)
 }
 
 const ONE: &str = "{\"version\":5,\"hierarchy\":[{\"name\":\"one\",\"path\":\"one.json\"}]}";
 
-const TWO: &str = "{\"version\":5,\"hierarchy\":[{\"name\":\"all\",\"paths\":[\"high.json\",\"low.json\"]}]}";
+const TWO: &str =
+    "{\"version\":5,\"hierarchy\":[{\"name\":\"all\",\"paths\":[\"high.json\",\"low.json\"]}]}";
 
 /// Texts with interpolations, and look-ups within look-ups.
 const TEXTS: Files = &[
@@ -92,7 +101,10 @@ const TOLD: [(&str, &str); 27] = [
     ("null", "null"),
     ("undone", "\"!\""),
     ("z", "[\"\"]"),
-    ("keys", "{\"__ptype\":\"Hash\",\"__pvalue\":[7,1,\"[1, me]\",2]}"),
+    (
+        "keys",
+        "{\"__ptype\":\"Hash\",\"__pvalue\":[7,1,\"[1, me]\",2]}",
+    ),
 ];
 
 #[test]
@@ -120,12 +132,20 @@ const OPTIONS: Files = &[
 ];
 
 const OPTED: [(&str, Option<Merge>, &str); 15] = [
-    ("h", None, "{\"__ptype\":\"Hash\",\"__pvalue\":[\"b\",2,\"a\",1]}"),
+    (
+        "h",
+        None,
+        "{\"__ptype\":\"Hash\",\"__pvalue\":[\"b\",2,\"a\",1]}",
+    ),
     ("h", Some(Merge::First), "{\"a\":1}"),
     ("h.b", None, "2"),
     ("h.b", Some(Merge::First), "none"),
     ("u", None, "[1,2]"),
-    ("d.k", None, "{\"__ptype\":\"Hash\",\"__pvalue\":[\"b\",2,\"a\",1]}"),
+    (
+        "d.k",
+        None,
+        "{\"__ptype\":\"Hash\",\"__pvalue\":[\"b\",2,\"a\",1]}",
+    ),
     ("d.k", Some(Merge::Hash), "{\"a\":1}"),
     ("e", None, "1"),
     ("none", None, "none"),
@@ -149,14 +169,46 @@ fn options(rt: HostRuntime) -> Result<(), Fail> {
 /// The text of the one data file, a key, and what it gives.
 const WITHIN: [(&str, &str, &str); 9] = [
     ("{\"lookup_options\":1,\"k\":1}", "k", "F22 lookup_options"),
-    ("{\"lookup_options\":1,\"k\":1}", "none", "F22 lookup_options"),
-    ("{\"lookup_options\":1,\"k\":1}", "lookup_options", "F22 lookup_options"),
-    ("{\"lookup_options\":{\"o\":{\"merge\":\"%{lookup('k')}\"}},\"k\":1}", "k", "F21 k"),
-    ("{\"lookup_options\":{\"o\":{\"merge\":\"%{lookup('x')}\"}},\"k\":1}", "k", "F21 lookup_options"),
-    ("{\"lookup_options\":{\"o\":\"%{f(}\"},\"k\":1}", "k", "F24 %{f(}"),
-    ("{\"lookup_options\":{\"k\":{\"merge\":\"%{lookup('lookup_options.z')}\"},\"z\":\"unique\"},\"k\":[1,1]}", "k", "[1]"),
-    ("{\"lookup_options\":{\"k\":{\"merge\":\"%{facts.none}\"}},\"k\":1}", "k", "F23 data/one.json"),
-    ("{\"lookup_options\":{\"k\":[]},\"k\":1}", "lookup_options.k", "[]"),
+    (
+        "{\"lookup_options\":1,\"k\":1}",
+        "none",
+        "F22 lookup_options",
+    ),
+    (
+        "{\"lookup_options\":1,\"k\":1}",
+        "lookup_options",
+        "F22 lookup_options",
+    ),
+    (
+        "{\"lookup_options\":{\"o\":{\"merge\":\"%{lookup('k')}\"}},\"k\":1}",
+        "k",
+        "F21 k",
+    ),
+    (
+        "{\"lookup_options\":{\"o\":{\"merge\":\"%{lookup('x')}\"}},\"k\":1}",
+        "k",
+        "F21 lookup_options",
+    ),
+    (
+        "{\"lookup_options\":{\"o\":\"%{f(}\"},\"k\":1}",
+        "k",
+        "F24 %{f(}",
+    ),
+    (
+        "{\"lookup_options\":{\"k\":{\"merge\":\"%{lookup('lookup_options.z')}\"},\"z\":\"unique\"},\"k\":[1,1]}",
+        "k",
+        "[1]",
+    ),
+    (
+        "{\"lookup_options\":{\"k\":{\"merge\":\"%{facts.none}\"}},\"k\":1}",
+        "k",
+        "F23 data/one.json",
+    ),
+    (
+        "{\"lookup_options\":{\"k\":[]},\"k\":1}",
+        "lookup_options.k",
+        "[]",
+    ),
 ];
 
 fn looks_in(alloc: Global, text: &str, key: &str, want: &str) -> Result<bool, Fail> {
@@ -164,14 +216,28 @@ fn looks_in(alloc: Global, text: &str, key: &str, want: &str) -> Result<bool, Fa
     let scopes = scopes_with(alloc, "facts", "{}")?;
     let key = Text::from_str(alloc, key)?;
     let file = Text::from_str(alloc, "lookup")?;
-    let answer = lookup(alloc, &data, &scopes, ScopeId::TOP, &key, None, &Place { file, line: 1 });
+    let answer = lookup(
+        alloc,
+        &data,
+        &scopes,
+        ScopeId::TOP,
+        &key,
+        None,
+        &Place { file, line: 1 },
+    );
     Ok(told(alloc, answer)?.as_str() == want)
 }
 
 fn site_with(alloc: Global, text: &str) -> Result<SiteData, Memory> {
     let mut pairs = TextPairs::new(alloc);
-    pairs.push((Text::from_str(alloc, "data/one.json")?, Text::from_str(alloc, text)?))?;
-    pairs.push((Text::from_str(alloc, "hiera.yaml")?, Text::from_str(alloc, ONE)?))?;
+    pairs.push((
+        Text::from_str(alloc, "data/one.json")?,
+        Text::from_str(alloc, text)?,
+    ))?;
+    pairs.push((
+        Text::from_str(alloc, "hiera.yaml")?,
+        Text::from_str(alloc, ONE)?,
+    ))?;
     data_from(alloc, &pairs)
 }
 
@@ -187,7 +253,11 @@ fn options_within(rt: HostRuntime) -> Result<(), Fail> {
 fn chain(alloc: Global, count: u32) -> Result<String, Memory> {
     let mut out = String::from_str(alloc, "{")?;
     for number in 1..count {
-        write!(&mut out, "\"k{number}\":\"%{{lookup('k{}')}}\",", number + 1)?;
+        write!(
+            &mut out,
+            "\"k{number}\":\"%{{lookup('k{}')}}\",",
+            number + 1
+        )?;
     }
     write!(&mut out, "\"k{count}\":\"end\"}}")?;
     Ok(out)

@@ -47,7 +47,8 @@ fn gives(alloc: Global, merge: Merge, sources: &str, want: Option<&str>) -> Resu
     is_form(alloc, &value, want)
 }
 
-const THREE: &str = "[{\"a\":1,\"b\":[1,2]},{\"a\":2,\"b\":[2,3],\"c\":{\"x\":1}},{\"c\":{\"y\":2},\"d\":5}]";
+const THREE: &str =
+    "[{\"a\":1,\"b\":[1,2]},{\"a\":2,\"b\":[2,3],\"c\":{\"x\":1}},{\"c\":{\"y\":2},\"d\":5}]";
 
 const MERGES: [(Merge, &str, Option<&str>); 12] = [
     (Merge::First, THREE, Some("{\"a\":1,\"b\":[1,2]}")),
@@ -64,8 +65,16 @@ const MERGES: [(Merge, &str, Option<&str>); 12] = [
         ),
     ),
     (Merge::Unique, THREE, None),
-    (Merge::Unique, "[[1,[2]],[2,3],\"4\"]", Some("[1,2,3,\"4\"]")),
-    (Merge::Unique, "[\"a\",[\"A\",[\"a\"]]]", Some("[\"a\",\"A\"]")),
+    (
+        Merge::Unique,
+        "[[1,[2]],[2,3],\"4\"]",
+        Some("[1,2,3,\"4\"]"),
+    ),
+    (
+        Merge::Unique,
+        "[\"a\",[\"A\",[\"a\"]]]",
+        Some("[\"a\",\"A\"]"),
+    ),
     (Merge::First, "[null,1]", Some("null")),
     (Merge::Hash, "[{\"a\":1},[]]", None),
     (Merge::Deep, "[{\"a\":1},2]", None),

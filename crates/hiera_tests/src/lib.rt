@@ -8,4 +8,8 @@ mod data;
 #[cfg(test)]
 mod forms;
 #[cfg(test)]
+mod lookups;
+#[cfg(test)]
+mod merges;
+#[cfg(test)]
 mod sources;

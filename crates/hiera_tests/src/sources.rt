@@ -8,9 +8,9 @@ use std::alloc::Global;
 use std::test::Fail;
 
 /// The files of a site: a path and a text, in turn.
-type Files = &'static [(&'static str, &'static str)];
+pub type Files = &'static [(&'static str, &'static str)];
 
-fn data_of(alloc: Global, files: Files) -> Result<SiteData, Memory> {
+pub fn data_of(alloc: Global, files: Files) -> Result<SiteData, Memory> {
     let mut pairs = TextPairs::new(alloc);
     for (path, text) in files.iter() {
         let path = Text::from_str(alloc, path)?;
@@ -28,7 +28,7 @@ fn value_of(alloc: Global, json: &str) -> Result<Value, Fail> {
 }
 
 /// Top scope with one variable.
-fn scopes_with(alloc: Global, name: &str, json: &str) -> Result<Scopes, Fail> {
+pub fn scopes_with(alloc: Global, name: &str, json: &str) -> Result<Scopes, Fail> {
     let value = value_of(alloc, json)?;
     let name = Text::from_str(alloc, name)?;
     let file = Text::from_str(alloc, "")?;

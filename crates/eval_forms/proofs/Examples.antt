@@ -255,7 +255,8 @@ value_in (Err f) = None
 assigned_value : (alloc : Global) (manifests : Manifests)
     → (value_in (begun alloc manifests (sets_a (num 1))) ≡ Some (int 1))
     × (value_in (and_next (begun alloc manifests (sets_a (num 1))) (λ here. read here (codes "a") 8)) ≡ Some (int 1))
-unfolding assigned_rule assign scopes.assign read scopes.read scopes.found scopes.seen_from last_cut form.out-Form denote.Hole.Carrier.out
+unfolding assigned_rule assign scopes.assign read scopes.read scopes.found scopes.seen_from last_cut form.out-Form
+    denote.Hole.Carrier.out
 assigned_value alloc manifests = (refl, refl)
 
 abbrev refused : Global → Manifests → ℕ → What → Outcome Datum

@@ -89,7 +89,7 @@ default_body : Tells
     ∷ []) here)
     (record {
       titles = text a ∷ [];
-      lines = said a b 2 ∷ said b c 4 ∷ [];
+      lines = said b c 4 ∷ said a b 2 ∷ [];
       at = place 2;
     } ∷ [])
     (c ∷ c ∷ a ∷ b ∷ [])
@@ -98,7 +98,7 @@ default_body alloc manifests = refl
 
 -- an Undef that is written hides the default's value
 undef_is_written : filled (line a false d.undef (place 2) ∷ []) (said a c 3 ∷ said b c 3 ∷ [])
-    ≡ line a false d.undef (place 2) ∷ said b c 3 ∷ []
+    ≡ said b c 3 ∷ line a false d.undef (place 2) ∷ []
 undef_is_written = refl
 
 -- several default bodies are joined, so a name may stand twice; all bodies are filled in
@@ -110,7 +110,7 @@ defaults_joined : Tells
     ∷ titled_by (word b) (sets a (word a) 4 ∷ []) 4
     ∷ []) here)
     (record { titles = text a ∷ []; lines = said a b 1 ∷ said a c 3 ∷ said b c 3 ∷ []; at = place 2 }
-    ∷ record { titles = text b ∷ []; lines = said a a 4 ∷ said b c 3 ∷ []; at = place 4 } ∷ [])
+    ∷ record { titles = text b ∷ []; lines = said b c 3 ∷ said a a 4 ∷ []; at = place 4 } ∷ [])
     []
 unfolding bodies_rule defaults_from default_rule bodies_from body_rule lines_from attribute_rule setting_rule out-Form denote.Hole.Carrier.out owner_at
 defaults_joined alloc manifests = refl

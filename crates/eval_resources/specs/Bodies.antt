@@ -57,9 +57,9 @@ not_among names ls = filter (λ l. not (has_text names l.name)) ls
 abbrev pub unwritten : List Line → List Line → List Line
 unwritten own defaults = not_among (line_names own) defaults
 
--- what the body writes itself, and behind that what the default body fills in
+-- what the default body fills in, and behind that what the body writes itself
 abbrev pub filled : List Line → List Line → List Line
-filled own defaults = own ++ unwritten own defaults
+filled own defaults = unwritten own defaults ++ own
 
 -- The titles come first, then the lines. Lists of titles are flattened.
 unfoldable pub body_rule : Inner → List Line → tree.Body Expr → Here → Step Body

@@ -9,13 +9,21 @@ use res_core::{Line, Lines};
 use std::alloc::Global;
 use std::collections::BTreeSet;
 
-/// A body's own lines, and behind them those of the default body whose names it doesn't write.
+/// The lines of the default body whose names a body doesn't write, and behind them its own.
 #[tactic(auto, using(crate::proofs::NameSets::unwritten_sorted))]
 pub fn filled(alloc: Global, own: Lines, defaults: &Lines) -> Result<Lines, Memory>
     ensures { IfOk result (λ ls. lines_of ls ≡ spec.filled (lines_of own) (lines_of defaults.now)) }
 {
     let names = names_of(alloc, own.as_slice())?;
-    with_unwritten(alloc, own, &names, defaults.as_slice())
+    let unwritten = with_unwritten(alloc, Lines::new(alloc), &names, defaults.as_slice())?;
+    joined(unwritten, own)
+}
+
+fn joined(mut done: Lines, more: Lines) -> Result<Lines, Memory>
+    ensures { IfOk result (λ ls. lines_of ls ≡ lines_of done ++ lines_of more) }
+{
+    done.append(more)?;
+    Ok(done)
 }
 
 /// The names of lines.

@@ -1,1 +1,3 @@
 pub mod ValueForm
+pub mod FromData
+pub mod Forms

@@ -100,7 +100,7 @@ fn member_forms(alloc: Global, pairs: &[(Value, Value)]) -> Result<Map<String, J
 }
 
 /// Whether the keys are texts, none begins with `__p`, and each is below the next.
-fn is_plain(pairs: &[(Value, Value)]) -> bool
+pub(crate) fn is_plain(pairs: &[(Value, Value)]) -> bool
     ensures { result ≡ plain (entries_of (pair_views pairs.now)) }
 {
     let mut left = pairs;

@@ -1,0 +1,96 @@
+//! The four merges.
+ghost use Rattle.std.specs.Prelude.{◌≡◌, ◌∷◌, IfOk, option_map};
+ghost use Rattle.std.specs.List.{list_any, list_all};
+ghost use Rattle.pp_funcs.specs.Lists.{behind};
+ghost use Rattle.pp_values.specs.Views.{view};
+ghost use Rattle.hiera_merge.specs.Merges.{is_hash, is_collection, takes, merge_all, merged};
+
+use crate::deepening::deep_merge;
+use crate::hashing::hash_merge;
+use crate::merge::Merge;
+use crate::uniting::united;
+use pp_values::{Memory, Value, copy};
+use std::alloc::Global;
+
+/// The values that sources have for one key as one value: the highest, and those of lower sources from the highest
+/// down. None where the merge does not take values of these kinds.
+pub fn merged(
+    alloc: Global,
+    merge: Merge,
+    high: &Value,
+    lower: &[&Value],
+) -> Result<Option<Value>, Memory>
+    ensures { IfOk result (λ o. option_map view o ≡ merged merge (view high.now) (behind lower.now)) }
+{
+    if !takes(merge, high, lower) {
+        return Ok(None);
+    }
+    Ok(Some(merge_all(alloc, merge, high, lower)?))
+}
+
+fn takes(merge: Merge, high: &Value, lower: &[&Value]) -> bool
+    ensures { result ≡ takes merge (view high.now ∷ behind lower.now) }
+{
+    match merge {
+        Merge::First => true,
+        Merge::Unique => !(is_hash(high) || has_hash(lower)),
+        Merge::Hash => is_hash(high) && are_hashes(lower),
+        Merge::Deep => is_collection(high) && are_collections(lower),
+    }
+}
+
+fn merge_all(alloc: Global, merge: Merge, high: &Value, lower: &[&Value]) -> Result<Value, Memory>
+    ensures { IfOk result (λ v. view v ≡ merge_all merge (view high.now) (behind lower.now)) }
+{
+    match merge {
+        Merge::First => copy(alloc, high),
+        Merge::Unique => Ok(Value::List(united(alloc, high, lower)?)),
+        Merge::Hash => Ok(Value::Hash(hash_merge(alloc, high, lower)?)),
+        Merge::Deep => deep_merge(alloc, high, lower),
+    }
+}
+
+fn is_hash(value: &Value) -> bool
+    ensures { result ≡ is_hash (view value.now) }
+{
+    matches!(value, Value::Hash(_))
+}
+
+fn is_collection(value: &Value) -> bool
+    ensures { result ≡ is_collection (view value.now) }
+{
+    matches!(value, Value::List(_) | Value::Hash(_))
+}
+
+fn has_hash(values: &[&Value]) -> bool
+    ensures { result ≡ list_any is_hash (behind values.now) }
+{
+    for value in values {
+        if is_hash(value) {
+            return true;
+        }
+    }
+    false
+}
+
+fn are_hashes(values: &[&Value]) -> bool
+    ensures { result ≡ list_all is_hash (behind values.now) }
+{
+    for value in values {
+        if !is_hash(value) {
+            return false;
+        }
+    }
+    true
+}
+
+fn are_collections(values: &[&Value]) -> bool
+    ensures { result ≡ list_all is_collection (behind values.now) }
+{
+    for value in values {
+        if !is_collection(value) {
+            return false;
+        }
+    }
+    true
+}

@@ -1,0 +1,80 @@
+//! Lists without repeats.
+ghost use Rattle.std.specs.Prelude.{◌≡◌, ◌++◌, [], IfOk, OnOk};
+ghost use Rattle.std.specs.List.{fold};
+ghost use Rattle.pp_funcs.specs.Lists.{behind, flat, flat_members, with_new};
+ghost use Rattle.pp_values.specs.Datum.{data_of};
+ghost use Rattle.pp_values.specs.Views.{view, views};
+ghost use Rattle.hiera_merge.specs.Merges.{united, joined};
+
+use pp_funcs::seen::{Seen, is_new};
+use pp_values::{Memory, Value, Values, copy};
+use std::alloc::Global;
+
+/// The members of all these values, those of lists within them too, each once.
+pub fn united(alloc: Global, high: &Value, lower: &[&Value]) -> Result<Values, Memory>
+    ensures { IfOk result (λ l. l ≡ united (view high.now) (behind lower.now)) }
+{
+    let mut members = Vec::new(alloc);
+    add_flat(&mut members, high)?;
+    for value in lower {
+        add_flat(&mut members, value)?;
+    }
+    without_repeats(alloc, members.as_slice())
+}
+
+/// The members of both lists, each once.
+pub fn joined(alloc: Global, lower: &[Value], higher: &[Value]) -> Result<Values, Memory>
+    ensures { IfOk result (λ l. l ≡ joined (views lower.now) (views higher.now)) }
+{
+    let mut members = Vec::new(alloc);
+    add_each(&mut members, lower)?;
+    add_each(&mut members, higher)?;
+    without_repeats(alloc, members.as_slice())
+}
+
+/// Appends the members of the value, with those of each list among them in its place.
+#[cycle(flat)]
+fn add_flat<'a>(members: &mut Vec<&'a Value>, value: &'a Value) -> Result<(), Memory>
+    ensures { OnOk result (behind members.new.items ≡ behind members.old.items ++ flat (view value.now)) }
+{
+    match value {
+        Value::List(items) => add_flats(members, items.as_slice()),
+        _ => {
+            members.push(value)?;
+            Ok(())
+        }
+    }
+}
+
+#[cycle(flat)]
+fn add_flats<'a>(members: &mut Vec<&'a Value>, items: &'a [Value]) -> Result<(), Memory>
+    ensures { OnOk result (behind members.new.items
+        ≡ behind members.old.items ++ flat_members (data_of (views items.now))) }
+{
+    for item in items {
+        add_flat(members, item)?;
+    }
+    Ok(())
+}
+
+fn add_each<'a>(members: &mut Vec<&'a Value>, items: &'a [Value]) -> Result<(), Memory>
+    ensures { OnOk result (behind members.new.items ≡ behind members.old.items ++ views items.now) }
+{
+    for item in items {
+        members.push(item)?;
+    }
+    Ok(())
+}
+
+fn without_repeats(alloc: Global, members: &[&Value]) -> Result<Values, Memory>
+    ensures { IfOk result (λ l. l ≡ fold with_new [] (behind members.now)) }
+{
+    let mut kept = Values::new(alloc);
+    let mut seen = Seen::new(alloc);
+    for member in members {
+        if is_new(alloc, &mut seen, member)? {
+            kept.push(copy(alloc, member)?)?;
+        }
+    }
+    Ok(kept)
+}

@@ -1,0 +1,78 @@
+//! Values out of their forms.
+use json_values::{FormStop, from_form, to_form};
+use pp_values::Memory;
+use serde_json::Value as Json;
+use std::alloc::Global;
+use std::test::Fail;
+
+/// The form of the value that was read out of a form; `None` where it is no form.
+fn again(alloc: Global, text: &str) -> Result<Option<Json>, Fail> {
+    let json = Json::from_str(alloc, text)?;
+    match from_form(alloc, &json) {
+        Ok(value) => Ok(Some(to_form(alloc, &value)?)),
+        Err(FormStop::NoForm) => Ok(None),
+        Err(FormStop::Memory) => Err(Fail::from(Memory)),
+    }
+}
+
+fn is_form(alloc: Global, text: &str) -> Result<bool, Fail> {
+    match again(alloc, text)? {
+        Some(form) => Ok(form.to_string(alloc)?.as_str() == text),
+        None => Ok(false),
+    }
+}
+
+const FORMS: [&str; 13] = [
+    "null",
+    "false",
+    "-1",
+    "9223372036854775807",
+    "\"\"",
+    "[[],{},[null]]",
+    "{\"a\":1}",
+    "{\"a\":{\"b\":[2]},\"b\":\"__p\"}",
+    "{\"__ptype\":\"Hash\",\"__pvalue\":[\"b\",1,\"a\",2]}",
+    "{\"__ptype\":\"Hash\",\"__pvalue\":[1,[],\"1\",{\"x\":1}]}",
+    "{\"__ptype\":\"Hash\",\"__pvalue\":[\"__ptype\",\"Ref\"]}",
+    "{\"__ptype\":\"Ref\",\"kind\":\"web::vhost\",\"title\":\"/A\"}",
+    "{\"a\":{\"__ptype\":\"Ref\",\"kind\":\"file\",\"title\":\"\"}}",
+];
+
+#[test]
+fn forms(rt: HostRuntime) -> Result<(), Fail> {
+    for text in FORMS.iter() {
+        assert!(rt; is_form(rt.alloc(), text)?, "{text}");
+    }
+    Ok(())
+}
+
+const NO_FORMS: [&str; 17] = [
+    "1.5",
+    "9223372036854775808",
+    "[1,2.0]",
+    // The short form is due.
+    "{\"__ptype\":\"Hash\",\"__pvalue\":[\"a\",1,\"b\",2]}",
+    "{\"__ptype\":\"Hash\",\"__pvalue\":[]}",
+    // A key without a value, twice, or that is none.
+    "{\"__ptype\":\"Hash\",\"__pvalue\":[1]}",
+    "{\"__ptype\":\"Hash\",\"__pvalue\":[\"b\",1,\"b\",2]}",
+    "{\"__ptype\":\"Hash\",\"__pvalue\":[1,1,1,2]}",
+    "{\"__ptype\":\"Hash\",\"__pvalue\":[null,1]}",
+    "{\"__ptype\":\"Hash\",\"__pvalue\":[1,2.5]}",
+    // Other members that begin with `__p`, or are missing.
+    "{\"__pa\":1}",
+    "{\"__ptype\":\"Hash\"}",
+    "{\"__ptype\":\"Hash\",\"__pvalue\":{}}",
+    "{\"__ptype\":\"Ref\",\"kind\":\"File\",\"title\":\"a\"}",
+    "{\"__ptype\":\"Ref\",\"kind\":\"\",\"title\":\"a\"}",
+    "{\"__ptype\":\"Ref\",\"kind\":\"file\",\"title\":1}",
+    "{\"__ptype\":\"Ref\",\"kind\":\"file\",\"title\":\"a\",\"x\":1}",
+];
+
+#[test]
+fn no_forms(rt: HostRuntime) -> Result<(), Fail> {
+    for text in NO_FORMS.iter() {
+        assert!(rt; again(rt.alloc(), text)?.is_none(), "{text}");
+    }
+    Ok(())
+}

@@ -29,7 +29,12 @@ pub struct Evaluator<'a> {
 
 impl<'a> Evaluator<'a> {
     /// Before any statement of the main manifest, for a node with these facts.
-    pub fn start(alloc: Global, manifests: Manifests<'a>, node: &Text, facts: &Value) -> Result<Evaluator<'a>, Memory>
+    pub fn start(
+        alloc: Global,
+        manifests: Manifests<'a>,
+        node: &Text,
+        facts: &Value,
+    ) -> Result<Evaluator<'a>, Memory>
         ensures { IfOk result (λ e. e.world ≡ started alloc manifests.entry node.now (view facts.now)) }
     {
         Ok(Evaluator {
@@ -45,10 +50,21 @@ impl<'a> Evaluator<'a> {
     }
 
     /// The value of a block that stands at this depth and belongs to what begins at this line.
-    pub fn run_block(&mut self, block: &Block, line: u32, here: Here, depth: u32) -> Result<Evaluated, Stop>
+    pub fn run_block(
+        &mut self,
+        block: &Block,
+        line: u32,
+        here: Here,
+        depth: u32,
+    ) -> Result<Evaluated, Stop>
         ensures { Gives same (spec.block_at block.now line here depth self.old.world) result self.new.world }
     {
-        evaluate(&mut self.world, Goal::Block(block, line), here, levels_left(depth))
+        evaluate(
+            &mut self.world,
+            Goal::Block(block, line),
+            here,
+            levels_left(depth),
+        )
     }
 
     /// Runs the statements of the main manifest. A node definition is not evaluated yet.
@@ -56,7 +72,7 @@ impl<'a> Evaluator<'a> {
     pub fn run_main(&mut self) -> Result<(), Stop>
         ensures { Gives nothing
             (spec.main_rule self.old.world.manifests.main.now.statements self.old.world.manifests.main.now.definitions
-                self.old.world)
+            self.old.world)
             result self.new.world }
     {
         let main = self.world.manifests.main;

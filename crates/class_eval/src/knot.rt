@@ -9,7 +9,9 @@ ghost use Rattle.eval_world.specs.Outcomes.{Gives, same};
 use crate::postfixes::postfixed;
 use crate::statements::block;
 use eval_calls::{call, words};
-use eval_forms::{assigned, binary, case_of, hash, if_of, interpolated, list, prefix, type_of, unless_of};
+use eval_forms::{
+    assigned, binary, case_of, hash, if_of, interpolated, list, prefix, type_of, unless_of,
+};
 use eval_world::{Evaluated, Forms, Goal, Here, Meaning, World};
 use pp_tree::expr::{Expr, Form};
 use pp_values::{Memory, Stop, Text, Value, What};
@@ -55,7 +57,14 @@ pub fn form<F: Fn(&mut World<'_>, Goal<'_>, Here, u32) -> Result<Evaluated, Stop
         Form::Unless(choice) => unless_of(forms, world, choice, expr.at, here),
         Form::Case(choice) => case_of(forms, world, choice, expr.at, here),
         Form::Postfix(first, more) => postfixed(forms, world, first.get(), more, expr.at, here),
-        Form::Prefix(operator, operand) => prefix(forms, world, *operator, operand.get(), expr.at, here),
+        Form::Prefix(operator, operand) => prefix(
+            forms,
+            world,
+            *operator,
+            operand.get(),
+            expr.at,
+            here,
+        ),
         Form::Binary(first, more) => binary(forms, world, first.get(), more, expr.at, here),
         Form::Assign(name, value) => assigned(forms, world, name, value.get(), expr.at, here),
     }
@@ -87,7 +96,12 @@ pub fn too_deep(world: &World<'_>, goal: Goal<'_>, here: Here) -> Result<Evaluat
 }
 
 /// The value of a part, where so many levels are left for it and what is within it.
-pub fn evaluate(world: &mut World<'_>, goal: Goal<'_>, here: Here, left: u32) -> Result<Evaluated, Stop>
+pub fn evaluate(
+    world: &mut World<'_>,
+    goal: Goal<'_>,
+    here: Here,
+    left: u32,
+) -> Result<Evaluated, Stop>
     ensures { Gives same (asked (spec.within left) goal.entry here world.old) result world.new }
 {
     if left == 0 {

@@ -73,7 +73,13 @@ fn main_resource(alloc: Global) -> Result<Resource, Memory>
 {
     let kind = Kind::from_str(alloc, "class")?;
     let title = Text::from_str(alloc, "main")?;
-    let tags = tags_of(alloc, kind.as_text(), &title, &Texts::new(alloc), &Tags::new(alloc))?;
+    let tags = tags_of(
+        alloc,
+        kind.as_text(),
+        &title,
+        &Texts::new(alloc),
+        &Tags::new(alloc),
+    )?;
     Ok(Resource {
         kind,
         title,

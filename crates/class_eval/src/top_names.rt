@@ -25,7 +25,13 @@ pub fn put_top_names(
     put_facts(alloc, scopes, pairs_within(facts), at)
 }
 
-fn put_given(alloc: Global, scopes: &mut Scopes, node: &Text, facts: &Value, at: &Place) -> Result<(), Memory>
+fn put_given(
+    alloc: Global,
+    scopes: &mut Scopes,
+    node: &Text,
+    facts: &Value,
+    at: &Place,
+) -> Result<(), Memory>
     ensures { OnOk result (scopes.new ≡ spec.with_given node.now (view facts.now) scopes.old) }
 {
     put_named(alloc, scopes, "facts", copy(alloc, facts)?, at)?;
@@ -34,7 +40,13 @@ fn put_given(alloc: Global, scopes: &mut Scopes, node: &Text, facts: &Value, at:
     put_named(alloc, scopes, "environment", Value::Text(production), at)
 }
 
-fn put_named(alloc: Global, scopes: &mut Scopes, name: &str, value: Value, at: &Place) -> Result<(), Memory>
+fn put_named(
+    alloc: Global,
+    scopes: &mut Scopes,
+    name: &str,
+    value: Value,
+    at: &Place,
+) -> Result<(), Memory>
     ensures { OnOk result (scopes.new ≡ spec.with_new name.now (view value) scopes.old) }
 {
     let name = Text::from_str(alloc, name)?;
@@ -43,7 +55,13 @@ fn put_named(alloc: Global, scopes: &mut Scopes, name: &str, value: Value, at: &
 
 /// Sets a name of top scope; one that is there already stays.
 #[tactic(auto, unfolding(scope_core::specs::Scopes::assign))]
-fn put_new(alloc: Global, scopes: &mut Scopes, name: &Text, value: Value, at: &Place) -> Result<(), Memory>
+fn put_new(
+    alloc: Global,
+    scopes: &mut Scopes,
+    name: &Text,
+    value: Value,
+    at: &Place,
+) -> Result<(), Memory>
     ensures { OnOk result (scopes.new ≡ spec.with_new name.now (view value) scopes.old) }
 {
     match scopes.assign(alloc, ScopeId::TOP, name, value, at) {
@@ -64,7 +82,12 @@ fn pairs_within(facts: &Value) -> &[(Value, Value)]
 }
 
 #[tactic(auto, unfolding(crate::specs::Facts::with_facts))]
-fn put_facts(alloc: Global, scopes: &mut Scopes, facts: &[(Value, Value)], at: &Place) -> Result<(), Memory>
+fn put_facts(
+    alloc: Global,
+    scopes: &mut Scopes,
+    facts: &[(Value, Value)],
+    at: &Place,
+) -> Result<(), Memory>
     ensures { OnOk result (scopes.new ≡ spec.with_facts (pair_views facts.now) scopes.old) }
 {
     let mut rest = facts;
@@ -75,7 +98,13 @@ fn put_facts(alloc: Global, scopes: &mut Scopes, facts: &[(Value, Value)], at: &
     Ok(())
 }
 
-fn put_fact(alloc: Global, scopes: &mut Scopes, name: &Value, value: &Value, at: &Place) -> Result<(), Memory>
+fn put_fact(
+    alloc: Global,
+    scopes: &mut Scopes,
+    name: &Value,
+    value: &Value,
+    at: &Place,
+) -> Result<(), Memory>
     ensures { OnOk result (scopes.new ≡ spec.with_fact (view name.now) (view value.now) scopes.old) }
 {
     match name {
@@ -119,12 +148,32 @@ fn trusted(alloc: Global, node: &Text) -> Result<Value, Memory>
     ensures { IfOk result (λ v. view v ≡ spec.trusted node.now) }
 {
     let mut pairs = Pairs::new(alloc);
-    put(alloc, &mut pairs, "certname", Value::Text(node.copy(alloc)?))?;
+    put(
+        alloc,
+        &mut pairs,
+        "certname",
+        Value::Text(node.copy(alloc)?),
+    )?;
     put(alloc, &mut pairs, "hostname", host_of(alloc, node)?)?;
     put(alloc, &mut pairs, "domain", domain_of(alloc, node)?)?;
-    put(alloc, &mut pairs, "authenticated", Value::Text(Text::from_str(alloc, "remote")?))?;
-    put(alloc, &mut pairs, "extensions", Value::Hash(Pairs::new(alloc)))?;
-    put(alloc, &mut pairs, "external", Value::Hash(Pairs::new(alloc)))?;
+    put(
+        alloc,
+        &mut pairs,
+        "authenticated",
+        Value::Text(Text::from_str(alloc, "remote")?),
+    )?;
+    put(
+        alloc,
+        &mut pairs,
+        "extensions",
+        Value::Hash(Pairs::new(alloc)),
+    )?;
+    put(
+        alloc,
+        &mut pairs,
+        "external",
+        Value::Hash(Pairs::new(alloc)),
+    )?;
     Ok(Value::Hash(pairs))
 }
 

@@ -25,7 +25,7 @@ use Rattle.pp_values.specs.Sort as n
 use Rattle.pp_values.specs.declared.fault.What.{What}
 use Rattle.pp_values.specs.declared.fault.What.TheVariants as what
 use Rattle.scope_core.specs.Names.{last_cut}
-use Rattle.scope_core.specs.Scopes as scopes
+use Rattle.scope_core.specs.Scopes as s
 use Rattle.eval_world.specs.Arguments.{argument_rule, values_from}
 use Rattle.eval_world.specs.Outcomes.{Outcome, Step}
 use Rattle.eval_world.specs.Worlds.{assign, empty, read, place_at, write_log}
@@ -255,7 +255,7 @@ value_in (Err f) = None
 assigned_value : (alloc : Global) (manifests : Manifests)
     → (value_in (begun alloc manifests (sets_a (num 1))) ≡ Some (int 1))
     × (value_in (and_next (begun alloc manifests (sets_a (num 1))) (λ here. read here (codes "a") 8)) ≡ Some (int 1))
-unfolding assigned_rule assign scopes.assign read scopes.read scopes.found scopes.seen_from last_cut form.out-Form denote.Hole.Carrier.out
+unfolding assigned_rule assign s.assign read s.read s.found s.seen_from last_cut form.out-Form denote.Hole.Carrier.out
 assigned_value alloc manifests = (refl, refl)
 
 abbrev refused : Global → Manifests → ℕ → What → Outcome Datum
@@ -267,7 +267,7 @@ assigned_twice : (alloc : Global) (manifests : Manifests)
     ≡ refused alloc manifests 7 (what.Reassigned (codes "a")))
     × (and_next (begun alloc manifests (sets_a (num 1))) (sets_a x)
     ≡ refused alloc manifests 8 (what.UnknownVariable (codes "x")))
-unfolding assigned_rule assign scopes.assign form.out-Form denote.Hole.Carrier.out
+unfolding assigned_rule assign s.assign form.out-Form denote.Hole.Carrier.out
 assigned_twice alloc manifests = (refl, refl)
 
 -- ---- `if` and `unless`

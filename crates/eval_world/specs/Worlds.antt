@@ -67,7 +67,8 @@ assign here x d line = λ w. with_scopes (scopes.assign here.scope.number x d (p
 unfoldable pub enter_lambda : Here → Step Here
 enter_lambda here = λ w. Ok (
   record { scope = record { number = length w.scopes.scopes }; owner = here.owner },
-  record w { scopes = scopes.entered kind.Lambda here.scope.number w.scopes })
+  record w { scopes = scopes.entered kind.Lambda here.scope.number w.scopes },
+)
 
 abbrev pub left : Here → World → World
 left here w = record w { scopes = scopes.left here.scope.number w.scopes }

@@ -17,7 +17,10 @@ use pp_tree::operators::PrefixOperator;
 use pp_values::{Memory, Stop, Value, Values};
 use std::alloc::Global;
 
-impl<F: Fn(&mut World<'_>, Goal<'_>, Here, u32) -> Result<Evaluated, Stop>, M: Meaning> Forms<F, M> {
+impl<F: Fn(&mut World<'_>, Goal<'_>, Here, u32) -> Result<Evaluated, Stop>, M: Meaning> Forms<
+    F,
+    M,
+> {
     /// The values of arguments or of a list's members, in order, where `*` splices.
     #[tactic(auto, unfolding(crate::specs::Arguments::values_from))]
     pub fn values(&self, world: &mut World<'_>, args: &Args, here: Here) -> Result<Values, Stop>
@@ -34,7 +37,13 @@ impl<F: Fn(&mut World<'_>, Goal<'_>, Here, u32) -> Result<Evaluated, Stop>, M: M
     }
 
     #[tactic(auto, unfolding(crate::specs::Arguments::argument_rule))]
-    fn with_argument(&self, world: &mut World<'_>, done: Values, arg: &Expr, here: Here) -> Result<Values, Stop>
+    fn with_argument(
+        &self,
+        world: &mut World<'_>,
+        done: Values,
+        arg: &Expr,
+        here: Here,
+    ) -> Result<Values, Stop>
         requires { Nests (M.within self.now.left) self.now.left (F.pre self.now.inner) (F.post self.now.inner) }
         ensures { Gives same (spec.argument_rule (M.within self.now.left) done arg.now here world.old) result world.new }
     {
@@ -54,7 +63,12 @@ fn is_splat(arg: &Expr) -> bool
 }
 
 /// The values and this one, or its members where it is spliced.
-fn with_given(alloc: Global, mut done: Values, is_spliced: bool, value: Evaluated) -> Result<Values, Memory>
+fn with_given(
+    alloc: Global,
+    mut done: Values,
+    is_spliced: bool,
+    value: Evaluated,
+) -> Result<Values, Memory>
     ensures { IfOk result (λ l. l ≡ done ++ spec.given is_spliced value) }
 {
     if is_spliced {

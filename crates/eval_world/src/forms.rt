@@ -19,7 +19,10 @@ pub struct Forms<F, M> {
     pub meaning: PhantomData<M>,
 }
 
-impl<F: Fn(&mut World<'_>, Goal<'_>, Here, u32) -> Result<Evaluated, Stop>, M: Meaning> Forms<F, M> {
+impl<F: Fn(&mut World<'_>, Goal<'_>, Here, u32) -> Result<Evaluated, Stop>, M: Meaning> Forms<
+    F,
+    M,
+> {
     /// The value of an expression that stands one level further in.
     pub fn value(&self, world: &mut World<'_>, expr: &Expr, here: Here) -> Result<Evaluated, Stop>
         requires { Nests (M.within self.now.left) self.now.left (F.pre self.now.inner) (F.post self.now.inner) }
@@ -29,7 +32,13 @@ impl<F: Fn(&mut World<'_>, Goal<'_>, Here, u32) -> Result<Evaluated, Stop>, M: M
     }
 
     /// The value of a block that stands one level further in, and belongs to what begins at this line.
-    pub fn block(&self, world: &mut World<'_>, block: &Block, line: u32, here: Here) -> Result<Evaluated, Stop>
+    pub fn block(
+        &self,
+        world: &mut World<'_>,
+        block: &Block,
+        line: u32,
+        here: Here,
+    ) -> Result<Evaluated, Stop>
         requires { Nests (M.within self.now.left) self.now.left (F.pre self.now.inner) (F.post self.now.inner) }
         ensures { Gives same ((M.within self.now.left).block block.now line here world.old) result world.new }
     {
@@ -45,7 +54,13 @@ impl<F: Fn(&mut World<'_>, Goal<'_>, Here, u32) -> Result<Evaluated, Stop>, M: M
     }
 
     /// The body of the class of this declaration.
-    pub fn class(&self, world: &mut World<'_>, number: u32, line: u32, here: Here) -> Result<Evaluated, Stop>
+    pub fn class(
+        &self,
+        world: &mut World<'_>,
+        number: u32,
+        line: u32,
+        here: Here,
+    ) -> Result<Evaluated, Stop>
         requires { Nests (M.within self.now.left) self.now.left (F.pre self.now.inner) (F.post self.now.inner) }
         ensures { Gives same ((M.within self.now.left).class number line here world.old) result world.new }
     {
@@ -53,7 +68,13 @@ impl<F: Fn(&mut World<'_>, Goal<'_>, Here, u32) -> Result<Evaluated, Stop>, M: M
     }
 
     /// The instance of this declaration.
-    pub fn instance(&self, world: &mut World<'_>, number: u32, line: u32, here: Here) -> Result<Evaluated, Stop>
+    pub fn instance(
+        &self,
+        world: &mut World<'_>,
+        number: u32,
+        line: u32,
+        here: Here,
+    ) -> Result<Evaluated, Stop>
         requires { Nests (M.within self.now.left) self.now.left (F.pre self.now.inner) (F.post self.now.inner) }
         ensures { Gives same ((M.within self.now.left).instance number line here world.old) result world.new }
     {

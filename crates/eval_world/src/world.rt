@@ -122,11 +122,18 @@ impl<'a> World<'a> {
 
     /// Sets a variable. F3 is placed at this line.
     #[tactic(auto, unfolding(crate::specs::Worlds::assign))]
-    pub fn assign(&mut self, here: Here, name: &Text, value: Evaluated, line: u32) -> Result<(), Stop>
+    pub fn assign(
+        &mut self,
+        here: Here,
+        name: &Text,
+        value: Evaluated,
+        line: u32,
+    ) -> Result<(), Stop>
         ensures { Gives nothing (spec.assign here name.now value line self.old) result self.new }
     {
         let at = self.place(here, line)?;
-        self.scopes.assign(self.alloc, here.scope, name, value.into_value(), &at)
+        self.scopes
+            .assign(self.alloc, here.scope, name, value.into_value(), &at)
     }
 
     /// The scope of one call of a lambda that stands here.
@@ -134,8 +141,13 @@ impl<'a> World<'a> {
     pub fn enter_lambda(&mut self, here: Here) -> Result<Here, Stop>
         ensures { Gives same (spec.enter_lambda here self.old) result self.new }
     {
-        let scope = self.scopes.enter(self.alloc, ScopeKind::Lambda, here.scope)?;
-        Ok(Here { scope, owner: here.owner })
+        let scope = self
+            .scopes
+            .enter(self.alloc, ScopeKind::Lambda, here.scope)?;
+        Ok(Here {
+            scope,
+            owner: here.owner,
+        })
     }
 
     /// Ends the scope of a call of a lambda.

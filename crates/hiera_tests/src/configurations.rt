@@ -8,13 +8,7 @@ fn read(alloc: Global, text: &str, layer: Layer) -> Result<Result<Config, Stop>,
     let file = Text::from_str(alloc, "lookup")?;
     let path = Text::from_str(alloc, "hiera.yaml")?;
     let text = Text::from_str(alloc, text)?;
-    Ok(read_config(
-        alloc,
-        &path,
-        &text,
-        layer,
-        &Place { file, line: 1 },
-    ))
+    Ok(read_config(alloc, &path, &text, layer, &Place { file, line: 1 }))
 }
 
 /// The number of levels and of default levels; `None` where the file is faulty.
@@ -26,12 +20,16 @@ fn levels(alloc: Global, text: &str, layer: Layer) -> Result<Option<(usize, usiz
     }
 }
 
-const TWO_LEVELS: &str = "{\"version\":5,\"hierarchy\":[{\"name\":\"nodes\",\"path\":\"nodes/%{trusted.certname}.json\"},{\"name\":\"common\",\"path\":\"common.json\"}]}";
+const TWO_LEVELS: &str =
+    "{\"version\":5,\"hierarchy\":[{\"name\":\"nodes\",\"path\":\"nodes/%{trusted.certname}.json\"},{\"name\":\"common\",\"path\":\"common.json\"}]}";
 
 #[test]
 fn two_levels(rt: HostRuntime) -> Result<(), Fail> {
     let alloc = rt.alloc();
-    assert_eq!(rt; levels(alloc, TWO_LEVELS, Layer::Environment)?, Some((2, 0)));
+    assert_eq!(rt;
+        levels(alloc, TWO_LEVELS, Layer::Environment)?,
+        Some((2, 0))
+    );
     assert_eq!(rt; levels(alloc, TWO_LEVELS, Layer::Global)?, Some((2, 0)));
     Ok(())
 }
@@ -39,7 +37,10 @@ fn two_levels(rt: HostRuntime) -> Result<(), Fail> {
 /// Configurations of a module: the number of levels and of default levels, or `None`.
 const MODULES: [(&str, Option<(usize, usize)>); 4] = [
     ("{\"version\":5}", Some((0, 0))),
-    ("{\"version\":5,\"hierarchy\":[],\"default_hierarchy\":[{\"name\":\"a\",\"path\":\"b\"}]}", Some((0, 1))),
+    (
+        "{\"version\":5,\"hierarchy\":[],\"default_hierarchy\":[{\"name\":\"a\",\"path\":\"b\"}]}",
+        Some((0, 1)),
+    ),
     ("{\"version\":5,\"default_hierarchy\":{}}", None),
     ("{\"version\":4}", None),
 ];
@@ -89,13 +90,21 @@ const FAULTY_LEVELS: [&str; 13] = [
 #[test]
 fn faulty(rt: HostRuntime) -> Result<(), Fail> {
     for text in FAULTY.iter() {
-        assert_eq!(rt; levels(rt.alloc(), text, Layer::Environment)?, None, "{text}");
+        assert_eq!(rt;
+            levels(rt.alloc(), text, Layer::Environment)?,
+            None,
+            "{text}"
+        );
     }
     for level in FAULTY_LEVELS.iter() {
         let mut text = String::from_str(rt.alloc(), "{\"version\":5,\"hierarchy\":[")?;
         text.push_str(level)?;
         text.push_str("]}")?;
-        assert_eq!(rt; levels(rt.alloc(), text.as_str(), Layer::Environment)?, None, "{level}");
+        assert_eq!(rt;
+            levels(rt.alloc(), text.as_str(), Layer::Environment)?,
+            None,
+            "{level}"
+        );
     }
     Ok(())
 }

@@ -38,8 +38,14 @@ const SAME: [&str; 8] = [
 #[test]
 fn same(rt: HostRuntime) -> Result<(), Fail> {
     for text in SAME.iter() {
-        assert!(rt; gives(rt.alloc(), text, Numbers::Lenient, Some(*text))?, "{text}");
-        assert!(rt; gives(rt.alloc(), text, Numbers::Strict, Some(*text))?, "{text}");
+        assert!(rt;
+            gives(rt.alloc(), text, Numbers::Lenient, Some(*text))?,
+            "{text}"
+        );
+        assert!(rt;
+            gives(rt.alloc(), text, Numbers::Strict, Some(*text))?,
+            "{text}"
+        );
     }
     Ok(())
 }
@@ -50,7 +56,11 @@ const OTHERS: [(&str, &str, Option<&str>); 6] = [
     ("9223372036854775808", "null", None),
     ("[1,1.0]", "[1,null]", None),
     ("{\"a\":{\"b\":[1e3]}}", "{\"a\":{\"b\":[null]}}", None),
-    ("{\"b\":2,\"a\":1}", "{\"a\":1,\"b\":2}", Some("{\"a\":1,\"b\":2}")),
+    (
+        "{\"b\":2,\"a\":1}",
+        "{\"a\":1,\"b\":2}",
+        Some("{\"a\":1,\"b\":2}"),
+    ),
     (
         "{\"__pa\":1}",
         "{\"__ptype\":\"Hash\",\"__pvalue\":[\"__pa\",1]}",
@@ -61,8 +71,14 @@ const OTHERS: [(&str, &str, Option<&str>); 6] = [
 #[test]
 fn others(rt: HostRuntime) -> Result<(), Fail> {
     for (text, lenient, strict) in OTHERS.iter() {
-        assert!(rt; gives(rt.alloc(), text, Numbers::Lenient, Some(*lenient))?, "{text}");
-        assert!(rt; gives(rt.alloc(), text, Numbers::Strict, *strict)?, "{text}");
+        assert!(rt;
+            gives(rt.alloc(), text, Numbers::Lenient, Some(*lenient))?,
+            "{text}"
+        );
+        assert!(rt;
+            gives(rt.alloc(), text, Numbers::Strict, *strict)?,
+            "{text}"
+        );
     }
     Ok(())
 }

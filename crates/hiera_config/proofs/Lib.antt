@@ -1,9 +1,0 @@
-pub mod Meets
-mod CutLemmas
-mod BlankLemmas
-mod PieceLemmas
-mod PieceExamples
-mod ConfigExamples
-mod SourceExamples
-mod ReadLists
-mod FileLemmas

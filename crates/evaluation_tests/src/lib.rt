@@ -2,8 +2,14 @@
 #![tactic(auto)]
 
 #[cfg(test)]
+mod depth;
+#[cfg(test)]
+mod edges;
+#[cfg(test)]
 mod manifests;
 #[cfg(test)]
 mod scopes;
 #[cfg(test)]
 mod steps;
+#[cfg(test)]
+mod telling;

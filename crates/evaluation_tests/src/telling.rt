@@ -1,0 +1,87 @@
+//! What is told of a manifest, for the tables of the tests.
+use class_eval::Evaluator;
+use eval_world::Manifests;
+use pp_parser::manifest::parse;
+use pp_values::{MAIN_MANIFEST, Memory, Pairs, Stop, Text, Value, write_value};
+use res_core::Resource;
+use site_docs::fault_text;
+use std::alloc::Global;
+
+/// A manifest, and what is told of it.
+pub type Row = (&'static str, &'static str);
+
+/// What is told of a manifest for the node `web1.example.com`: each line of the log, each resource but `Class[main]`,
+/// and the fault, with `; ` behind each of them.
+pub fn told(alloc: Global, manifest: &str) -> Result<String, Memory> {
+    let file = Text::from_str(alloc, MAIN_MANIFEST)?;
+    match parse(alloc, &file, &Text::from_str(alloc, manifest)?) {
+        Ok(main) => told_of(alloc, Manifests { main: &main }),
+        Err(stop) => stop_told(alloc, &stop),
+    }
+}
+
+fn told_of(alloc: Global, manifests: Manifests<'_>) -> Result<String, Memory> {
+    let node = Text::from_str(alloc, "web1.example.com")?;
+    let facts = facts(alloc)?;
+    let mut evaluator = Evaluator::start(alloc, manifests, &node, &facts)?;
+    let end = match evaluator.run_main() {
+        Ok(()) => String::new(alloc),
+        Err(stop) => stop_told(alloc, &stop)?,
+    };
+    let mut out = String::new(alloc);
+    put_world(alloc, &mut out, &evaluator)?;
+    out.push_str(end.as_str())?;
+    Ok(out)
+}
+
+pub fn stop_told(alloc: Global, stop: &Stop) -> Result<String, Memory> {
+    match stop {
+        Stop::Fault(fault) => {
+            let mut line = fault_text(alloc, fault)?.into_string();
+            line.push_str("; ")?;
+            Ok(line)
+        }
+        Stop::Memory => Err(Memory),
+    }
+}
+
+fn put_world(alloc: Global, out: &mut String, evaluator: &Evaluator<'_>) -> Result<(), Memory> {
+    for line in evaluator.world.log.as_slice() {
+        let level = line.level.as_str();
+        let text = line.text.as_str();
+        write!(out, "{level} {text}; ")?;
+    }
+    for number in 1..evaluator.world.book.count() {
+        put_resource(alloc, out, &evaluator.world.book.item(number).item)?;
+    }
+    Ok(())
+}
+
+fn put_resource(alloc: Global, out: &mut String, resource: &Resource) -> Result<(), Memory> {
+    let kind = resource.kind.as_text().as_str();
+    let title = resource.title.as_str();
+    write!(out, "{kind}[{title}]")?;
+    for attribute in resource.attributes.as_slice() {
+        let name = attribute.name.as_str();
+        write!(out, " {name}=")?;
+        write_value(out, &attribute.value)?;
+    }
+    out.push_str("; ")?;
+    Ok(())
+}
+
+/// The facts `role` and `Case`, of which one has a variable's name.
+pub fn facts(alloc: Global) -> Result<Value, Memory> {
+    let mut facts = Pairs::new(alloc);
+    put_fact(alloc, &mut facts, "Case", 1)?;
+    put_fact(alloc, &mut facts, "role", 7)?;
+    Ok(Value::Hash(facts))
+}
+
+fn put_fact(alloc: Global, facts: &mut Pairs, name: &str, value: i64) -> Result<(), Memory> {
+    facts.put(Value::Text(Text::from_str(alloc, name)?), Value::Int(value))
+}
+
+pub fn is_told(alloc: Global, row: &Row) -> Result<bool, Memory> {
+    Ok(told(alloc, row.0)?.as_str() == row.1)
+}

@@ -10,19 +10,17 @@ use work_pool::on_large_stack;
 
 /// Runs the program on the real words and streams.
 fn main(rt: HostRuntime) -> ExitCode {
-    on_large_stack(&rt, move || run(&rt))
-}
-
-fn run(rt: &HostRuntime) -> ExitCode {
-    run_program(
-        rt,
-        rt.alloc(),
-        command_line(rt),
-        &mut StandardInput::new(rt.stdin()),
-        &mut StandardOutput::new(rt.stdout()),
-        &mut StandardError::new(rt.stderr()),
-        &OpenGate,
-    )
+    on_large_stack(&rt, move || {
+        run_program(
+            &rt,
+            rt.alloc(),
+            command_line(&rt),
+            &mut StandardInput::new(rt.stdin()),
+            &mut StandardOutput::new(rt.stdout()),
+            &mut StandardError::new(rt.stderr()),
+            &OpenGate,
+        )
+    })
 }
 
 fn command_line(rt: &HostRuntime) -> io::Result<Vec<String>> {

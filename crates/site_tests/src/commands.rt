@@ -2,7 +2,9 @@
 use site_commands::site_main;
 use site_io::{Bytes, MemSink, MemSource, OpenGate};
 use std::alloc::{AllocError, Global};
+use std::sync::Wait;
 use std::test::Fail;
+use std::thread::Threads;
 
 /// `Class[main]` in the catalog of every node.
 const MAIN: &str = r#"{"attrs":{},"in":[],"tags":["class","main"],"title":"main","type":"Class"}"#;
@@ -31,13 +33,13 @@ fn words_of(alloc: Global, words: &str) -> Result<Vec<String>, AllocError> {
     Ok(found)
 }
 
-fn run(
-    rt: &HostRuntime,
+fn run<R: Threads + Wait + Sync>(
+    rt: &R,
+    alloc: Global,
     words: &str,
     input: &[u8],
     failing: Failing,
 ) -> Result<Outcome, AllocError> {
-    let alloc = rt.alloc();
     let words = words_of(alloc, words)?;
     let (source, out, err) = failing;
     let mut source = MemSource::new(alloc, input, &[source])?;
@@ -59,15 +61,16 @@ fn is_outcome(outcome: &Outcome, status: u8, out: &str, err: &str) -> bool {
 }
 
 /// Whether a run whose streams do not fail ends so.
-fn ends_as(
-    rt: &HostRuntime,
+fn ends_as<R: Threads + Wait + Sync>(
+    rt: &R,
+    alloc: Global,
     words: &str,
     input: &[u8],
     status: u8,
     out: &str,
     err: &str,
 ) -> Result<bool, AllocError> {
-    let outcome = run(rt, words, input, NONE)?;
+    let outcome = run(rt, alloc, words, input, NONE)?;
     Ok(is_outcome(&outcome, status, out, err))
 }
 
@@ -78,15 +81,16 @@ fn catalog(alloc: Global, node: &str, resources: &str) -> Result<String, AllocEr
     )
 }
 
-fn writes_catalog(
-    rt: &HostRuntime,
+fn writes_catalog<R: Threads + Wait + Sync>(
+    rt: &R,
+    alloc: Global,
     words: &str,
     node: &str,
     manifest: &str,
     resources: &str,
 ) -> Result<bool, AllocError> {
-    let line = catalog(rt.alloc(), node, resources)?;
-    ends_as(rt, words, manifest.as_bytes(), 0, line.as_str(), "")
+    let line = catalog(alloc, node, resources)?;
+    ends_as(rt, alloc, words, manifest.as_bytes(), 0, line.as_str(), "")
 }
 
 const CATALOGS: [(&str, &str, &str, &str); 4] = [
@@ -115,15 +119,20 @@ const CATALOGS: [(&str, &str, &str, &str); 4] = [
 fn catalogs_are_written(rt: HostRuntime) -> Result<(), Fail> {
     for (words, node, manifest, resources) in CATALOGS.iter() {
         assert!(rt;
-            writes_catalog(&rt, words, node, manifest, resources)?,
+            writes_catalog(&rt, rt.alloc(), words, node, manifest, resources)?,
             "{manifest}"
         );
     }
     Ok(())
 }
 
-fn tells_fault(rt: &HostRuntime, manifest: &str, line: &str) -> Result<bool, AllocError> {
-    ends_as(rt, "manifest|n", manifest.as_bytes(), 1, "", line)
+fn tells_fault<R: Threads + Wait + Sync>(
+    rt: &R,
+    alloc: Global,
+    manifest: &str,
+    line: &str,
+) -> Result<bool, AllocError> {
+    ends_as(rt, alloc, "manifest|n", manifest.as_bytes(), 1, "", line)
 }
 
 const FAULTS: [(&str, &str); 7] = [
@@ -145,7 +154,7 @@ const FAULTS: [(&str, &str); 7] = [
 #[test]
 fn faults_are_told(rt: HostRuntime) -> Result<(), Fail> {
     for (manifest, line) in FAULTS.iter() {
-        assert!(rt; tells_fault(&rt, manifest, line)?, "{line}");
+        assert!(rt; tells_fault(&rt, rt.alloc(), manifest, line)?, "{line}");
     }
     Ok(())
 }
@@ -163,9 +172,14 @@ fn nested_message(alloc: Global, lists: usize) -> Result<String, AllocError> {
     Ok(manifest)
 }
 
-fn tells_nested(rt: &HostRuntime, lists: usize, line: &str) -> Result<bool, AllocError> {
-    let manifest = nested_message(rt.alloc(), lists)?;
-    tells_fault(rt, manifest.as_str(), line)
+fn tells_nested<R: Threads + Wait + Sync>(
+    rt: &R,
+    alloc: Global,
+    lists: usize,
+    line: &str,
+) -> Result<bool, AllocError> {
+    let manifest = nested_message(alloc, lists)?;
+    tells_fault(rt, alloc, manifest.as_str(), line)
 }
 
 const NESTED: [(usize, &str); 2] = [
@@ -176,7 +190,7 @@ const NESTED: [(usize, &str); 2] = [
 #[test]
 fn nesting_is_bounded(rt: HostRuntime) -> Result<(), Fail> {
     for (lists, line) in NESTED.iter() {
-        assert!(rt; tells_nested(&rt, *lists, line)?, "{lists}");
+        assert!(rt; tells_nested(&rt, rt.alloc(), *lists, line)?, "{lists}");
     }
     Ok(())
 }
@@ -207,7 +221,10 @@ const WORDS: [(&str, &str); 18] = [
 #[test]
 fn words_are_refused(rt: HostRuntime) -> Result<(), Fail> {
     for (words, line) in WORDS.iter() {
-        assert!(rt; ends_as(&rt, words, b"", 10, "", line)?, "{words}");
+        assert!(rt;
+            ends_as(&rt, rt.alloc(), words, b"", 10, "", line)?,
+            "{words}"
+        );
     }
     Ok(())
 }
@@ -221,9 +238,14 @@ fn long_name(alloc: Global, count: usize) -> Result<String, AllocError> {
     Ok(words)
 }
 
-fn ends_long_name(rt: &HostRuntime, count: usize, status: u8) -> Result<bool, AllocError> {
-    let words = long_name(rt.alloc(), count)?;
-    Ok(run(rt, words.as_str(), b"", NONE)?.status == status)
+fn ends_long_name<R: Threads + Wait + Sync>(
+    rt: &R,
+    alloc: Global,
+    count: usize,
+    status: u8,
+) -> Result<bool, AllocError> {
+    let words = long_name(alloc, count)?;
+    Ok(run(rt, alloc, words.as_str(), b"", NONE)?.status == status)
 }
 
 const LENGTHS: [(usize, u8); 2] = [(255, 0), (256, 10)];
@@ -231,7 +253,10 @@ const LENGTHS: [(usize, u8); 2] = [(255, 0), (256, 10)];
 #[test]
 fn the_length_of_a_name_is_bounded(rt: HostRuntime) -> Result<(), Fail> {
     for (count, status) in LENGTHS.iter() {
-        assert!(rt; ends_long_name(&rt, *count, *status)?, "{count}");
+        assert!(rt;
+            ends_long_name(&rt, rt.alloc(), *count, *status)?,
+            "{count}"
+        );
     }
     Ok(())
 }
@@ -245,14 +270,15 @@ fn bytes_of(alloc: Global, text: &str) -> Result<Vec<u8>, AllocError> {
     Ok(bytes)
 }
 
-fn refuses_input(
-    rt: &HostRuntime,
+fn refuses_input<R: Threads + Wait + Sync>(
+    rt: &R,
+    alloc: Global,
     words: &str,
     input: &str,
     line: &str,
 ) -> Result<bool, AllocError> {
-    let bytes = bytes_of(rt.alloc(), input)?;
-    ends_as(rt, words, bytes.as_slice(), 11, "", line)
+    let bytes = bytes_of(alloc, input)?;
+    ends_as(rt, alloc, words, bytes.as_slice(), 11, "", line)
 }
 
 const INPUTS: [(&str, &str, &str); 12] = [
@@ -277,20 +303,24 @@ const INPUTS: [(&str, &str, &str); 12] = [
 #[test]
 fn input_is_refused(rt: HostRuntime) -> Result<(), Fail> {
     for (words, input, line) in INPUTS.iter() {
-        assert!(rt; refuses_input(&rt, words, input, line)?, "{input}");
+        assert!(rt;
+            refuses_input(&rt, rt.alloc(), words, input, line)?,
+            "{input}"
+        );
     }
     Ok(())
 }
 
-fn ends_long_input(
-    rt: &HostRuntime,
+fn ends_long_input<R: Threads + Wait + Sync>(
+    rt: &R,
+    alloc: Global,
     byte: u8,
     count: usize,
     status: u8,
     line: &str,
 ) -> Result<bool, AllocError> {
-    let input = vec![in rt.alloc(); byte; count]?;
-    let outcome = run(rt, "manifest|n", input.as_slice(), NONE)?;
+    let input = vec![in alloc; byte; count]?;
+    let outcome = run(rt, alloc, "manifest|n", input.as_slice(), NONE)?;
     Ok(outcome.status == status && outcome.err.as_slice() == line.as_bytes())
 }
 
@@ -304,7 +334,7 @@ const LONG: [(u8, usize, u8, &str); 3] = [
 fn the_length_of_input_is_bounded(rt: HostRuntime) -> Result<(), Fail> {
     for (byte, count, status, line) in LONG.iter() {
         assert!(rt;
-            ends_long_input(&rt, *byte, *count, *status, line)?,
+            ends_long_input(&rt, rt.alloc(), *byte, *count, *status, line)?,
             "{byte} {count}"
         );
     }
@@ -366,14 +396,15 @@ const BUNDLES: [(&str, u8, &str); 5] = [
 /// One worker writes what requests in turn come to.
 const IN_TURN: [&str; 3] = ["sequence", "batch", "batch|--workers|1"];
 
-fn answers_bundle(
-    rt: &HostRuntime,
+fn answers_bundle<R: Threads + Wait + Sync>(
+    rt: &R,
+    alloc: Global,
     bundle: &str,
     status: u8,
     out: &str,
 ) -> Result<bool, AllocError> {
     for words in IN_TURN.iter() {
-        if !ends_as(rt, words, bundle.as_bytes(), status, out, "")? {
+        if !ends_as(rt, alloc, words, bundle.as_bytes(), status, out, "")? {
             return Ok(false);
         }
     }
@@ -383,21 +414,25 @@ fn answers_bundle(
 #[test]
 fn bundles_are_answered(rt: HostRuntime) -> Result<(), Fail> {
     for (bundle, status, out) in BUNDLES.iter() {
-        assert!(rt; answers_bundle(&rt, bundle, *status, out)?, "{bundle}");
+        assert!(rt;
+            answers_bundle(&rt, rt.alloc(), bundle, *status, out)?,
+            "{bundle}"
+        );
     }
     Ok(())
 }
 
 /// Whether a run whose streams fail so ends with this status and line; there is output with status 0 and 1 alone.
-fn fails_as(
-    rt: &HostRuntime,
+fn fails_as<R: Threads + Wait + Sync>(
+    rt: &R,
+    alloc: Global,
     words: &str,
     input: &str,
     failing: Failing,
     status: u8,
     line: &str,
 ) -> Result<bool, AllocError> {
-    let outcome = run(rt, words, input.as_bytes(), failing)?;
+    let outcome = run(rt, alloc, words, input.as_bytes(), failing)?;
     let is_told = outcome.err.as_slice() == line.as_bytes();
     Ok(outcome.status == status && is_told && outcome.out.is_empty() != (status == 0))
 }
@@ -439,7 +474,7 @@ const STREAMS: [(&str, &str, Failing, u8, &str); 17] = [
 fn faults_of_streams_are_told(rt: HostRuntime) -> Result<(), Fail> {
     for (words, input, failing, status, line) in STREAMS.iter() {
         assert!(rt;
-            fails_as(&rt, words, input, *failing, *status, line)?,
+            fails_as(&rt, rt.alloc(), words, input, *failing, *status, line)?,
             "{words} {status}"
         );
     }
@@ -451,14 +486,15 @@ const UNKNOWN: &str =
     r#"{"bundle": 1, "files": {"manifests/site.pp": ""}, "requests": [{"node": "z"}]}"#;
 
 /// The status and whether there is output, where a reply is a refusal.
-fn refuses_as(
-    rt: &HostRuntime,
+fn refuses_as<R: Threads + Wait + Sync>(
+    rt: &R,
+    alloc: Global,
     words: &str,
     failing: Failing,
     status: u8,
     is_written: bool,
 ) -> Result<bool, AllocError> {
-    let outcome = run(rt, words, UNKNOWN.as_bytes(), failing)?;
+    let outcome = run(rt, alloc, words, UNKNOWN.as_bytes(), failing)?;
     Ok(outcome.status == status && outcome.out.is_empty() != is_written)
 }
 
@@ -474,7 +510,7 @@ const REFUSED: [(&str, Failing, u8, bool); 5] = [
 fn refusals_are_written(rt: HostRuntime) -> Result<(), Fail> {
     for (words, failing, status, is_written) in REFUSED.iter() {
         assert!(rt;
-            refuses_as(&rt, words, *failing, *status, *is_written)?,
+            refuses_as(&rt, rt.alloc(), words, *failing, *status, *is_written)?,
             "{words} {status}"
         );
     }

@@ -16,7 +16,7 @@ const UNIT: &str = "notice 1 == 1 + 1 *\nif true { ";
 
 /// So many units, what stands innermost, and what is told. Unit k, counted from 0, begins at depth 1 + 6k.
 const DEEP: [(usize, &str, &str); 4] = [
-    (167, "", "F29 manifests/site.pp:168 DepthLimit; "),
+    (167, "", "F29 manifests/site.pp:167 DepthLimit; "),
     (
         166,
         "1 + 1 * [].size ",

@@ -1,12 +1,11 @@
 //! How deep an evaluation may stand, and the calls for one expression and for one block.
-use crate::telling::{facts, stop_told, told};
+use crate::telling::{facts, parsed, stop_told, told};
 use class_eval::Evaluator;
 use eval_world::{Evaluated, Here, Manifests};
-use pp_parser::manifest::parse;
 use pp_tree::expr::Expr;
 use pp_tree::file::File;
 use pp_tree::statement::{Operand, Statement};
-use pp_values::{MAIN_MANIFEST, Memory, Stop, Text, text_of};
+use pp_values::{Memory, Stop, Text, text_of};
 use std::alloc::Global;
 use std::test::Fail;
 use work_pool::on_large_stack;
@@ -63,8 +62,7 @@ fn a_thousand_levels_are_evaluated(rt: HostRuntime) -> Result<(), Fail> {
 
 /// The value of a manifest's first expression (or of its statements as a block of line 5) at a depth, as a text.
 fn value_told(alloc: Global, is_block: bool, manifest: &str, depth: u32) -> Result<String, Memory> {
-    let file = Text::from_str(alloc, MAIN_MANIFEST)?;
-    match parse(alloc, &file, &Text::from_str(alloc, manifest)?) {
+    match parsed(alloc, manifest) {
         Ok(main) => value_in(alloc, &main, is_block, depth),
         Err(stop) => stop_told(alloc, &stop),
     }

@@ -58,9 +58,13 @@ fn letters(alloc: Global) -> Result<Values, Memory> {
 
 fn pairs(alloc: Global) -> Result<Value, Memory> {
     let mut pairs = Pairs::new(alloc);
-    pairs.put(text(alloc, "b")?, Value::Int(1))?;
-    pairs.put(text(alloc, "a")?, Value::Int(2))?;
+    put(alloc, &mut pairs, "b", 1)?;
+    put(alloc, &mut pairs, "a", 2)?;
     Ok(Value::Hash(pairs))
+}
+
+fn put(alloc: Global, pairs: &mut Pairs, key: &str, value: i64) -> Result<(), Memory> {
+    pairs.put(Value::Text(Text::from_str(alloc, key)?), Value::Int(value))
 }
 
 fn one(alloc: Global, says: &str) -> Result<Value, Memory> {

@@ -2,6 +2,7 @@
 use class_eval::Evaluator;
 use eval_world::Manifests;
 use pp_parser::manifest::parse;
+use pp_tree::file::File;
 use pp_values::{MAIN_MANIFEST, Memory, Pairs, Stop, Text, Value, write_value};
 use res_core::Resource;
 use site_docs::fault_text;
@@ -13,10 +14,20 @@ pub type Row = (&'static str, &'static str);
 /// What is told of a manifest for the node `web1.example.com`: each line of the log, each resource but `Class[main]`,
 /// and the fault, with `; ` behind each of them.
 pub fn told(alloc: Global, manifest: &str) -> Result<String, Memory> {
-    let file = Text::from_str(alloc, MAIN_MANIFEST)?;
-    match parse(alloc, &file, &Text::from_str(alloc, manifest)?) {
+    match parsed(alloc, manifest) {
         Ok(main) => told_of(alloc, Manifests { main: &main }),
         Err(stop) => stop_told(alloc, &stop),
+    }
+}
+
+/// The tree of a main manifest, which is not long.
+pub fn parsed(alloc: Global, manifest: &str) -> Result<File, Stop> {
+    let file = Text::from_str(alloc, MAIN_MANIFEST)?;
+    let text = Text::from_str(alloc, manifest)?;
+    if text.as_str().len() < 65536 {
+        parse(alloc, &file, &text)
+    } else {
+        Err(Stop::Memory)
     }
 }
 

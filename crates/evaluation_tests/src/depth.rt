@@ -1,5 +1,5 @@
-//! How deep an evaluation may stand, and the calls for one expression and for one block.
-use crate::telling::{facts, parsed, stop_told, told};
+//! The calls for one expression and for one block, at lawful depths and past them.
+use crate::telling::{facts, parsed, stop_told};
 use class_eval::Evaluator;
 use eval_world::{Evaluated, Here, Manifests};
 use pp_tree::expr::Expr;
@@ -8,57 +8,6 @@ use pp_tree::statement::{Operand, Statement};
 use pp_values::{Memory, Stop, Text, text_of};
 use std::alloc::Global;
 use std::test::Fail;
-use work_pool::on_large_stack;
-
-/// A call, three chains, an `if` and its block, one within the other: six levels.
-const UNIT: &str = "notice 1 == 1 + 1 *\nif true { ";
-
-/// So many units, what stands innermost, and what is told. Unit k, counted from 0, begins at depth 1 + 6k.
-const DEEP: [(usize, &str, &str); 4] = [
-    (167, "", "F29 manifests/site.pp:167 DepthLimit; "),
-    (
-        166,
-        "1 + 1 * [].size ",
-        "notice false; F11 manifests/site.pp:165 BadOperand *; ",
-    ),
-    (
-        166,
-        "1 + 1 * [1].size ",
-        "F29 manifests/site.pp:167 DepthLimit; ",
-    ),
-    (
-        166,
-        "1 + 1 * (\nwith() | |\n{ }) ",
-        "F29 manifests/site.pp:168 DepthLimit; ",
-    ),
-];
-
-fn nested(alloc: Global, units: usize, innermost: &str) -> Result<String, Memory> {
-    let mut text = String::new(alloc);
-    for _turn in 0..units {
-        text.push_str(UNIT)?;
-    }
-    text.push_str(innermost)?;
-    for _turn in 0..units {
-        text.push_str("}")?;
-    }
-    Ok(text)
-}
-
-fn is_told_of(alloc: Global, row: &(usize, &str, &str)) -> Result<bool, Memory> {
-    let text = nested(alloc, row.0, row.1)?;
-    Ok(told(alloc, text.as_str())?.as_str() == row.2)
-}
-
-#[test]
-fn a_thousand_levels_are_evaluated(rt: HostRuntime) -> Result<(), Fail> {
-    let alloc = rt.alloc();
-    for row in DEEP.iter() {
-        let is_told = on_large_stack(&rt, move || is_told_of(alloc, row));
-        assert!(rt; is_told?, "{}", row.1);
-    }
-    Ok(())
-}
 
 /// The value of a manifest's first expression (or of its statements as a block of line 5) at a depth, as a text.
 fn value_told(alloc: Global, is_block: bool, manifest: &str, depth: u32) -> Result<String, Memory> {

@@ -13,7 +13,7 @@ pub type Row = (&'static str, &'static str);
 
 /// What is told of a manifest for the node `web1.example.com`: each line of the log, each resource but `Class[main]`,
 /// and the fault, with `; ` behind each of them.
-pub fn told(alloc: Global, manifest: &str) -> Result<String, Memory> {
+fn told(alloc: Global, manifest: &str) -> Result<String, Memory> {
     match parsed(alloc, manifest) {
         Ok(main) => told_of(alloc, Manifests { main: &main }),
         Err(stop) => stop_told(alloc, &stop),

@@ -1,4 +1,4 @@
--- A value and what follows it: `$a[1].f(2) ? { .. }`.
+-- A value and what follows it: `$a[1].f(2)`, and selectors.
 use Rattle.std.specs.Prelude.{ℕ, List, [], ◌∷◌}
 use Rattle.pp_tree.specs.declared.collector.Collector.{Collector}
 use Rattle.pp_tree.specs.declared.collector.Conjunction.{Conjunction}

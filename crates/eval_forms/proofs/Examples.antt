@@ -392,7 +392,7 @@ faults_of_case = (
 abbrev select : Datum → List (Pair Expr) → Here → Step Datum
 select control ps = selected_rule sample control ps 7
 
--- `2 ? { 1 => $x, 2 => 'b', $y => 3 }`: of the values that of the option taken alone
+-- a selector over 2 with the keys 1, 2 and `$y`: of the values that of the option taken alone
 selected_value : Tells (select (int 2) (pair (num 1) x ∷ pair (num 2) (told (codes "b")) ∷ pair y (num 3) ∷ []))
     (text (codes "b")) (codes "b" ∷ [])
 unfolding selected_rule selected_from key_rule default_pair write_log form.out-Form denote.Hole.Carrier.out

@@ -12,6 +12,7 @@ use res_core::held_list::HeldList;
 use res_core::indexes::Indexes;
 use res_core::log_line::LogLine;
 use res_core::log_lines::LogLines;
+use res_core::plain_resource::PlainResource;
 use res_core::resource::Resource;
 use res_core::tagging::tags_of;
 use res_core::tags::Tags;
@@ -30,6 +31,14 @@ fn class_tags(alloc: Global) -> Result<Tags, Memory> {
     tags(alloc, "class", "main", &Tags::new(alloc))
 }
 
+// Such values are plain.
+fn plain(resource: Resource) -> Result<PlainResource, Memory> {
+    match PlainResource::checked(resource) {
+        Some(plain) => Ok(plain),
+        None => Err(Memory),
+    }
+}
+
 // `Class[main]`.
 fn main_class(alloc: Global) -> Result<Held, Memory> {
     let kind = kind(alloc, "class")?;
@@ -37,12 +46,12 @@ fn main_class(alloc: Global) -> Result<Held, Memory> {
     let tags = class_tags(alloc)?;
     let attributes = Attributes::new(alloc);
     let inside = Indexes::new(alloc);
-    let item = Resource {
+    let item = plain(Resource {
         kind,
         title,
         attributes,
         tags,
-    };
+    })?;
     Ok(Held { item, inside })
 }
 
@@ -73,7 +82,7 @@ fn notify(alloc: Global, title: &str, says: &str) -> Result<Resource, Memory> {
 }
 
 fn in_main(alloc: Global, title: &str, says: &str) -> Result<Held, Memory> {
-    let item = notify(alloc, title, says)?;
+    let item = plain(notify(alloc, title, says)?)?;
     let mut inside = Indexes::new(alloc);
     inside.push(0)?;
     Ok(Held { item, inside })

@@ -7,6 +7,7 @@ use pp_tree::file::File;
 use pp_tree::statement::{Operand, Statement};
 use pp_values::{Memory, Stop, Text, text_of};
 use std::alloc::Global;
+use std::collections::BTreeMap;
 use std::test::Fail;
 
 /// The value of a manifest's first expression (or of its statements as a block of line 5) at a depth, as a text.
@@ -20,7 +21,12 @@ fn value_told(alloc: Global, is_block: bool, manifest: &str, depth: u32) -> Resu
 fn value_in(alloc: Global, main: &File, is_block: bool, depth: u32) -> Result<String, Memory> {
     let node = Text::from_str(alloc, "a")?;
     let facts = facts(alloc)?;
-    let mut evaluator = Evaluator::start(alloc, Manifests { main }, &node, &facts)?;
+    let files = BTreeMap::new(alloc);
+    let manifests = Manifests {
+        main,
+        files: &files,
+    };
+    let mut evaluator = Evaluator::start(alloc, manifests, &node, &facts)?;
     if is_block {
         return given(
             alloc,

@@ -7,6 +7,7 @@ use pp_values::{MAIN_MANIFEST, Memory, Pairs, Stop, Text, Value, write_value};
 use res_core::Resource;
 use site_docs::fault_text;
 use std::alloc::Global;
+use std::collections::BTreeMap;
 
 /// A manifest, and what is told of it.
 pub type Row = (&'static str, &'static str);
@@ -15,7 +16,7 @@ pub type Row = (&'static str, &'static str);
 /// and the fault, with `; ` behind each of them.
 fn told(alloc: Global, manifest: &str) -> Result<String, Memory> {
     match parsed(alloc, manifest) {
-        Ok(main) => told_of(alloc, Manifests { main: &main }),
+        Ok(main) => told_of_main(alloc, &main),
         Err(stop) => stop_told(alloc, &stop),
     }
 }
@@ -29,6 +30,15 @@ pub fn parsed(alloc: Global, manifest: &str) -> Result<File, Stop> {
     } else {
         Err(Stop::Memory)
     }
+}
+
+fn told_of_main(alloc: Global, main: &File) -> Result<String, Memory> {
+    let files = BTreeMap::new(alloc);
+    let manifests = Manifests {
+        main,
+        files: &files,
+    };
+    told_of(alloc, manifests)
 }
 
 fn told_of(alloc: Global, manifests: Manifests<'_>) -> Result<String, Memory> {

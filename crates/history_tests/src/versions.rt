@@ -6,6 +6,7 @@ use res_core::attributes::Attributes;
 use res_core::export_set::ExportSet;
 use res_core::exported::Exported;
 use res_core::exports::Exports;
+use res_core::plain_resource::PlainResource;
 use res_core::resource::Resource;
 use res_core::tags::Tags;
 use sample_values::kind;
@@ -32,6 +33,14 @@ fn resource(alloc: Global, name: &str, title: &str, tag: &str) -> Result<Resourc
     })
 }
 
+// Such values are plain.
+fn plain(resource: Resource) -> Result<PlainResource, Memory> {
+    match PlainResource::checked(resource) {
+        Some(plain) => Ok(plain),
+        None => Err(Memory),
+    }
+}
+
 // A resource from its kind, title and one tag, such as `host a dns`.
 fn exported(alloc: Global, words: &str) -> Result<Exported, Memory> {
     let mut parts = words.split(' ');
@@ -39,7 +48,7 @@ fn exported(alloc: Global, words: &str) -> Result<Exported, Memory> {
     let title = parts.next().unwrap_or("");
     let tag = parts.next().unwrap_or("");
     let file = Text::from_str(alloc, "manifests/site.pp")?;
-    let item = resource(alloc, name, title, tag)?;
+    let item = plain(resource(alloc, name, title, tag)?)?;
     let node_place = Place { file, line: 1 };
     Ok(Exported { node_place, item })
 }

@@ -6,36 +6,15 @@ use Rattle.serde_json.specs.Find.{as_i64}
 use Rattle.pp_values.specs.Datum.{Datum, undef, flag, int, text, list, hash, reference, kind, default, Data, no_data, datum, Entries, no_entries, entry, Pair, pairs_of}
 use Rattle.pp_values.specs.Keys.{are_distinct}
 use Rattle.pp_values.specs.Kinds.{kind_of}
+use Rattle.pp_values.specs.Plain.{is_plain_value}
 use Rattle.json_values.specs.FromData.{both}
 use Rattle.json_values.specs.ValueForm.{form, is_plain}
 use Rattle.json_values.specs.declared.stops.FormStop.{FormStop}
 use Rattle.json_values.specs.declared.stops.FormStop.TheVariants as stop
 
--- ---- values with a form: those with no data type and no `default` within
-
-abbrev mutual
-  pub has_form : Datum → Bool
-  has_form undef = true
-  has_form (flag b) = true
-  has_form (int z) = true
-  has_form (text t) = true
-  has_form (list ds) = have_forms ds
-  has_form (hash es) = pairs_have_forms es
-  has_form (reference r) = true
-  has_form (kind s) = false
-  has_form default = false
-
-  pub have_forms : Data → Bool
-  have_forms no_data = true
-  have_forms (datum d ds) = has_form d && have_forms ds
-
-  pub pairs_have_forms : Entries → Bool
-  pairs_have_forms no_entries = true
-  pairs_have_forms (entry k v es) = has_form k && (has_form v && pairs_have_forms es)
-
--- the value's form, where it has one
+-- the form of a value with no data type and no `default` within, which are those that have one
 abbrev pub form_of : Datum → Option j.Data
-form_of d = if has_form d then Some (form d) else None
+form_of d = if is_plain_value d then Some (form d) else None
 
 -- ---- the value that a form is of
 

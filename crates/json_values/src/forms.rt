@@ -1,13 +1,11 @@
 //! Which values have a form.
-ghost use Rattle.std.specs.Prelude.{◌≡◌};
 ghost use Rattle.serde_json.specs.View.{view as json_view};
-ghost use Rattle.pp_values.specs.Datum.{data_of, entries_of};
-ghost use Rattle.pp_values.specs.Views.{view, views, pair_views};
-ghost use Rattle.json_values.specs.Forms.{form_of, has_form, have_forms, pairs_have_forms, IsForm};
+ghost use Rattle.pp_values.specs.Views.{view};
+ghost use Rattle.json_values.specs.Forms.{form_of, IsForm};
 
 use crate::stops::FormStop;
 use crate::value_forms::value_form;
-use pp_values::Value;
+use pp_values::{Value, is_plain_value};
 use serde_json::Value as Json;
 use std::alloc::Global;
 
@@ -15,51 +13,9 @@ use std::alloc::Global;
 pub fn to_form(alloc: Global, value: &Value) -> Result<Json, FormStop>
     ensures { IsForm json_view result (form_of (view value.now)) }
 {
-    if has_form(value) {
+    if is_plain_value(value) {
         Ok(value_form(alloc, value)?)
     } else {
         Err(FormStop::NoForm)
     }
-}
-
-/// Whether the value has a form.
-#[cycle(has_form)]
-pub fn has_form(value: &Value) -> bool
-    ensures { result ≡ has_form (view value.now) }
-{
-    match value {
-        Value::Undef => true,
-        Value::Flag(_) => true,
-        Value::Int(_) => true,
-        Value::Text(_) => true,
-        Value::List(items) => have_forms(items.as_slice()),
-        Value::Hash(pairs) => pairs_have_forms(pairs.as_slice()),
-        Value::Ref(_) => true,
-        Value::Kind(_) => false,
-        Value::Default => false,
-    }
-}
-
-#[cycle(has_form)]
-fn have_forms(items: &[Value]) -> bool
-    ensures { result ≡ have_forms (data_of (views items.now)) }
-{
-    for item in items {
-        if !has_form(item) {
-            return false;
-        }
-    }
-    true
-}
-
-#[cycle(has_form)]
-fn pairs_have_forms(pairs: &[(Value, Value)]) -> bool
-    ensures { result ≡ pairs_have_forms (entries_of (pair_views pairs.now)) }
-{
-    for (key, value) in pairs {
-        if !has_form(key) || !has_form(value) {
-            return false;
-        }
-    }
-    true
 }

@@ -8,7 +8,7 @@ pub mod stops;
 pub mod value_forms;
 
 pub use data::from_data;
-pub use forms::{has_form, to_form};
+pub use forms::to_form;
 pub use reading::from_form;
 pub use stops::{DataStop, FormStop, Numbers};
 pub use value_forms::value_form;

@@ -6,6 +6,7 @@ pub mod conditions;
 pub mod definition;
 pub mod expr;
 pub mod file;
+pub mod manifest_file;
 pub mod operators;
 pub mod param;
 pub mod resource;
@@ -18,6 +19,7 @@ pub use conditions::{Case, CaseOption, Elsif, If, Unless};
 pub use definition::{Class, Define, Definition, Name, Node, NodeName};
 pub use expr::{Args, Call, Expr, Form, Lambda, Operation, Pair, Piece, Postfix};
 pub use file::File;
+pub use manifest_file::ManifestFile;
 pub use operators::{BinaryOperator, PrefixOperator};
 pub use param::{Param, Params};
 pub use resource::{

@@ -18,6 +18,7 @@ pub mod Views
 pub mod Faults
 pub mod Answers
 pub mod Falls
+pub mod Plain
 pub mod PairLists
 pub mod Equal
 pub mod Order

@@ -16,6 +16,7 @@ pub mod ordering;
 pub mod pairs;
 pub mod place;
 pub mod places;
+pub mod plain;
 pub mod printing;
 pub mod ptype;
 pub mod reference;
@@ -44,6 +45,7 @@ pub use ordering::order;
 pub use pairs::Pairs;
 pub use place::{MAIN_MANIFEST, Place};
 pub use places::{Places, copy_places};
+pub use plain::is_plain_value;
 pub use printing::{
     kind_text, reference_text, references_print_apart, write_kind, write_reference,
 };

@@ -1,5 +1,6 @@
 pub mod TagNames
 pub mod AttributeViews
+pub mod PlainAttributes
 pub mod ResourceCodes
 pub mod ExportedCodes
 pub mod ExportSetCodes

@@ -1,4 +1,4 @@
-use crate::resource::Resource;
+use crate::plain_resource::PlainResource;
 use pp_values::Place;
 
 /// A resource that a node exports.
@@ -6,5 +6,5 @@ use pp_values::Place;
 pub struct Exported {
     /// Where the exporting node's manifest declares it.
     pub node_place: Place,
-    pub item: Resource,
+    pub item: PlainResource,
 }

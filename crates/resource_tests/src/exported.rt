@@ -8,6 +8,7 @@ use res_core::copying::copy_resource;
 use res_core::export_set::ExportSet;
 use res_core::exported::Exported;
 use res_core::exports::Exports;
+use res_core::plain_resource::PlainResource;
 use res_core::request::{CompileRequest, Request};
 use res_core::requests::Requests;
 use res_core::resource::Resource;
@@ -44,6 +45,14 @@ fn host(alloc: Global, title: &str) -> Result<Resource, Memory> {
     })
 }
 
+// Such values are plain.
+fn plain(resource: Resource) -> Result<PlainResource, Memory> {
+    match PlainResource::checked(resource) {
+        Some(plain) => Ok(plain),
+        None => Err(Memory),
+    }
+}
+
 // Whether this is the attribute of such a host.
 fn is_address(attribute: &Attribute) -> bool {
     match &attribute.value {
@@ -74,7 +83,7 @@ fn a_copied_resource_is_the_same(rt: HostRuntime) -> Result<(), Fail> {
 
 fn exported(alloc: Global, title: &str) -> Result<Exported, Memory> {
     let file = Text::from_str(alloc, "manifests/site.pp")?;
-    let item = host(alloc, title)?;
+    let item = plain(host(alloc, title)?)?;
     let node_place = Place { file, line: 1 };
     Ok(Exported { node_place, item })
 }
@@ -89,7 +98,7 @@ fn two_exports(alloc: Global) -> Result<ExportSet, Memory> {
 fn keeps_exports(alloc: Global) -> Result<bool, Memory> {
     let set = two_exports(alloc)?;
     Ok(match set.items.as_slice() {
-        [a, b] => is_host(&a.item, "a") && is_host(&b.item, "b"),
+        [a, b] => is_host(a.item.as_resource(), "a") && is_host(b.item.as_resource(), "b"),
         _ => false,
     })
 }

@@ -23,7 +23,7 @@ use Rattle.pp_values.specs.Views.{view}
 use Rattle.pp_values.specs.Facts.{are_facts}
 use Rattle.pp_values.specs.PairLists.{fact_view, fact_views}
 use Rattle.pp_values.specs.Rising.{text_cmp}
-use Rattle.site_bundle.specs.declared.site_files.SiteFile.{SiteFile}
+use Rattle.pp_tree.specs.declared.manifest_file.ManifestFile.{ManifestFile}
 use Rattle.site_bundle.specs.Given.{has_key}
 use Rattle.site_bundle.specs.SiteView.{Listed, are_rising, have_facts, put_in}
 use Rattle.site_bundle.specs.Listing.{shown, listed, IsRead, AreRead}
@@ -180,7 +180,7 @@ same_key : (a b : List ℕ) → eq_by_cmp text_cmp a b ≡ true → a ≡ b
 same_key a b e = (bytes_eq-Decides a b).0 (sym (is_eq-slice_cmp a b) ∙ e)
 
 -- what was read of a file stays so when another is put in, and a new one has been read
-pub are_read-insert : (es : List (List ℕ × SiteFile)) (k : List ℕ) (v : SiteFile) → v.read ≡ file_of k v.text →
+pub are_read-insert : (es : List (List ℕ × ManifestFile)) (k : List ℕ) (v : ManifestFile) → v.read ≡ file_of k v.text →
     AreRead es →
     AreRead (insert_entry text_cmp es k v)
 are_read-insert [] k v read all = All-cons IsRead (k, v) [] read all
@@ -196,7 +196,7 @@ are_read-insert (e ∷ es) k v read all =
     ] refl
 
 -- what is looked up was read at this path
-found_read : (es : List (List ℕ × SiteFile)) (k : List ℕ) → AreRead es →
+found_read : (es : List (List ℕ × ManifestFile)) (k : List ℕ) → AreRead es →
     IfSome (lookup (is_at (text_cmp k)) es) (λ v. v.read ≡ file_of k v.text)
 found_read [] k all = tt
 found_read (e ∷ es) k all =
@@ -206,7 +206,7 @@ found_read (e ∷ es) k all =
       | false ↦ λ is. found_read es k (All-tail IsRead e es all)
     ] refl
 
-pub viewed_read : (o : Option (Bor SiteFile)) (es : List (List ℕ × SiteFile)) (k : List ℕ) →
+pub viewed_read : (o : Option (Bor ManifestFile)) (es : List (List ℕ × ManifestFile)) (k : List ℕ) →
     option_copied o ≡ lookup (is_at (text_cmp k)) es → AreRead es →
     IfSome o (λ v. v.now.read ≡ file_of k v.now.text)
 viewed_read None es k is all = tt

@@ -24,5 +24,5 @@ pub use listed_nodes::ListedNodes;
 pub use node_name::is_node_name;
 pub use reading::read_bundle;
 pub use site::{Site, make_site, site_of_main};
-pub use site_files::{SiteFile, SiteFiles};
+pub use site_files::SiteFiles;
 pub use stop_lines::stop_text;

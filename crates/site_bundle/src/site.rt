@@ -8,7 +8,8 @@ ghost use Rattle.site_bundle.specs.Given.{are_distinct, has_main, are_manifests,
 ghost use Rattle.site_bundle.specs.SiteView.{facts_for, main_text, have_facts, put_in, site_of};
 
 use crate::listed_nodes::ListedNodes;
-use crate::site_files::{SiteFile, SiteFiles};
+use crate::site_files::SiteFiles;
+use pp_tree::manifest_file::ManifestFile;
 use pp_values::fact_pairs::FactPairs;
 use pp_values::memory::Memory;
 use pp_values::place::MAIN_MANIFEST;
@@ -55,7 +56,7 @@ impl Model for Site {
 }
 
 impl Site {
-    pub fn files(&self) -> &SiteFiles
+    pub fn files(&self) -> &ManifestFiles
         ensures { result.now ≡ self.now.files }
     {
         &self.files
@@ -68,7 +69,7 @@ impl Site {
     }
 
     /// The main manifest.
-    pub fn main_file(&self) -> &SiteFile
+    pub fn main_file(&self) -> &ManifestFile
         ensures text { result.now.text ≡ main_text self.now }
         ensures read { result.now.read ≡ file_of MAIN_MANIFEST.now (main_text self.now) }
     {

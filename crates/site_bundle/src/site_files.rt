@@ -3,11 +3,12 @@ ghost use Rattle.std.specs.Prelude.{◌≡◌, ◌+◌, ◌^◌, ◌<◌, [], le
 ghost use Rattle.std.specs.FinMap.{find, put};
 ghost use Rattle.pp_parser.specs.Manifest.{file_of};
 ghost use Rattle.pp_values.specs.Rising.{text_cmp};
-ghost use Rattle.site_bundle.specs.Listing.{filed};
+ghost use Rattle.site_bundle.specs.Listing.{filed, AreRead};
 ghost use Rattle.site_bundle.specs.SiteView.{are_rising};
 
 use pp_parser::manifest::parse;
 use pp_tree::file::File;
+use pp_tree::manifest_file::ManifestFile;
 use pp_values::fault::{Fault, Stop};
 use pp_values::memory::Memory;
 use pp_values::text::Text;
@@ -15,17 +16,10 @@ use std::alloc::Global;
 use std::collections::BTreeMap;
 use std::marker::Model;
 
-/// A manifest: its text, and its tree or its first fault.
-#[derive(Drop)]
-pub struct SiteFile {
-    pub text: Text,
-    pub read: Result<File, Fault>,
-}
-
 /// Manifests by path in byte order, each read once. A contract sees their paths and texts.
 #[derive(Drop)]
 pub struct SiteFiles {
-    by_path: BTreeMap<Text, SiteFile>,
+    by_path: BTreeMap<Text, ManifestFile>,
 }
 
 impl Model for SiteFiles {
@@ -57,12 +51,12 @@ impl SiteFiles {
         ensures { self.new ≡ (if is_ok result then put text_cmp path text self.old else self.old) }
     {
         let read = read_manifest(alloc, &path, &text)?;
-        drop(self.by_path.insert(path, SiteFile { text, read })?);
+        drop(self.by_path.insert(path, ManifestFile { text, read })?);
         Ok(())
     }
 
     /// The manifest at this path.
-    pub fn get(&self, path: &Text) -> Option<&SiteFile>
+    pub fn get(&self, path: &Text) -> Option<&ManifestFile>
         ensures text { option_map (λ f. f.now.text) result ≡ find text_cmp path.now self.now }
         ensures read { IfSome result (λ f. f.now.read ≡ file_of path.now f.now.text) }
     {
@@ -70,8 +64,9 @@ impl SiteFiles {
     }
 
     /// All manifests, by path in byte order.
-    pub fn as_map(&self) -> &BTreeMap<Text, SiteFile>
+    pub fn as_map(&self) -> &BTreeMap<Text, ManifestFile>
         ensures files { filed result.now.entries ≡ self.now }
+        ensures read { AreRead result.now.entries }
         ensures rising { IsTrue (are_rising self.now) }
     {
         &self.by_path

@@ -42,7 +42,7 @@ use Rattle.res_core.proofs.edge.Edge.TheSendSync as edge
 use Rattle.res_core.proofs.log_line.LogLine.TheSendSync as log_line
 use Rattle.res_core.specs.contracts.held.Held as held
 use Rattle.res_core.specs.contracts.catalog.Catalog as catalog
-use Rattle.site_bundle.specs.contracts.site_files.SiteFile as site_file
+use Rattle.pp_tree.specs.contracts.manifest_file.ManifestFile as site_file
 use Rattle.site_bundle.specs.contracts.site_files.SiteFiles as site_files
 use Rattle.site_bundle.specs.contracts.listed_nodes.ListedNodes as listed_nodes
 use Rattle.site_bundle.specs.contracts.site.Site as site

@@ -78,11 +78,12 @@ fn held_values(alloc: Global, resources: &[Held]) -> Result<Vec<Json>, Memory>
 fn held_value(alloc: Global, held: &Held) -> Result<Json, Memory>
     ensures { IfOk result (λ j. json_view j ≡ held_data held.now) }
 {
-    let attributes = attributes_form(alloc, &held.item.attributes)?;
+    let item = held.item.as_resource();
+    let attributes = attributes_form(alloc, &item.attributes)?;
     let inside = Json::Array(index_values(alloc, held.inside.as_slice())?);
-    let tags = Json::Array(text_forms(alloc, held.item.tags.as_slice())?);
-    let kind = kind_text(alloc, &held.item.kind)?;
-    let title = held.item.title.as_str();
+    let tags = Json::Array(text_forms(alloc, item.tags.as_slice())?);
+    let kind = kind_text(alloc, &item.kind)?;
+    let title = item.title.as_str();
     Ok(held_object(alloc, attributes, inside, tags, title, kind.as_str())?)
 }
 

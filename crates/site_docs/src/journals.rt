@@ -179,10 +179,11 @@ fn export_form(alloc: Global, exported: &Exported) -> Result<Json, Memory>
     ensures { IfOk result (λ j. json_view j ≡ export_data exported.now) }
 {
     let at = place_text(alloc, &exported.node_place)?;
-    let attributes = attributes_form(alloc, &exported.item.attributes)?;
-    let tags = Json::Array(text_forms(alloc, exported.item.tags.as_slice())?);
-    let kind = kind_text(alloc, &exported.item.kind)?;
-    let title = exported.item.title.as_str();
+    let item = exported.item.as_resource();
+    let attributes = attributes_form(alloc, &item.attributes)?;
+    let tags = Json::Array(text_forms(alloc, item.tags.as_slice())?);
+    let kind = kind_text(alloc, &item.kind)?;
+    let title = item.title.as_str();
     Ok(export_object(alloc, at.as_str(), attributes, tags, title, kind.as_str())?)
 }
 

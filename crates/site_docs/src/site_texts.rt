@@ -13,7 +13,7 @@ use pp_values::text::Text;
 use pp_values::value::Value;
 use serde_json::{Map, Value as Json, json};
 use site_bundle::site::Site;
-use site_bundle::site_files::SiteFile;
+use pp_tree::manifest_file::ManifestFile;
 use std::alloc::{AllocError, Global};
 use std::collections::BTreeMap;
 
@@ -42,7 +42,7 @@ fn site_object(alloc: Global, files: Json, nodes: Json) -> Result<Json, AllocErr
     json!(in alloc; {"files": files, "nodes": nodes})
 }
 
-fn file_forms(alloc: Global, files: &BTreeMap<Text, SiteFile>) -> Result<Map<String, Json>, Memory>
+fn file_forms(alloc: Global, files: &BTreeMap<Text, ManifestFile>) -> Result<Map<String, Json>, Memory>
     ensures { IfOk result (λ m. members_view m.entries ≡ put_all (file_settings (filed files.now.entries)) no_members) }
 {
     let mut members = Map::new(alloc);

@@ -11,6 +11,7 @@ use res_core::catalog::Catalog;
 use res_core::export_set::ExportSet;
 use res_core::exported::Exported;
 use res_core::exports::Exports;
+use res_core::plain_resource::PlainResource;
 use res_core::resource::Resource;
 use res_core::tags::Tags;
 use sample_values::kind;
@@ -52,8 +53,16 @@ fn resource(alloc: Global, words: &str) -> Result<Resource, Memory> {
     })
 }
 
+// Such values are plain.
+fn plain(resource: Resource) -> Result<PlainResource, Memory> {
+    match PlainResource::checked(resource) {
+        Some(plain) => Ok(plain),
+        None => Err(Memory),
+    }
+}
+
 fn exported(alloc: Global, words: &str, line: u32) -> Result<Exported, Memory> {
-    let item = resource(alloc, words)?;
+    let item = plain(resource(alloc, words)?)?;
     let file = Text::from_str(alloc, "other.pp")?;
     let node_place = Place { file, line };
     Ok(Exported { node_place, item })
@@ -100,13 +109,13 @@ fn put_resource(out: &mut String, resource: &Resource) -> Result<(), Memory> {
 fn summary(alloc: Global, catalog: &Catalog, exports: &ExportSet) -> Result<Text, Memory> {
     let mut out = String::new(alloc);
     for held in catalog.resources.as_slice() {
-        if held.item.kind.is("notify") {
-            put_resource(&mut out, &held.item)?;
+        if held.item.as_resource().kind.is("notify") {
+            put_resource(&mut out, held.item.as_resource())?;
         }
     }
     out.push_str(" ->")?;
     for exported in exports.items.as_slice() {
-        put_resource(&mut out, &exported.item)?;
+        put_resource(&mut out, exported.item.as_resource())?;
     }
     Ok(Text::new(out))
 }

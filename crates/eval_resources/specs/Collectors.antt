@@ -84,6 +84,7 @@ register n criterion at here = λ w. Ok (
       query = criterion;
       at = place_at w here at;
       exported = true;
+      owner = here.owner;
       realized = None;
     }) w.relations;
   },

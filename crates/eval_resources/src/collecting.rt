@@ -152,6 +152,7 @@ fn register(
         query,
         at,
         exported: true,
+        owner: here.owner,
         realized: None,
     })?;
     Ok(())

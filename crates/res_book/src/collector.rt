@@ -7,6 +7,8 @@ pub struct Collector {
     pub kind: Kind,
     pub query: QueryBox,
     pub at: Place,
+    /// The number of what its code belongs to: its imports stand there.
+    pub owner: u32,
     /// Whether it takes exported declarations alone, and those that other nodes export, as `File <<| |>>` does.
     pub exported: bool,
     /// The one declaration that it takes, where it comes from the function `realize`.

@@ -272,6 +272,7 @@ fn collector(alloc: Global, exported: bool) -> Result<Collector, Memory> {
         query: QueryBox::new(alloc, Query::All)?,
         at: place(alloc, 4)?,
         exported,
+        owner: 0,
         realized: None,
     })
 }

@@ -11,10 +11,13 @@ use crate::nodes::first_node;
 use crate::starting::start_world;
 use crate::statements::block;
 use eval_world::{Evaluated, Forms, Goal, Here, Manifests, World};
+use override_rules::Overrides;
 use pp_tree::expr::Expr;
 use pp_tree::statement::Block;
 use pp_tree::table::Table;
 use pp_values::{Memory, Stop, Text, Value};
+use res_book::{Book, Relations};
+use res_core::LogLines;
 use std::alloc::Global;
 use std::marker::PhantomData;
 
@@ -40,6 +43,17 @@ impl<'a> Evaluator<'a> {
         Ok(Evaluator {
             world: start_world(alloc, manifests, node, facts)?,
         })
+    }
+
+    /// The tables that finishing reads, and the lines of the log.
+    pub fn into_parts(self) -> (Book, Overrides, Relations, LogLines)
+        ensures book { result.0 ≡ self.world.book }
+        ensures overrides { result.1 ≡ self.world.overrides }
+        ensures relations { result.2 ≡ self.world.relations }
+        ensures log { result.3 ≡ self.world.log }
+    {
+        let Evaluator { world } = self;
+        world.into_parts()
     }
 
     /// The value of an expression that stands at this depth.

@@ -1,15 +1,2 @@
-pub mod Collectors
-pub mod Declarations
-pub mod DeclarationViews
-pub mod Finishing
-pub mod ImportPlaces
-pub mod Imports
-pub mod Laws
 pub mod Meaning
-pub mod Notifies
-pub mod NotifyCodes
-pub mod Parts
-pub mod Places
 pub mod Puppet
-pub mod Steps
-pub mod Titles

@@ -1,46 +1,63 @@
--- What a main manifest means for a node among the sets that the nodes export: a catalog and the node's own exports, or
--- the first fault.
-use Rattle.std.specs.Prelude.{ℕ, List, Option, Result, Ok, Err}
-use Rattle.pp_values.specs.Answers.{and_then, in_turn}
-use Rattle.pp_values.specs.declared.fault.Fault.{Fault}
-use Rattle.pp_tree.specs.declared.file.File.{File}
+-- What a site means for a node: the node's catalog and what it exports, or the first fault.
+use Rattle.std.specs.Prelude.{ℕ, List, map, Result, Ok, Err}
 use Rattle.pp_parser.specs.Manifest.{file_of}
+use Rattle.pp_tree.specs.declared.file.File.{File}
+use Rattle.pp_tree.specs.declared.manifest_file.ManifestFile.{ManifestFile}
+use Rattle.pp_values.specs.Answers.{and_then}
+use Rattle.pp_values.specs.Datum.{Datum}
+use Rattle.pp_values.specs.declared.fault.Fault.{Fault}
+use Rattle.pp_values.specs.declared.place.TheConstants.{MAIN_MANIFEST}
 use Rattle.res_core.specs.declared.catalog.Catalog.{Catalog}
 use Rattle.res_core.specs.declared.export_set.ExportSet.{ExportSet}
+use Rattle.res_core.specs.declared.log_line.LogLine.{LogLine}
 use Rattle.export_store.specs.Sets.{Sets}
-use Rattle.compile_core.specs.declared.step.Step.{Step}
-use Rattle.compile_core.specs.declared.step.Collector.{Collector}
-use Rattle.compile_core.specs.Declarations.{DeclaredNotify, locals, collectors}
-use Rattle.compile_core.specs.Steps.{steps_of, first_node}
-use Rattle.pp_values.specs.declared.place.TheConstants.{MAIN_MANIFEST}
-use Rattle.compile_core.specs.Imports.{import_one, all_found}
-use Rattle.compile_core.specs.Finishing.{catalog_of, exports_of}
+use Rattle.site_bundle.specs.SiteView.{Filed, SiteView, main_text}
+use Rattle.eval_world.specs.Manifests.{Manifests}
+use Rattle.eval_world.specs.Outcomes.{Outcome, Step, ◌>>=◌, ◌>>◌}
+use Rattle.eval_world.specs.declared.world.World.{World}
+use Rattle.class_eval.specs.Evaluating.{main_rule}
+use Rattle.class_eval.specs.Starting.{started}
+use Rattle.defined_types.specs.Rounds.{rounds}
+use Rattle.catalog_finish.specs.Finishing.{finished}
 
--- The statements are evaluated in their order, then the node definitions, and only then the collectors, in theirs.
--- Classes and defines
--- that are only defined mean nothing. Which local declarations a collector takes changes no title, so that it plays no
--- part here.
--- To evaluate the collectors again would declare nothing more.
-abbrev pub declarations_of : List ℕ → List Step → Option ℕ → Sets → Result (List DeclaredNotify) Fault
-declarations_of node fs first sets = and_then (locals fs first)
-    (λ ds. in_turn import_one ds (all_found sets node (collectors fs)))
+-- ---- the manifests of a site
 
-abbrev pub finished : List ℕ → List Collector → Result (List DeclaredNotify) Fault → Result (Catalog × ExportSet) Fault
-finished node cs (Ok ds) = Ok (catalog_of node cs ds, exports_of ds)
-finished node cs (Err f) = Err f
+-- a file with its tree, or its first fault
+abbrev pub read_file : Filed → List ℕ × ManifestFile
+read_file f = (f.0, record { text = f.1; read = file_of f.0 f.1 })
 
--- what these steps mean, in a file whose first node definition stands at this line, if there is one
-abbrev pub meaning_of_steps : List Step → Option ℕ → List ℕ → Sets → Result (Catalog × ExportSet) Fault
-meaning_of_steps fs first node sets = finished node (collectors fs) (declarations_of node fs first sets)
+abbrev pub manifests_of : SiteView → File → Manifests
+manifests_of site main = record { main = main; files = map read_file site.files }
 
--- what the tree of a main manifest means
-abbrev pub meaning_of_file : File → List ℕ → Sets → Result (Catalog × ExportSet) Fault
-meaning_of_file file node sets = meaning_of_steps (steps_of file.statements) (first_node file.definitions) node sets
+-- ---- evaluation and finishing
 
-abbrev pub meaning_if_read : Result File Fault → List ℕ → Sets → Result (Catalog × ExportSet) Fault
-meaning_if_read (Ok file) node sets = meaning_of_file file node sets
-meaning_if_read (Err f) node sets = Err f
+-- The main manifest, and then rounds, which see one version of the sets.
+abbrev pub evaluated : Manifests → List ℕ → Sets → Step (Unit {0})
+evaluated m node sets = do
+  main_rule m.main.statements m.main.definitions
+  rounds node sets
 
--- what the text of a main manifest means
-unfoldable pub meaning : List ℕ → List ℕ → Sets → Result (Catalog × ExportSet) Fault
-meaning manifest node sets = meaning_if_read (file_of MAIN_MANIFEST.now manifest) node sets
+abbrev pub with_log : List LogLine → Catalog × ExportSet → Catalog × ExportSet
+with_log log made = (record made.0 { log = log }, made.1)
+
+-- the tables become catalog and exports; the lines of the log are the catalog's
+abbrev pub finished_world : List ℕ → World → Result (Catalog × ExportSet) Fault
+finished_world node w = and_then (finished w.book w.overrides w.relations node) (λ made. Ok (with_log w.log made))
+
+abbrev pub ended : List ℕ → Outcome (Unit {0}) → Result (Catalog × ExportSet) Fault
+ended node (Ok p) = finished_world node p.1
+ended node (Err f) = Err f
+
+-- it begins with the names of top scope, made of the node's name and facts, and with `Class[main]`
+abbrev pub meaning_of : Manifests → List ℕ → Datum → Sets → Result (Catalog × ExportSet) Fault
+meaning_of m node facts sets = ended node (evaluated m node sets (started m node facts))
+
+-- ---- the site
+
+-- where the main manifest has no tree, its fault
+abbrev pub meaning_if_read : SiteView → Result File Fault → List ℕ → Datum → Sets → Result (Catalog × ExportSet) Fault
+meaning_if_read site (Ok main) node facts sets = meaning_of (manifests_of site main) node facts sets
+meaning_if_read site (Err f) node facts sets = Err f
+
+unfoldable pub meaning : SiteView → List ℕ → Datum → Sets → Result (Catalog × ExportSet) Fault
+meaning site node facts sets = meaning_if_read site (file_of MAIN_MANIFEST.now (main_text site)) node facts sets

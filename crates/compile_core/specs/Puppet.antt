@@ -7,12 +7,12 @@ use Rattle.pp_values.specs.declared.place.TheConstants.{MAIN_MANIFEST}
 use Rattle.res_core.specs.declared.catalog.Catalog.{Catalog}
 use Rattle.res_core.specs.declared.export_set.ExportSet.{ExportSet}
 use Rattle.site_core.specs.Meaning.{Meaning}
-use Rattle.site_bundle.specs.SiteView.{SiteView, facts_for, main_text}
-use Rattle.compile_core.specs.Meaning as main
+use Rattle.site_bundle.specs.SiteView.{SiteView, facts_for}
+use Rattle.compile_core.specs.Meaning.{meaning}
 
--- what its main manifest means; facts mean nothing yet
+-- it depends on the site, the node, the facts and the exported sets alone
 abbrev pub puppet : Meaning SiteView Catalog Fault
-puppet site node facts sets = main.meaning (main_text site) node sets
+puppet = meaning
 
 -- the facts that a site lists for a node
 abbrev pub listed : SiteView → List ℕ → Option Datum

@@ -1,5 +1,4 @@
 //! Puppet's language, in which a site is written.
-ghost use Rattle.std.specs.Prelude.{◌≡◌};
 
 use crate::compiling::compile;
 use export_store::version::Version;
@@ -17,7 +16,7 @@ use site_docs::fault_texts::fault_text;
 use site_docs::site_texts::site_text;
 use std::alloc::Global;
 
-/// The language of manifests, as far as it is built. Facts mean nothing in it yet.
+/// The language of manifests, as far as it is built.
 #[derive(Drop)]
 pub struct PuppetLanguage;
 
@@ -48,10 +47,10 @@ impl Language for PuppetLanguage {
         alloc: Global,
         site: &Site,
         node: &Text,
-        _facts: &Value,
+        facts: &Value,
         sets: &Version,
     ) -> Result<(Catalog, ExportSet), CompileStop<Fault>> {
-        match compile(alloc, site, node, sets) {
+        match compile(alloc, site, node, facts, sets) {
             Ok(made) => Ok(made),
             Err(Stop::Fault(fault)) => Err(CompileStop::Fault(fault)),
             Err(Stop::Memory) => Err(CompileStop::Memory),

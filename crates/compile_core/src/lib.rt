@@ -1,19 +1,8 @@
-//! What a manifest means: the catalog of a node and what it exports, or the first fault.
+//! What a site means for a node: the catalog and what the node exports, or the first fault.
 #![tactic(auto)]
 
-mod collectors;
-pub mod compiling;
-mod declaration;
-mod declarations;
-mod finishing;
-mod importing;
+mod compiling;
 pub mod language;
-pub mod laws;
-mod notifies;
-mod parts;
-pub mod places;
-pub mod step;
-pub mod steps;
 
-pub use compiling::{compile, compile_file};
+pub use compiling::compile;
 pub use language::PuppetLanguage;

@@ -73,7 +73,7 @@ fn item_of(
 
 /// The resource of the owner, as far as it is a live declaration.
 #[tactic(auto, using(crate::proofs::Containers::none_there))]
-fn container_in(book: &Book, resource: u32) -> Option<u32>
+pub fn container_in(book: &Book, resource: u32) -> Option<u32>
     ensures { result ≡ spec.container_in book.now resource }
 {
     if resource < book.count() && book.live(resource) {

@@ -16,6 +16,7 @@ mod resources;
 
 pub use acting::act;
 pub use collecting::collector;
+pub use declaring::container_in;
 pub use named::Named;
 pub use reading::lines;
 pub use resources::resource;

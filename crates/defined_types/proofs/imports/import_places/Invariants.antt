@@ -1,0 +1,13 @@
+-- What the places that are left add is what all of them add.
+use Rattle.std.proofs.Common.{◌≡◌, length}
+use Rattle.defined_types.specs.ImportPlaces.{all_placed_at}
+use Rattle.defined_types.specs.Rounds.{take_imports}
+use Rattle.defined_types.proofs.imports.import_places.Given as goal
+
+abbrev pub invariant-loop-place : goal.invariant-loop-place
+invariant-loop-place l =
+    take_imports l.collector l.before (all_placed_at l.sets l.places) l.fn.world
+    ≡ take_imports l.collector l.added (all_placed_at l.sets l.left) l.world
+
+abbrev pub decreases-loop-place : goal.decreases-loop-place
+decreases-loop-place l = length l.left

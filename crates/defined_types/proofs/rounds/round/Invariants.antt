@@ -1,0 +1,11 @@
+-- What the collectors that are left do is what all of them do.
+use Rattle.std.proofs.Common.{◌≡◌, ◌-◌}
+use Rattle.defined_types.specs.Rounds.{round, turns_from}
+use Rattle.defined_types.proofs.rounds.round.Given as goal
+
+abbrev pub invariant-loop : goal.invariant-loop
+invariant-loop l =
+    round l.node l.sets l.fn.world ≡ turns_from l.added l.collector (l.count - l.collector) l.node l.sets l.world
+
+abbrev pub decreases-loop : goal.decreases-loop
+decreases-loop l = l.count - l.collector

@@ -1,0 +1,2 @@
+pub mod ImportPlaces
+pub mod Rounds

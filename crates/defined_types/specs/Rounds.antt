@@ -1,0 +1,92 @@
+-- Rounds: what collectors take, again and again, until a round adds nothing.
+use Rattle.std.specs.Prelude.{ℕ, zero, suc, ◌+◌, Bool, true, false, ◌||◌, if◌then◌else◌, List, [], ◌∷◌, length, filter}
+use Rattle.std.specs.Prelude.{Option, None, Some, slice_get}
+use Rattle.export_store.specs.ExportQueries.{Placed, exports_of, is_found}
+use Rattle.export_store.specs.Sets.{Sets}
+use Rattle.pp_values.specs.declared.fault.What.TheVariants as what
+use Rattle.res_book.specs.declared.collector.Collector.{Collector}
+use Rattle.eval_collecting.specs.Importing.{import_match}
+use Rattle.eval_collecting.specs.Matching.{local_match}
+use Rattle.eval_world.specs.Outcomes.{Step, ◌>>=◌, pure}
+use Rattle.eval_world.specs.Worlds.{fault, top}
+use Rattle.eval_world.specs.declared.world.World.{World}
+use Rattle.defined_types.specs.declared.rounds.TheConstants.{ROUND_LIMIT}
+
+-- ---- one collector: first the local declarations, by number
+
+-- so many of them, from a number on; `added` says whether something was added before
+unfoldable pub take_from : ℕ → Bool → ℕ → ℕ → Step Bool
+take_from c added n zero = pure added
+take_from c added n (suc left) = do
+  more ← local_match c n
+  take_from c (more || added) (n + 1) left
+
+abbrev pub take_locals : ℕ → Step Bool
+take_locals c = λ w. take_from c false 0 (length w.book) w
+
+-- ---- and then what other nodes export, by the node's name and by its place in the node's set
+
+unfoldable pub take_imports : ℕ → Bool → List Placed → Step Bool
+take_imports c added [] = pure added
+take_imports c added (p ∷ ps) = do
+  more ← import_match c p.0.node p.0.place p.1
+  take_imports c (more || added) ps
+
+-- what the other nodes export of a kind, from one version of their sets
+abbrev pub others : List ℕ → List ℕ → Sets → List Placed
+others kind node sets = filter (is_found kind None node) (exports_of sets)
+
+-- the kind whose exports a collector takes, where it takes any
+abbrev pub kind_imported : Bool → List ℕ → Option (List ℕ)
+kind_imported true kind = Some kind
+kind_imported false kind = None
+
+abbrev pub imports_by : Option Collector → Option (List ℕ)
+imports_by None = None
+imports_by (Some c) = kind_imported c.exported c.kind
+
+abbrev pub imports : World → ℕ → Option (List ℕ)
+imports w c = imports_by (slice_get w.relations.collectors c)
+
+abbrev pub import_kind : ℕ → Bool → Option (List ℕ) → List ℕ → Sets → Step Bool
+import_kind c added None node sets = pure added
+import_kind c added (Some kind) node sets = take_imports c added (others kind node sets)
+
+abbrev pub import_all : ℕ → Bool → List ℕ → Sets → Step Bool
+import_all c added node sets = λ w. import_kind c added (imports w c) node sets w
+
+unfoldable pub collector_turn : ℕ → List ℕ → Sets → Step Bool
+collector_turn c node sets = do
+  added ← take_locals c
+  import_all c added node sets
+
+-- ---- one round: the collectors that are there, in the order of their registration
+
+unfoldable pub turns_from : Bool → ℕ → ℕ → List ℕ → Sets → Step Bool
+turns_from added c zero node sets = pure added
+turns_from added c (suc left) node sets = do
+  more ← collector_turn c node sets
+  turns_from (more || added) (c + 1) left node sets
+
+abbrev pub round : List ℕ → Sets → Step Bool
+round node sets = λ w. turns_from false 0 (length w.relations.collectors) node sets w
+
+-- ---- rounds
+
+abbrev pub again : Bool → Step (Unit {0}) → Step (Unit {0})
+again true more = more
+again false more = pure tt
+
+-- F27, at line 1 of the main manifest, where the last round still added something
+abbrev pub too_many : Step (Unit {0})
+too_many = fault top 1 what.RoundLimit
+
+unfoldable pub rounds_left : ℕ → List ℕ → Sets → Step (Unit {0})
+rounds_left zero node sets = too_many
+rounds_left (suc left) node sets = do
+  added ← round node sets
+  again added (rounds_left left node sets)
+
+-- all collectors and all rounds see one version of the sets
+abbrev pub rounds : List ℕ → Sets → Step (Unit {0})
+rounds = rounds_left ROUND_LIMIT

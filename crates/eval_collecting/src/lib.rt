@@ -1,0 +1,8 @@
+//! What collectors take: local declarations, and resources that other nodes export.
+#![tactic(auto)]
+
+mod importing;
+mod matching;
+
+pub use importing::import_match;
+pub use matching::local_match;

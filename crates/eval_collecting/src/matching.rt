@@ -1,0 +1,100 @@
+//! Local declarations that a collector takes.
+ghost use Rattle.std.specs.Prelude.{◌≡◌, ◌<◌, length, Some, IfOk, option_copied, slice_get};
+ghost use Rattle.eval_collecting.specs.Matching as spec;
+ghost use Rattle.eval_world.specs.Outcomes.{Gives, same};
+ghost use Rattle.override_rules.specs.Names.{attributes_of};
+
+use collector_query::matches;
+use eval_world::World;
+use override_rules::Overrides;
+use pp_values::{Memory, Reference, Stop};
+use res_book::{Book, Collector, Mode, Row};
+use res_core::{Attributes, Resource};
+use std::alloc::Global;
+
+/// Whether one collector takes one local declaration, which is marked then: true exactly where that makes it live.
+#[tactic(auto, unfolding(crate::specs::Matching::local_match), using(crate::proofs::Numbers::none_taken))]
+pub fn local_match(world: &mut World<'_>, collector: u32, number: u32) -> Result<bool, Stop>
+    ensures { Gives same (spec.local_match collector number world.old) result world.new }
+{
+    if number >= world.book.count() {
+        return Ok(false);
+    }
+    if takes_at(world, collector, number)? {
+        return Ok(world.book.realize(number)?);
+    }
+    Ok(false)
+}
+
+fn takes_at(world: &World<'_>, collector: u32, number: u32) -> Result<bool, Memory>
+    requires { number < length world.now.book }
+    ensures { IfOk result (λ b. b ≡ spec.takes_at world.now collector number) }
+{
+    match world.relations.collectors().get(collector as usize) {
+        Some(collector) => takes(
+            world.heap.alloc(),
+            &world.overrides,
+            &world.book,
+            collector,
+            number,
+        ),
+        None => Ok(false),
+    }
+}
+
+#[tactic(auto, unfolding(crate::specs::Matching::takes))]
+fn takes(
+    alloc: Global,
+    overrides: &Overrides,
+    book: &Book,
+    collector: &Collector,
+    number: u32,
+) -> Result<bool, Memory>
+    requires { number < length book.now }
+    ensures { IfOk result (λ b. b ≡ spec.taken_by overrides.now (Some collector.now) (slice_get book.now number)) }
+{
+    if !may_take(collector, book.row(number)) {
+        return Ok(false);
+    }
+    let set = overrides.attributes(alloc, book, number)?;
+    Ok(asks(collector, &book.row(number).item.item, &set))
+}
+
+/// Whether it is open to the collector and of its kind.
+fn may_take(collector: &Collector, row: &Row) -> bool
+    ensures { result ≡ spec.may_take collector.now row.now }
+{
+    is_open(collector.exported, &row.mode) && row.item.item.kind == collector.kind
+}
+
+fn is_open(exported: bool, mode: &Mode) -> bool
+    ensures { result ≡ spec.is_open exported mode.now }
+{
+    match mode {
+        Mode::Plain | Mode::Virtual => !exported,
+        Mode::Exported => true,
+        Mode::Imported { node: _, place: _ } => false,
+    }
+}
+
+/// Whether the collector asks for a resource with these attributes.
+pub fn asks(collector: &Collector, resource: &Resource, set: &Attributes) -> bool
+    ensures { result ≡ spec.asks collector.now.realized collector.now.query resource.now set.now }
+{
+    match &collector.realized {
+        Some(wanted) => is_reference_of(wanted, resource),
+        None => matches(
+            collector.query.as_query(),
+            &resource.title,
+            &resource.tags,
+            set,
+        ),
+    }
+}
+
+#[tactic(auto, unfolding(crate::specs::Matching::named))]
+fn is_reference_of(wanted: &Reference, resource: &Resource) -> bool
+    ensures { result ≡ spec.named wanted.now resource.now }
+{
+    wanted.kind == resource.kind && wanted.title == resource.title
+}

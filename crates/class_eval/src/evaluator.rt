@@ -38,7 +38,7 @@ impl<'a> Evaluator<'a> {
         node: &Text,
         facts: &Value,
     ) -> Result<Evaluator<'a>, Memory>
-        ensures { IfOk result (λ e. e.world ≡ started manifests node.now (view facts.now)) }
+        ensures { IfOk result (λ e. e.world ≡ started manifests.entry node.now (view facts.now)) }
     {
         Ok(Evaluator {
             world: start_world(alloc, manifests, node, facts)?,

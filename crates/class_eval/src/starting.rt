@@ -16,7 +16,7 @@ pub fn start_world<'a>(
     node: &Text,
     facts: &Value,
 ) -> Result<World<'a>, Memory>
-    ensures { IfOk result (λ w. w ≡ spec.started manifests node.now (view facts.now)) }
+    ensures { IfOk result (λ w. w ≡ spec.started manifests.entry node.now (view facts.now)) }
 {
     let mut world = World::new(alloc, manifests)?;
     begin(&mut world, node, facts)?;

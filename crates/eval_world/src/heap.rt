@@ -2,7 +2,7 @@ use std::alloc::Global;
 use std::marker::Model;
 
 /// Where a compile has its memory from. A contract sees nothing of it, so that what a compile means does not depend on it.
-#[derive(Clone, Copy)]
+#[derive(Drop)]
 pub struct Heap {
     alloc: Global,
 }

@@ -8,7 +8,7 @@ use std::marker::Model;
 /// The manifests that an evaluation reads: the main one, and all of the site by their paths. They stay as they are.
 ///
 /// A contract sees their trees and faults, and not where they lie.
-#[derive(Clone, Copy)]
+#[derive(Drop)]
 pub struct Manifests<'a> {
     main: &'a File,
     files: &'a BTreeMap<Text, ManifestFile>,
@@ -18,6 +18,10 @@ impl<'a> Model for Manifests<'a> {
     ghost use Rattle.eval_world.specs.Manifests.{Manifests as Seen};
 
     ghost Value = { Seen };
+
+    ghost use Rattle.eval_world.specs.Manifests.{coded_manifests};
+
+    ghost coded = { coded_manifests };
 
     ghost view = { λ m. record { main = m.main.now; files = m.files.now.entries } };
 }

@@ -48,7 +48,7 @@ impl<'a> World<'a> {
     /// The world before anything was evaluated: the empty top scope, the main manifest as the one owner, and no
     /// declaration.
     pub fn new(alloc: Global, manifests: Manifests<'a>) -> Result<World<'a>, Memory>
-        ensures { IfOk result (λ w. w ≡ spec.empty manifests) }
+        ensures { IfOk result (λ w. w ≡ spec.empty manifests.entry) }
     {
         Ok(World {
             heap: Heap::new(alloc),

@@ -42,7 +42,7 @@ fn compile_manifests(
     facts: &Value,
     sets: &Version,
 ) -> Result<(Catalog, ExportSet), Stop>
-    ensures { Answers result (spec.meaning_of manifests node.now (view facts.now) sets.now) }
+    ensures { Answers result (spec.meaning_of manifests.entry node.now (view facts.now) sets.now) }
 {
     let mut evaluator = Evaluator::start(alloc, manifests, node, facts)?;
     evaluator.run_main()?;

@@ -5,6 +5,7 @@ use Rattle.std.proofs.lemmas.Option.{slice_get_past}
 use Rattle.override_rules.specs.Meaning.{State}
 use Rattle.res_book.specs.declared.collector.Collector.{Collector}
 use Rattle.res_book.specs.declared.row.Row.{Row}
+use Rattle.eval_collecting.specs.Importing.{is_import_of}
 use Rattle.eval_collecting.specs.Matching.{taken_by}
 
 nothing_taken : (s : State) (c : Option Collector) → taken_by s c None ≡ false
@@ -15,3 +16,8 @@ pub none_taken : (s : State) (c : Option Collector) (rows : List Row) (n : ℕ) 
     taken_by s c (slice_get rows n) ≡ false
 none_taken s c rows n outside =
     ap (taken_by s c) (slice_get_past rows n (omega (arith, outside))) ∙ nothing_taken s c
+
+pub no_import : (node : List ℕ) (place : ℕ) (rows : List Row) (n : ℕ) → ¬ (n < length rows) →
+    is_import_of node place (slice_get rows n) ≡ false
+no_import node place rows n outside =
+    ap (is_import_of node place) (slice_get_past rows n (omega (arith, outside)))

@@ -2,7 +2,7 @@
 use Rattle.std.specs.Prelude.{ℕ, ⊤, Bool, true, false, not, ◌&&◌, ◌==◌, if◌then◌else◌, List, [], ◌∷◌, Option, None, Some}
 use Rattle.std.specs.Prelude.{Result, Ok, Err, slice_get}
 use Rattle.std.specs.Str.{bytes_eq}
-use Rattle.override_rules.specs.Meaning.{stands}
+use Rattle.override_rules.specs.Meaning.{row_of, stands}
 use Rattle.pp_values.specs.Answers.{and_then}
 use Rattle.pp_values.specs.Faults.{fault}
 use Rattle.pp_values.specs.Settings.{Setting}
@@ -48,7 +48,7 @@ is_import_of node place (Some r) = same_import node place r.mode
 
 -- An import has the reference of what is exported, so that it is found under it.
 abbrev pub was_imported : List ℕ → ℕ → Resource → List Row → Bool
-was_imported node place r book = is_import_of node place (rows.declared_as (reference_of r) book)
+was_imported node place r book = is_import_of node place (row_of (reference_of r) book)
 
 -- ---- the tests, as those of a local declaration, at the place that it has in its set
 

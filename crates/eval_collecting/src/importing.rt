@@ -1,13 +1,10 @@
 //! Resources that other nodes export, as a collector imports them.
-ghost use Rattle.std.specs.Prelude.{◌≡◌, ◌<◌, Some, length, IfOk, option_copied};
+ghost use Rattle.std.specs.Prelude.{◌≡◌, ◌<◌, length, slice_get, IfOk};
 ghost use Rattle.eval_collecting.specs.Importing as spec;
 ghost use Rattle.eval_collecting.specs.Matching as matched;
-ghost use Rattle.eval_resources.specs.Declaring.{container_in as container_meant};
 ghost use Rattle.eval_world.specs.Outcomes.{Gives, same};
 ghost use Rattle.pp_values.specs.Answers.{Answers};
-ghost use Rattle.res_book.specs.Rows.{declared_as};
 ghost use Rattle.res_core.specs.AttributeViews.{settings};
-ghost use Rattle.res_core.specs.NativeTypes.{attributes_of};
 
 use crate::matching::asks;
 use eval_resources::container_in;
@@ -79,9 +76,19 @@ fn was_imported(
 {
     let reference = reference_of(alloc, item)?;
     match book.find(&reference) {
-        Some(number) if number < book.count() => Ok(is_same_import(book.mode(number), node, place)),
-        _ => Ok(false),
+        Some(number) => Ok(is_import_at(book, number, node, place)),
+        None => Ok(false),
     }
+}
+
+#[tactic(auto, using(crate::proofs::Numbers::no_import))]
+fn is_import_at(book: &Book, number: u32, node: &Text, place: u32) -> bool
+    ensures { result ≡ spec.is_import_of node.now place (slice_get book.now number) }
+{
+    if number < book.count() {
+        return is_same_import(&book.row(number).mode, node, place);
+    }
+    false
 }
 
 fn is_same_import(mode: &Mode, node: &Text, place: u32) -> bool

@@ -1,10 +1,10 @@
 -- Counting up and down.
-use Rattle.std.proofs.Common.{◌≡◌, ℕ, suc, ◌+◌, ◌-◌, ◌<◌, Bool, List, ◌||◌, Ok, refl, arith}
+use Rattle.std.proofs.Common.{◌≡◌, ℕ, zero, suc, ap, ◌+◌, ◌-◌, ◌<◌, Bool, List, ◌||◌, Ok, refl, arith}
 use Rattle.export_store.specs.Sets.{Sets}
 use Rattle.eval_collecting.specs.Matching.{local_match}
 use Rattle.eval_world.specs.Outcomes.{go_on}
 use Rattle.eval_world.specs.declared.world.World.{World}
-use Rattle.defined_types.specs.Rounds.{take_from, collector_turn, turns_from, round, rounds_left, again}
+use Rattle.defined_types.specs.Rounds.{take_from, collector_turn, turns_from, round, rounds_left, again, too_many}
 
 pub one_local : (c n count : ℕ) (added : Bool) (w : World) → n < count →
     take_from c added n (count - n) w
@@ -32,4 +32,13 @@ pub one_round : (left : ℕ) (node : List ℕ) (sets : Sets) (w : World) → 0 <
     rounds_left left node sets w
     ≡ go_on (round node sets w) (λ added. again added (rounds_left (left - 1) node sets))
 unfolding take_from turns_from rounds_left
-one_round left node sets w some = let e : left ≡ suc (left - 1) = omega arith in rw e refl
+one_round zero node sets w some = absurd (omega (arith, some))
+one_round (suc n) node sets w some =
+    let e : n ≡ suc n - 1 = omega arith in
+    ap (λ k. go_on (round node sets w) (λ added. again added (rounds_left k node sets))) e
+
+pub no_round : (left : ℕ) (node : List ℕ) (sets : Sets) (w : World) → ¬ (0 < left) →
+    rounds_left left node sets w ≡ too_many w
+unfolding take_from turns_from rounds_left
+no_round zero node sets w none = refl
+no_round (suc n) node sets w none = absurd (none (omega arith))

@@ -14,7 +14,7 @@ pub const ROUND_LIMIT: u32 = 1_000;
 
 /// Has the collectors take what is declared and what the other nodes export, until a round adds nothing. Where the last
 /// round that is allowed still adds something it is F27.
-#[tactic(auto, using(crate::proofs::Counts::one_round))]
+#[tactic(auto, using(crate::proofs::Counts::one_round, crate::proofs::Counts::no_round))]
 pub fn run_rounds(world: &mut World<'_>, sets: &Version, node: &Text) -> Result<(), Stop>
     ensures { Gives nothing (spec.rounds node.now sets.now world.old) result world.new }
 {

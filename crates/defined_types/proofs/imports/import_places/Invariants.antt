@@ -4,10 +4,10 @@ use Rattle.defined_types.specs.ImportPlaces.{all_placed_at}
 use Rattle.defined_types.specs.Rounds.{take_imports}
 use Rattle.defined_types.proofs.imports.import_places.Given as goal
 
-abbrev pub invariant-loop-place : goal.invariant-loop-place
-invariant-loop-place l =
+abbrev pub invariant-loop-left : goal.invariant-loop-left
+invariant-loop-left l =
     take_imports l.collector l.before (all_placed_at l.sets l.places) l.fn.world
     ≡ take_imports l.collector l.added (all_placed_at l.sets l.left) l.world
 
-abbrev pub decreases-loop-place : goal.decreases-loop-place
-decreases-loop-place l = length l.left
+abbrev pub decreases-loop-left : goal.decreases-loop-left
+decreases-loop-left l = length l.left

@@ -3,9 +3,9 @@ use Rattle.std.proofs.Common.{◌≡◌, ◌-◌}
 use Rattle.defined_types.specs.Rounds.{round, turns_from}
 use Rattle.defined_types.proofs.rounds.round.Given as goal
 
-abbrev pub invariant-loop : goal.invariant-loop
-invariant-loop l =
+abbrev pub invariant-loop-collector : goal.invariant-loop-collector
+invariant-loop-collector l =
     round l.node l.sets l.fn.world ≡ turns_from l.added l.collector (l.count - l.collector) l.node l.sets l.world
 
-abbrev pub decreases-loop : goal.decreases-loop
-decreases-loop l = l.count - l.collector
+abbrev pub decreases-loop-collector : goal.decreases-loop-collector
+decreases-loop-collector l = l.count - l.collector

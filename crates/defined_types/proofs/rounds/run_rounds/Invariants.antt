@@ -3,8 +3,8 @@ use Rattle.std.proofs.Common.{◌≡◌}
 use Rattle.defined_types.specs.Rounds.{rounds, rounds_left}
 use Rattle.defined_types.proofs.rounds.run_rounds.Given as goal
 
-abbrev pub invariant-loop : goal.invariant-loop
-invariant-loop l = rounds l.node l.sets l.fn.world ≡ rounds_left l.left l.node l.sets l.world
+abbrev pub invariant-loop-left : goal.invariant-loop-left
+invariant-loop-left l = rounds l.node l.sets l.fn.world ≡ rounds_left l.left l.node l.sets l.world
 
-abbrev pub decreases-loop : goal.decreases-loop
-decreases-loop l = l.left
+abbrev pub decreases-loop-left : goal.decreases-loop-left
+decreases-loop-left l = l.left

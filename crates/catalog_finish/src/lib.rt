@@ -1,0 +1,4 @@
+//! What becomes of a compile's tables: the node's catalog and its exports, or the first fault.
+#![tactic(auto)]
+
+mod plain_values;

@@ -1,6 +1,5 @@
 -- The world before any statement is evaluated.
 use Rattle.std.specs.Prelude.{List, [], ◌∷◌, Some, None, codes}
-use Rattle.std.specs.declared.alloc.Global.{Global}
 use Rattle.pp_values.specs.Datum.{Datum}
 use Rattle.pp_values.specs.declared.place.TheConstants.{MAIN_MANIFEST}
 use Rattle.res_book.specs.Rows.{new_row}
@@ -11,7 +10,7 @@ use Rattle.res_core.specs.declared.declared.Declared.{Declared}
 use Rattle.scope_core.specs.Names.{Name}
 use Rattle.class_eval.specs.Facts.{with_top_names}
 use Rattle.eval_world.specs.Worlds.{empty}
-use Rattle.eval_world.specs.declared.manifests.Manifests.{Manifests}
+use Rattle.eval_world.specs.Manifests.{Manifests}
 use Rattle.eval_world.specs.declared.owners.TheConstants.{MAIN_SOURCE}
 use Rattle.eval_world.specs.declared.world.World.{World}
 
@@ -39,5 +38,5 @@ main_row = record (new_row main_class mode.Plain) { bound = Some [] }
 abbrev pub begun : Name → Datum → World → World
 begun node facts w = record w { scopes = with_top_names node facts w.scopes; book = main_row ∷ [] }
 
-abbrev pub started : Global → Manifests → Name → Datum → World
-started alloc manifests node facts = begun node facts (empty alloc manifests)
+abbrev pub started : Manifests → Name → Datum → World
+started manifests node facts = begun node facts (empty manifests)

@@ -35,7 +35,7 @@ impl<'a> Evaluator<'a> {
         node: &Text,
         facts: &Value,
     ) -> Result<Evaluator<'a>, Memory>
-        ensures { IfOk result (λ e. e.world ≡ started alloc manifests.entry node.now (view facts.now)) }
+        ensures { IfOk result (λ e. e.world ≡ started manifests node.now (view facts.now)) }
     {
         Ok(Evaluator {
             world: start_world(alloc, manifests, node, facts)?,
@@ -71,11 +71,11 @@ impl<'a> Evaluator<'a> {
     #[tactic(auto, unfolding(crate::specs::Evaluating::main_rule))]
     pub fn run_main(&mut self) -> Result<(), Stop>
         ensures { Gives nothing
-            (spec.main_rule self.old.world.manifests.main.now.statements self.old.world.manifests.main.now.definitions
+            (spec.main_rule self.old.world.manifests.main.statements self.old.world.manifests.main.definitions
             self.old.world)
             result self.new.world }
     {
-        let main = self.world.manifests.main;
+        let main = self.world.manifests.main();
         let forms: Forms<_, Whole> = Forms {
             left: levels_left(1),
             inner: evaluate,

@@ -16,7 +16,7 @@ pub fn start_world<'a>(
     node: &Text,
     facts: &Value,
 ) -> Result<World<'a>, Memory>
-    ensures { IfOk result (λ w. w ≡ spec.started alloc manifests.entry node.now (view facts.now)) }
+    ensures { IfOk result (λ w. w ≡ spec.started manifests node.now (view facts.now)) }
 {
     let mut world = World::new(alloc, manifests)?;
     begin(&mut world, node, facts)?;
@@ -27,9 +27,9 @@ fn begin(world: &mut World<'_>, node: &Text, facts: &Value) -> Result<(), Memory
     requires { world.old.book ≡ [] }
     ensures { OnOk result (world.new ≡ spec.begun node.now (view facts.now) world.old) }
 {
-    let at = main_place(world.alloc)?;
-    put_top_names(world.alloc, &mut world.scopes, node, facts, &at)?;
-    declare_main(world.alloc, &mut world.book)
+    let at = main_place(world.heap.alloc())?;
+    put_top_names(world.heap.alloc(), &mut world.scopes, node, facts, &at)?;
+    declare_main(world.heap.alloc(), &mut world.book)
 }
 
 fn main_place(alloc: Global) -> Result<Place, Memory>

@@ -2,7 +2,6 @@
 use Rattle.std.proofs.Common.{◌≡◌, ℕ, true, false, pos, negsuc, List, [], ◌∷◌, map, Option, None, Some}
 use Rattle.std.proofs.Common.{Result, Ok, Err, refl, codes}
 use Rattle.std.specs.Fmt.{digits}
-use Rattle.std.specs.declared.alloc.Global.{Global}
 use Rattle.pp_funcs.specs.Names.{function_of, needs_evaluator}
 use Rattle.pp_tree.specs.Building as tree
 use Rattle.pp_tree.specs.Building.{form_of, line_of}
@@ -30,7 +29,7 @@ use Rattle.eval_world.specs.Outcomes.{Outcome, Step, ◌>>=◌, ◌>>◌, pure}
 use Rattle.eval_world.specs.Owners.{owner_at}
 use Rattle.eval_world.specs.Worlds.{empty, fault, read, assign, enter_lambda, write_log}
 use Rattle.eval_world.specs.declared.here.Here.{Here}
-use Rattle.eval_world.specs.declared.manifests.Manifests.{Manifests}
+use Rattle.eval_world.specs.Manifests.{Manifests}
 use Rattle.eval_calls.specs.Calls.{invoked, invoked_on, words_rule}
 use Rattle.eval_calls.specs.Calls.{plain_rule, evaluated_rule, log_rule, with_lambda_rule, stray_lambda_rule}
 use Rattle.eval_calls.specs.Iterating.{turns_from, over_rule, iterate_rule, reduce_from, reduced, reduce_rule}
@@ -107,8 +106,8 @@ abbrev shown : Outcome Datum → Result (Datum × List (List ℕ)) Fault
 shown (Ok p) = Ok (p.0, map (λ l. l.text) p.1.log)
 shown (Err f) = Err f
 
-abbrev run : Step Datum → Global → Manifests → Result (Datum × List (List ℕ)) Fault
-run p alloc m = shown (p (empty alloc m))
+abbrev run : Step Datum → Manifests → Result (Datum × List (List ℕ)) Fault
+run p m = shown (p (empty m))
 
 abbrev written : List ℕ → Expr
 written t = tree.expr_at 5 (form.Text t)
@@ -140,68 +139,68 @@ calls of block f arguments l = invoked (inner of block) f arguments l 3 top
 
 -- ---- arguments
 
-left_to_right : (alloc : Global) (m : Manifests)
-    → run (calls d.undef fails (codes "notice") (written (codes "a") ∷ written (codes "b") ∷ []) None) alloc m
+left_to_right : (m : Manifests)
+    → run (calls d.undef fails (codes "notice") (written (codes "a") ∷ written (codes "b") ∷ []) None) m
     ≡ Ok (d.undef, codes "a" ∷ codes "b" ∷ codes "a b" ∷ [])
 unfolding invoked values_from argument_rule plain_rule evaluated_rule log_rule write_log needs_evaluator out-Form
     denote.Hole.Carrier.out
-left_to_right alloc m = refl
+left_to_right m = refl
 
-spliced_arguments : (alloc : Global) (m : Manifests)
+spliced_arguments : (m : Manifests)
     → run (calls (list (one ∷ d.undef ∷ one ∷ [])) fails (codes "notice") (spliced ∷ written
-    (codes "b") ∷ []) None) alloc m
+    (codes "b") ∷ []) None) m
     ≡ Ok (d.undef, codes "b" ∷ codes "1  1 b" ∷ [])
 unfolding invoked values_from argument_rule plain_rule evaluated_rule log_rule write_log needs_evaluator out-Form
     denote.Hole.Carrier.out digits
-spliced_arguments alloc m = refl
+spliced_arguments m = refl
 
-unknown : (alloc : Global) (m : Manifests)
-    → run (calls d.undef fails (codes "nope") (given ∷ []) None) alloc m
+unknown : (m : Manifests)
+    → run (calls d.undef fails (codes "nope") (given ∷ []) None) m
     ≡ refuses 3 (what.UnknownFunction (codes "nope"))
 unfolding invoked values_from argument_rule plain_rule needs_evaluator function_of out-Form denote.Hole.Carrier.out
     owner_at
-unknown alloc m = refl
+unknown m = refl
 
-arguments_before_unknown : (alloc : Global) (m : Manifests)
-    → run (calls d.undef fails (codes "nope") (given ∷ refused ∷ []) None) alloc m
+arguments_before_unknown : (m : Manifests)
+    → run (calls d.undef fails (codes "nope") (given ∷ refused ∷ []) None) m
     ≡ refuses 6 (what.BadOperand (codes "argument"))
 unfolding invoked values_from argument_rule out-Form denote.Hole.Carrier.out owner_at
-arguments_before_unknown alloc m = refl
+arguments_before_unknown m = refl
 
-unknown_as_written : (alloc : Global) (m : Manifests)
-    → run (calls d.undef fails (codes "::Notice") [] None) alloc m
+unknown_as_written : (m : Manifests)
+    → run (calls d.undef fails (codes "::Notice") [] None) m
     ≡ refuses 3 (what.UnknownFunction (codes "::Notice"))
 unfolding invoked values_from plain_rule needs_evaluator function_of owner_at
-unknown_as_written alloc m = refl
+unknown_as_written m = refl
 
-receiver_first : (alloc : Global) (m : Manifests)
-    → run (invoked_on (inner d.undef fails) one (codes "notice") (written (codes "a") ∷ []) None 3 top) alloc m
+receiver_first : (m : Manifests)
+    → run (invoked_on (inner d.undef fails) one (codes "notice") (written (codes "a") ∷ []) None 3 top) m
     ≡ Ok (d.undef, codes "a" ∷ codes "1 a" ∷ [])
 unfolding invoked_on values_from argument_rule plain_rule evaluated_rule log_rule write_log needs_evaluator out-Form
     denote.Hole.Carrier.out digits
-receiver_first alloc m = refl
+receiver_first m = refl
 
-method_with_lambda : (alloc : Global) (m : Manifests)
-    → run (invoked_on (inner d.undef notice_x) (list (one ∷ [])) (codes "map") [] (Some takes_x) 3 top) alloc m
+method_with_lambda : (m : Manifests)
+    → run (invoked_on (inner d.undef notice_x) (list (one ∷ [])) (codes "map") [] (Some takes_x) 3 top) m
     ≡ Ok (list (one ∷ []), codes "1" ∷ [])
 unfolding invoked_on values_from with_lambda_rule lambda_function lambda_function_rule iterate_rule over_rule
     turns_from lambda_rule enter_lambda bind_from bind_rule assign read write_log scopes.assign scopes.read
     scopes.found last_cut scopes.seen_from digits
-method_with_lambda alloc m = refl
+method_with_lambda m = refl
 
-without_parentheses : (alloc : Global) (m : Manifests)
-    → run (words_rule (inner d.undef fails) (tree.words (codes "warning") (written (codes "a") ∷ []) 4) top) alloc m
+without_parentheses : (m : Manifests)
+    → run (words_rule (inner d.undef fails) (tree.words (codes "warning") (written (codes "a") ∷ []) 4) top) m
     ≡ Ok (d.undef, codes "a" ∷ codes "a" ∷ [])
 unfolding words_rule invoked values_from argument_rule plain_rule evaluated_rule log_rule write_log needs_evaluator
     out-Form denote.Hole.Carrier.out
-without_parentheses alloc m = refl
+without_parentheses m = refl
 
-fault_of_words : (alloc : Global) (m : Manifests)
-    → run (words_rule (inner d.undef fails) (tree.words (codes "fail") (written (codes "a") ∷ []) 4) top) alloc m
+fault_of_words : (m : Manifests)
+    → run (words_rule (inner d.undef fails) (tree.words (codes "fail") (written (codes "a") ∷ []) 4) top) m
     ≡ refuses 4 (what.Failed (codes "a"))
 unfolding words_rule invoked values_from argument_rule plain_rule write_log needs_evaluator function_of out-Form
     denote.Hole.Carrier.out owner_at
-fault_of_words alloc m = refl
+fault_of_words m = refl
 
 -- ---- functions without a lambda
 
@@ -214,231 +213,231 @@ abbrev levels : Outcome Datum → Result (List (List ℕ × List ℕ)) Fault
 levels (Ok p) = Ok (map (λ l. (l.level, l.text)) p.1.log)
 levels (Err f) = Err f
 
-all_levels : (alloc : Global) (m : Manifests)
+all_levels : (m : Manifests)
     → levels ((plainly (codes "debug") (one ∷ one ∷ []) >> (plainly (codes "info") []
     >> (plainly (codes "notice") (one ∷ []) >> (plainly (codes "warning") (one ∷ [])
-    >> plainly (codes "err") (one ∷ []))))) (empty alloc m))
+    >> plainly (codes "err") (one ∷ []))))) (empty m))
     ≡ Ok ((codes "debug", codes "1 1") ∷ (codes "info", []) ∷ (codes "notice", codes "1") ∷ (codes "warning", codes "1")
     ∷ (codes "err", codes "1") ∷ [])
 unfolding plain_rule evaluated_rule log_rule write_log needs_evaluator digits
-all_levels alloc m = refl
+all_levels m = refl
 
-failure : (alloc : Global) (m : Manifests)
-    → run (plainly (codes "fail") (text (codes "a") ∷ one ∷ [])) alloc m ≡ refuses 3 (what.Failed (codes "a 1"))
+failure : (m : Manifests)
+    → run (plainly (codes "fail") (text (codes "a") ∷ one ∷ [])) m ≡ refuses 3 (what.Failed (codes "a 1"))
 unfolding plain_rule needs_evaluator function_of owner_at digits
-failure alloc m = refl
+failure m = refl
 
-pure_value : (alloc : Global) (m : Manifests)
-    → run (plainly (codes "length") (list (one ∷ one ∷ one ∷ []) ∷ [])) alloc m ≡ Ok (d.int (pos 3), [])
+pure_value : (m : Manifests)
+    → run (plainly (codes "length") (list (one ∷ one ∷ one ∷ []) ∷ [])) m ≡ Ok (d.int (pos 3), [])
 unfolding plain_rule needs_evaluator function_of
-pure_value alloc m = refl
+pure_value m = refl
 
-pure_wrong : (alloc : Global) (m : Manifests)
-    → run (plainly (codes "length") (one ∷ [])) alloc m ≡ refuses 3 (what.WrongArguments (codes "length"))
+pure_wrong : (m : Manifests)
+    → run (plainly (codes "length") (one ∷ [])) m ≡ refuses 3 (what.WrongArguments (codes "length"))
 unfolding plain_rule needs_evaluator function_of owner_at
-pure_wrong alloc m = refl
+pure_wrong m = refl
 
-pure_range : (alloc : Global) (m : Manifests)
-    → run (plainly (codes "abs") (d.int (negsuc 9223372036854775807) ∷ [])) alloc m ≡ refuses 3
+pure_range : (m : Manifests)
+    → run (plainly (codes "abs") (d.int (negsuc 9223372036854775807) ∷ [])) m ≡ refuses 3
     (what.NumberRange (codes "abs"))
 unfolding plain_rule needs_evaluator function_of owner_at
-pure_range alloc m = refl
+pure_range m = refl
 
 -- a function that takes a lambda, without one
 abbrev wants_lambda : List ℕ → Type 0
-wants_lambda f = (alloc : Global) (m : Manifests)
-    → run (plainly f (list [] ∷ [])) alloc m ≡ refuses 3 (what.WrongArguments f)
+wants_lambda f = (m : Manifests)
+    → run (plainly f (list [] ∷ [])) m ≡ refuses 3 (what.WrongArguments f)
 
 each_alone : wants_lambda (codes "each")
 unfolding plain_rule evaluated_rule needs_evaluator lambda_function owner_at
-each_alone alloc m = refl
+each_alone m = refl
 
 map_alone : wants_lambda (codes "map")
 unfolding plain_rule evaluated_rule needs_evaluator lambda_function owner_at
-map_alone alloc m = refl
+map_alone m = refl
 
 filter_alone : wants_lambda (codes "filter")
 unfolding plain_rule evaluated_rule needs_evaluator lambda_function owner_at
-filter_alone alloc m = refl
+filter_alone m = refl
 
 reduce_alone : wants_lambda (codes "reduce")
 unfolding plain_rule evaluated_rule needs_evaluator lambda_function owner_at
-reduce_alone alloc m = refl
+reduce_alone m = refl
 
 any_alone : wants_lambda (codes "any")
 unfolding plain_rule evaluated_rule needs_evaluator lambda_function owner_at
-any_alone alloc m = refl
+any_alone m = refl
 
 all_alone : wants_lambda (codes "all")
 unfolding plain_rule evaluated_rule needs_evaluator lambda_function owner_at
-all_alone alloc m = refl
+all_alone m = refl
 
 with_alone : wants_lambda (codes "with")
 unfolding plain_rule evaluated_rule needs_evaluator lambda_function owner_at
-with_alone alloc m = refl
+with_alone m = refl
 
 -- what is not evaluated yet
 abbrev is_not_built : List ℕ → Type 0
-is_not_built f = (alloc : Global) (m : Manifests) → run (plainly f (one ∷ [])) alloc m ≡ refuses 3 what.NotBuilt
+is_not_built f = (m : Manifests) → run (plainly f (one ∷ [])) m ≡ refuses 3 what.NotBuilt
 
 include_to_come : is_not_built (codes "include")
 unfolding plain_rule evaluated_rule needs_evaluator lambda_function owner_at
-include_to_come alloc m = refl
+include_to_come m = refl
 
 contain_to_come : is_not_built (codes "contain")
 unfolding plain_rule evaluated_rule needs_evaluator lambda_function owner_at
-contain_to_come alloc m = refl
+contain_to_come m = refl
 
 require_to_come : is_not_built (codes "require")
 unfolding plain_rule evaluated_rule needs_evaluator lambda_function owner_at
-require_to_come alloc m = refl
+require_to_come m = refl
 
 realize_to_come : is_not_built (codes "realize")
 unfolding plain_rule evaluated_rule needs_evaluator lambda_function owner_at
-realize_to_come alloc m = refl
+realize_to_come m = refl
 
 lookup_to_come : is_not_built (codes "lookup")
 unfolding plain_rule evaluated_rule needs_evaluator lambda_function owner_at
-lookup_to_come alloc m = refl
+lookup_to_come m = refl
 
-arguments_before_not_built : (alloc : Global) (m : Manifests)
-    → run (calls d.undef fails (codes "include") (refused ∷ []) None) alloc m
+arguments_before_not_built : (m : Manifests)
+    → run (calls d.undef fails (codes "include") (refused ∷ []) None) m
     ≡ refuses 6 (what.BadOperand (codes "argument"))
 unfolding invoked values_from argument_rule out-Form denote.Hole.Carrier.out owner_at
-arguments_before_not_built alloc m = refl
+arguments_before_not_built m = refl
 
 -- ---- a lambda for a function that takes none
 
 abbrev takes_none : List ℕ → Type 0
-takes_none f = (alloc : Global) (m : Manifests)
-    → run (with_lambda_rule (inner d.undef fails) f takes_x (one ∷ []) 3 top) alloc m ≡ refuses 3
+takes_none f = (m : Manifests)
+    → run (with_lambda_rule (inner d.undef fails) f takes_x (one ∷ []) 3 top) m ≡ refuses 3
     (what.WrongArguments f)
 
 length_takes_none : takes_none (codes "length")
 unfolding with_lambda_rule lambda_function stray_lambda_rule needs_evaluator function_of owner_at
-length_takes_none alloc m = refl
+length_takes_none m = refl
 
 fail_takes_none : takes_none (codes "fail")
 unfolding with_lambda_rule lambda_function stray_lambda_rule needs_evaluator function_of owner_at
-fail_takes_none alloc m = refl
+fail_takes_none m = refl
 
 notice_takes_none : takes_none (codes "notice")
 unfolding with_lambda_rule lambda_function stray_lambda_rule needs_evaluator function_of owner_at
-notice_takes_none alloc m = refl
+notice_takes_none m = refl
 
 include_takes_none : takes_none (codes "include")
 unfolding with_lambda_rule lambda_function stray_lambda_rule needs_evaluator function_of owner_at
-include_takes_none alloc m = refl
+include_takes_none m = refl
 
 lookup_takes_none : takes_none (codes "lookup")
 unfolding with_lambda_rule lambda_function stray_lambda_rule needs_evaluator function_of owner_at
-lookup_takes_none alloc m = refl
+lookup_takes_none m = refl
 
-unknown_with_lambda : (alloc : Global) (m : Manifests)
-    → run (calls d.undef fails (codes "nope") (given ∷ []) (Some takes_x)) alloc m
+unknown_with_lambda : (m : Manifests)
+    → run (calls d.undef fails (codes "nope") (given ∷ []) (Some takes_x)) m
     ≡ refuses 3 (what.UnknownFunction (codes "nope"))
 unfolding invoked values_from argument_rule with_lambda_rule lambda_function stray_lambda_rule needs_evaluator
     function_of out-Form denote.Hole.Carrier.out owner_at
-unknown_with_lambda alloc m = refl
+unknown_with_lambda m = refl
 
-arguments_before_lambda : (alloc : Global) (m : Manifests)
-    → run (calls d.undef fails (codes "length") (refused ∷ []) (Some takes_x)) alloc m
+arguments_before_lambda : (m : Manifests)
+    → run (calls d.undef fails (codes "length") (refused ∷ []) (Some takes_x)) m
     ≡ refuses 6 (what.BadOperand (codes "argument"))
 unfolding invoked values_from argument_rule out-Form denote.Hole.Carrier.out owner_at
-arguments_before_lambda alloc m = refl
+arguments_before_lambda m = refl
 
 -- ---- a call of a lambda
 
 abbrev lambda_of : (ℕ → Here → Step Datum) → List (Param Expr) → List Datum → Step Datum
 lambda_of block params arguments = lambda_rule (inner d.undef block) (takes params) arguments 3 top
 
-undef_is_a_value : (alloc : Global) (m : Manifests)
-    → run (lambda_of notice_x (plain x 7 ∷ []) (d.undef ∷ [])) alloc m ≡ Ok (d.undef, [] ∷ [])
+undef_is_a_value : (m : Manifests)
+    → run (lambda_of notice_x (plain x 7 ∷ []) (d.undef ∷ [])) m ≡ Ok (d.undef, [] ∷ [])
 unfolding lambda_rule enter_lambda bind_from bind_rule assign read write_log scopes.assign scopes.read scopes.found
     last_cut scopes.seen_from
-undef_is_a_value alloc m = refl
+undef_is_a_value m = refl
 
-default_not_taken : (alloc : Global) (m : Manifests)
-    → run (lambda_of notice_x (tree.param None x (Some refused) 7 ∷ []) (d.undef ∷ [])) alloc m ≡ Ok (d.undef, [] ∷ [])
+default_not_taken : (m : Manifests)
+    → run (lambda_of notice_x (tree.param None x (Some refused) 7 ∷ []) (d.undef ∷ [])) m ≡ Ok (d.undef, [] ∷ [])
 unfolding lambda_rule enter_lambda bind_from bind_rule assign read write_log scopes.assign scopes.read scopes.found
     last_cut scopes.seen_from
-default_not_taken alloc m = refl
+default_not_taken m = refl
 
 -- in the order of the parameters
-twice : (alloc : Global) (m : Manifests)
-    → run (lambda_of notice_x (plain x 7 ∷ plain x 8 ∷ []) (one ∷ one ∷ [])) alloc m ≡ refuses 8 (what.Reassigned x)
+twice : (m : Manifests)
+    → run (lambda_of notice_x (plain x 7 ∷ plain x 8 ∷ []) (one ∷ one ∷ [])) m ≡ refuses 8 (what.Reassigned x)
 unfolding lambda_rule enter_lambda bind_from bind_rule assign scopes.assign owner_at
-twice alloc m = refl
+twice m = refl
 
-typed : (alloc : Global) (m : Manifests)
-    → run (lambda_of notice_x (tree.param (Some given) x None 7 ∷ []) (one ∷ [])) alloc m ≡ refuses 7 what.NotBuilt
+typed : (m : Manifests)
+    → run (lambda_of notice_x (tree.param (Some given) x None 7 ∷ []) (one ∷ [])) m ≡ refuses 7 what.NotBuilt
 unfolding lambda_rule enter_lambda bind_from bind_rule owner_at
-typed alloc m = refl
+typed m = refl
 
-typed_after_twice : (alloc : Global) (m : Manifests)
+typed_after_twice : (m : Manifests)
     → run (lambda_of notice_x (plain x 7 ∷ plain x 8 ∷ tree.param (Some given) y None 9 ∷ [])
-    (one ∷ one ∷ one ∷ [])) alloc m
+    (one ∷ one ∷ one ∷ [])) m
     ≡ refuses 8 (what.Reassigned x)
 unfolding lambda_rule enter_lambda bind_from bind_rule assign scopes.assign owner_at
-typed_after_twice alloc m = refl
+typed_after_twice m = refl
 
 -- the block belongs to the call, which begins at line 3
-line_of_block : (alloc : Global) (m : Manifests)
-    → run (lambda_of fails [] []) alloc m ≡ refuses 3 (what.Failed (codes "block"))
+line_of_block : (m : Manifests)
+    → run (lambda_of fails [] []) m ≡ refuses 3 (what.Failed (codes "block"))
 unfolding lambda_rule enter_lambda bind_from owner_at
-line_of_block alloc m = refl
+line_of_block m = refl
 
 -- after the call its parameters are no variables
-parameter_ends : (alloc : Global) (m : Manifests)
-    → run (lambda_of notice_x (plain x 7 ∷ []) (one ∷ []) >> read top x 9) alloc m ≡ refuses 9 (what.UnknownVariable x)
+parameter_ends : (m : Manifests)
+    → run (lambda_of notice_x (plain x 7 ∷ []) (one ∷ []) >> read top x 9) m ≡ refuses 9 (what.UnknownVariable x)
 unfolding lambda_rule enter_lambda bind_from bind_rule assign read write_log scopes.assign scopes.read scopes.found
     last_cut scopes.seen_from owner_at
-parameter_ends alloc m = refl
+parameter_ends m = refl
 
 -- nor in the next call of a lambda that stands beside it
-parameter_ends_beside : (alloc : Global) (m : Manifests)
-    → run (lambda_of notice_x (plain x 7 ∷ []) (one ∷ []) >> lambda_of notice_x [] []) alloc m
+parameter_ends_beside : (m : Manifests)
+    → run (lambda_of notice_x (plain x 7 ∷ []) (one ∷ []) >> lambda_of notice_x [] []) m
     ≡ refuses 3 (what.UnknownVariable x)
 unfolding lambda_rule enter_lambda bind_from bind_rule assign read write_log scopes.assign scopes.read scopes.found
     last_cut scopes.seen_from owner_at
-parameter_ends_beside alloc m = refl
+parameter_ends_beside m = refl
 
 -- a parameter hides a variable of the scope around it, which stays as it is
-hides : (alloc : Global) (m : Manifests)
+hides : (m : Manifests)
     → run (assign top x (text (codes "outer")) 1 >> (lambda_of notice_x (plain x 7 ∷ [])
-    (one ∷ []) >> read top x 9)) alloc m
+    (one ∷ []) >> read top x 9)) m
     ≡ Ok (text (codes "outer"), codes "1" ∷ [])
 unfolding lambda_rule enter_lambda bind_from bind_rule assign read write_log scopes.assign scopes.read scopes.found
     last_cut scopes.seen_from digits
-hides alloc m = refl
+hides m = refl
 
 -- the block reads the scope that the lambda stands in
-reads_around : (alloc : Global) (m : Manifests)
-    → run (assign top x (text (codes "outer")) 1 >> lambda_of notice_x (plain y 7 ∷ []) (one ∷ [])) alloc m
+reads_around : (m : Manifests)
+    → run (assign top x (text (codes "outer")) 1 >> lambda_of notice_x (plain y 7 ∷ []) (one ∷ [])) m
     ≡ Ok (text (codes "outer"), codes "outer" ∷ [])
 unfolding lambda_rule enter_lambda bind_from bind_rule assign read write_log scopes.assign scopes.read scopes.found
     last_cut scopes.seen_from
-reads_around alloc m = refl
+reads_around m = refl
 
 -- a lambda within the block of another one, which takes `$y`, reads what that one has, and top scope has no such name
 abbrev within_block : ℕ → Here → Step Datum
 within_block line here = lambda_rule (inner d.undef notice_x) (takes (plain y 8 ∷ [])) (d.undef ∷ []) line here
 
-reads_lambda_around : (alloc : Global) (m : Manifests)
-    → run (lambda_of within_block (plain x 7 ∷ []) (one ∷ [])) alloc m ≡ Ok (one, codes "1" ∷ [])
+reads_lambda_around : (m : Manifests)
+    → run (lambda_of within_block (plain x 7 ∷ []) (one ∷ [])) m ≡ Ok (one, codes "1" ∷ [])
 unfolding lambda_rule enter_lambda bind_from bind_rule assign read write_log scopes.assign scopes.read scopes.found
     last_cut scopes.seen_from digits
-reads_lambda_around alloc m = refl
+reads_lambda_around m = refl
 
 -- a lambda that stands in top scope does not read a scope that was entered for another call and still stands
 abbrev stands_in_top : ℕ → Here → Step Datum
 stands_in_top line here = lambda_rule (inner d.undef notice_x) (takes (plain y 8 ∷ [])) (d.undef ∷ []) line top
 
-reads_no_caller : (alloc : Global) (m : Manifests)
-    → run (lambda_of stands_in_top (plain x 7 ∷ []) (one ∷ [])) alloc m ≡ refuses 3 (what.UnknownVariable x)
+reads_no_caller : (m : Manifests)
+    → run (lambda_of stands_in_top (plain x 7 ∷ []) (one ∷ [])) m ≡ refuses 3 (what.UnknownVariable x)
 unfolding lambda_rule enter_lambda bind_from bind_rule assign read scopes.assign scopes.read scopes.found last_cut
     scopes.seen_from owner_at
-reads_no_caller alloc m = refl
+reads_no_caller m = refl
 
 -- ---- the functions that take a lambda
 
@@ -449,180 +448,180 @@ abbrev untrue : Datum
 untrue = d.flag false
 
 -- each member in order, Undef and what is false too
-each_member : (alloc : Global) (m : Manifests)
+each_member : (m : Manifests)
     → run (with_lambda notice_x (codes "each") takes_x (list (one ∷ d.undef ∷ untrue ∷ text
-    (codes "a") ∷ []) ∷ [])) alloc m
+    (codes "a") ∷ []) ∷ [])) m
     ≡ Ok (list (one ∷ d.undef ∷ untrue ∷ text (codes "a") ∷ []), codes "1" ∷ [] ∷ codes "false" ∷ codes "a" ∷ [])
 unfolding with_lambda_rule lambda_function lambda_function_rule iterate_rule over_rule turns_from lambda_rule
     enter_lambda bind_from bind_rule assign read write_log scopes.assign scopes.read scopes.found last_cut
     scopes.seen_from digits
-each_member alloc m = refl
+each_member m = refl
 
-each_of_none : (alloc : Global) (m : Manifests)
-    → run (with_lambda fails (codes "each") takes_x (list [] ∷ [])) alloc m ≡ Ok (list [], [])
+each_of_none : (m : Manifests)
+    → run (with_lambda fails (codes "each") takes_x (list [] ∷ [])) m ≡ Ok (list [], [])
 unfolding with_lambda_rule lambda_function lambda_function_rule iterate_rule over_rule turns_from
-each_of_none alloc m = refl
+each_of_none m = refl
 
 -- the first fault is that of the call
-each_fails : (alloc : Global) (m : Manifests)
-    → run (with_lambda fails (codes "each") takes_x (list (one ∷ one ∷ []) ∷ [])) alloc m
+each_fails : (m : Manifests)
+    → run (with_lambda fails (codes "each") takes_x (list (one ∷ one ∷ []) ∷ [])) m
     ≡ refuses 3 (what.Failed (codes "block"))
 unfolding with_lambda_rule lambda_function lambda_function_rule iterate_rule over_rule turns_from lambda_rule
     enter_lambda bind_from bind_rule assign scopes.assign owner_at
-each_fails alloc m = refl
+each_fails m = refl
 
-places_and_members : (alloc : Global) (m : Manifests)
-    → run (with_lambda notice_x_give_y (codes "map") takes_xy (list (text (codes "a") ∷ d.undef ∷ []) ∷ [])) alloc m
+places_and_members : (m : Manifests)
+    → run (with_lambda notice_x_give_y (codes "map") takes_xy (list (text (codes "a") ∷ d.undef ∷ []) ∷ [])) m
     ≡ Ok (list (text (codes "a") ∷ d.undef ∷ []), codes "0" ∷ codes "1" ∷ [])
 unfolding with_lambda_rule lambda_function lambda_function_rule iterate_rule over_rule turns_from lambda_rule
     enter_lambda bind_from bind_rule assign read write_log scopes.assign scopes.read scopes.found last_cut
     scopes.seen_from digits
-places_and_members alloc m = refl
+places_and_members m = refl
 
-keys_and_values : (alloc : Global) (m : Manifests)
+keys_and_values : (m : Manifests)
     → run (with_lambda notice_x_give_y (codes "map") takes_xy (hash ((text (codes "a"), one) ∷ (
       text
           (codes "b"),
       untrue,
-    ) ∷ []) ∷ [])) alloc m
+    ) ∷ []) ∷ [])) m
     ≡ Ok (list (one ∷ untrue ∷ []), codes "a" ∷ codes "b" ∷ [])
 unfolding with_lambda_rule lambda_function lambda_function_rule iterate_rule over_rule turns_from lambda_rule
     enter_lambda bind_from bind_rule assign read write_log scopes.assign scopes.read scopes.found last_cut
     scopes.seen_from
-keys_and_values alloc m = refl
+keys_and_values m = refl
 
-pairs_alone : (alloc : Global) (m : Manifests)
-    → run (with_lambda notice_x (codes "map") takes_x (hash ((text (codes "a"), one) ∷ []) ∷ [])) alloc m
+pairs_alone : (m : Manifests)
+    → run (with_lambda notice_x (codes "map") takes_x (hash ((text (codes "a"), one) ∷ []) ∷ [])) m
     ≡ Ok (list (list (text (codes "a") ∷ one ∷ []) ∷ []), codes "[a, 1]" ∷ [])
 unfolding with_lambda_rule lambda_function lambda_function_rule iterate_rule over_rule turns_from lambda_rule
     enter_lambda bind_from bind_rule assign read write_log scopes.assign scopes.read scopes.found last_cut
     scopes.seen_from digits
-pairs_alone alloc m = refl
+pairs_alone m = refl
 
-filters : (alloc : Global) (m : Manifests)
-    → run (with_lambda notice_x (codes "filter") takes_x (list (one ∷ d.undef ∷ untrue ∷ text [] ∷ []) ∷ [])) alloc m
+filters : (m : Manifests)
+    → run (with_lambda notice_x (codes "filter") takes_x (list (one ∷ d.undef ∷ untrue ∷ text [] ∷ []) ∷ [])) m
     ≡ Ok (list (one ∷ text [] ∷ []), codes "1" ∷ [] ∷ codes "false" ∷ [] ∷ [])
 unfolding with_lambda_rule lambda_function lambda_function_rule iterate_rule over_rule turns_from lambda_rule
     enter_lambda bind_from bind_rule assign read write_log scopes.assign scopes.read scopes.found last_cut
     scopes.seen_from digits
-filters alloc m = refl
+filters m = refl
 
 -- the first that is true decides `any`, and the first that is not `all`: no further turn is taken
-any_stops : (alloc : Global) (m : Manifests)
-    → run (with_lambda notice_x (codes "any") takes_x (list (untrue ∷ one ∷ text (codes "never") ∷ []) ∷ [])) alloc m
+any_stops : (m : Manifests)
+    → run (with_lambda notice_x (codes "any") takes_x (list (untrue ∷ one ∷ text (codes "never") ∷ []) ∷ [])) m
     ≡ Ok (d.flag true, codes "false" ∷ codes "1" ∷ [])
 unfolding with_lambda_rule lambda_function lambda_function_rule iterate_rule over_rule turns_from lambda_rule
     enter_lambda bind_from bind_rule assign read write_log scopes.assign scopes.read scopes.found last_cut
     scopes.seen_from digits
-any_stops alloc m = refl
+any_stops m = refl
 
-any_of_none : (alloc : Global) (m : Manifests)
-    → run (with_lambda notice_x (codes "any") takes_x (list (untrue ∷ d.undef ∷ []) ∷ [])) alloc m
+any_of_none : (m : Manifests)
+    → run (with_lambda notice_x (codes "any") takes_x (list (untrue ∷ d.undef ∷ []) ∷ [])) m
     ≡ Ok (d.flag false, codes "false" ∷ [] ∷ [])
 unfolding with_lambda_rule lambda_function lambda_function_rule iterate_rule over_rule turns_from lambda_rule
     enter_lambda bind_from bind_rule assign read write_log scopes.assign scopes.read scopes.found last_cut
     scopes.seen_from
-any_of_none alloc m = refl
+any_of_none m = refl
 
-all_stops : (alloc : Global) (m : Manifests)
-    → run (with_lambda notice_x (codes "all") takes_x (list (one ∷ d.undef ∷ text (codes "never") ∷ []) ∷ [])) alloc m
+all_stops : (m : Manifests)
+    → run (with_lambda notice_x (codes "all") takes_x (list (one ∷ d.undef ∷ text (codes "never") ∷ []) ∷ [])) m
     ≡ Ok (d.flag false, codes "1" ∷ [] ∷ [])
 unfolding with_lambda_rule lambda_function lambda_function_rule iterate_rule over_rule turns_from lambda_rule
     enter_lambda bind_from bind_rule assign read write_log scopes.assign scopes.read scopes.found last_cut
     scopes.seen_from digits
-all_stops alloc m = refl
+all_stops m = refl
 
-all_of_all : (alloc : Global) (m : Manifests)
-    → run (with_lambda notice_x (codes "all") takes_x (list (one ∷ one ∷ []) ∷ [])) alloc m
+all_of_all : (m : Manifests)
+    → run (with_lambda notice_x (codes "all") takes_x (list (one ∷ one ∷ []) ∷ [])) m
     ≡ Ok (d.flag true, codes "1" ∷ codes "1" ∷ [])
 unfolding with_lambda_rule lambda_function lambda_function_rule iterate_rule over_rule turns_from lambda_rule
     enter_lambda bind_from bind_rule assign read write_log scopes.assign scopes.read scopes.found last_cut
     scopes.seen_from digits
-all_of_all alloc m = refl
+all_of_all m = refl
 
 -- with a start value, each member is a turn
-reduces_from_start : (alloc : Global) (m : Manifests)
+reduces_from_start : (m : Manifests)
     → run (with_lambda notice_x_give_y (codes "reduce") takes_xy (list (one ∷ untrue ∷ []) ∷ text
-    (codes "start") ∷ [])) alloc m
+    (codes "start") ∷ [])) m
     ≡ Ok (untrue, codes "start" ∷ codes "1" ∷ [])
 unfolding with_lambda_rule lambda_function lambda_function_rule reduce_rule reduced reduce_from lambda_rule
     enter_lambda bind_from bind_rule assign read write_log scopes.assign scopes.read scopes.found last_cut
     scopes.seen_from digits
-reduces_from_start alloc m = refl
+reduces_from_start m = refl
 
 -- without one, the first member is the first memo
-reduces : (alloc : Global) (m : Manifests)
+reduces : (m : Manifests)
     → run (with_lambda notice_x_give_y (codes "reduce") takes_xy (list (text
-    (codes "a") ∷ d.undef ∷ one ∷ []) ∷ [])) alloc m
+    (codes "a") ∷ d.undef ∷ one ∷ []) ∷ [])) m
     ≡ Ok (one, codes "a" ∷ [] ∷ [])
 unfolding with_lambda_rule lambda_function lambda_function_rule reduce_rule reduced reduce_from lambda_rule
     enter_lambda bind_from bind_rule assign read write_log scopes.assign scopes.read scopes.found last_cut
     scopes.seen_from
-reduces alloc m = refl
+reduces m = refl
 
-reduces_one : (alloc : Global) (m : Manifests)
-    → run (with_lambda fails (codes "reduce") takes_xy (list (one ∷ []) ∷ [])) alloc m ≡ Ok (one, [])
+reduces_one : (m : Manifests)
+    → run (with_lambda fails (codes "reduce") takes_xy (list (one ∷ []) ∷ [])) m ≡ Ok (one, [])
 unfolding with_lambda_rule lambda_function lambda_function_rule reduce_rule reduced reduce_from
-reduces_one alloc m = refl
+reduces_one m = refl
 
-reduces_none : (alloc : Global) (m : Manifests)
-    → run (with_lambda fails (codes "reduce") takes_xy (list [] ∷ [])) alloc m ≡ Ok (d.undef, [])
+reduces_none : (m : Manifests)
+    → run (with_lambda fails (codes "reduce") takes_xy (list [] ∷ [])) m ≡ Ok (d.undef, [])
 unfolding with_lambda_rule lambda_function lambda_function_rule reduce_rule reduced
-reduces_none alloc m = refl
+reduces_none m = refl
 
-takes_arguments : (alloc : Global) (m : Manifests)
-    → run (with_lambda notice_x_give_y (codes "with") takes_xy (one ∷ untrue ∷ [])) alloc m ≡ Ok
+takes_arguments : (m : Manifests)
+    → run (with_lambda notice_x_give_y (codes "with") takes_xy (one ∷ untrue ∷ [])) m ≡ Ok
     (untrue, codes "1" ∷ [])
 unfolding with_lambda_rule lambda_function lambda_function_rule with_rule lambda_rule enter_lambda bind_from bind_rule
     assign read write_log scopes.assign scopes.read scopes.found last_cut scopes.seen_from digits
-takes_arguments alloc m = refl
+takes_arguments m = refl
 
-takes_no_arguments : (alloc : Global) (m : Manifests)
-    → run (with_lambda fails (codes "with") (takes []) []) alloc m ≡ refuses 3 (what.Failed (codes "block"))
+takes_no_arguments : (m : Manifests)
+    → run (with_lambda fails (codes "with") (takes []) []) m ≡ refuses 3 (what.Failed (codes "block"))
 unfolding with_lambda_rule lambda_function lambda_function_rule with_rule lambda_rule enter_lambda bind_from owner_at
-takes_no_arguments alloc m = refl
+takes_no_arguments m = refl
 
 -- ---- what they do not take: the block, which fails, is never evaluated
 
 abbrev is_wrong : List ℕ → Opened → List Datum → Type 0
-is_wrong f l arguments = (alloc : Global) (m : Manifests)
-    → run (with_lambda fails f l arguments) alloc m ≡ refuses 3 (what.WrongArguments f)
+is_wrong f l arguments = (m : Manifests)
+    → run (with_lambda fails f l arguments) m ≡ refuses 3 (what.WrongArguments f)
 
 -- another number of parameters, also where there is nothing to go through
 each_params : is_wrong (codes "each") (takes []) (list [] ∷ [])
 unfolding with_lambda_rule lambda_function lambda_function_rule iterate_rule over_rule owner_at
-each_params alloc m = refl
+each_params m = refl
 
 map_params : is_wrong (codes "map") (takes (plain x 7 ∷ plain x 7 ∷ plain x 7 ∷ [])) (list [] ∷ [])
 unfolding with_lambda_rule lambda_function lambda_function_rule iterate_rule over_rule owner_at
-map_params alloc m = refl
+map_params m = refl
 
 reduce_params : is_wrong (codes "reduce") takes_x (list [] ∷ [])
 unfolding with_lambda_rule lambda_function lambda_function_rule reduce_rule owner_at
-reduce_params alloc m = refl
+reduce_params m = refl
 
 with_params : is_wrong (codes "with") takes_xy (one ∷ [])
 unfolding with_lambda_rule lambda_function lambda_function_rule with_rule owner_at
-with_params alloc m = refl
+with_params m = refl
 
 -- another number of arguments
 filter_of_two : is_wrong (codes "filter") takes_x (list [] ∷ list [] ∷ [])
 unfolding with_lambda_rule lambda_function lambda_function_rule iterate_rule owner_at
-filter_of_two alloc m = refl
+filter_of_two m = refl
 
 any_of_no_argument : is_wrong (codes "any") takes_x []
 unfolding with_lambda_rule lambda_function lambda_function_rule iterate_rule owner_at
-any_of_no_argument alloc m = refl
+any_of_no_argument m = refl
 
 reduce_of_three : is_wrong (codes "reduce") takes_xy (list [] ∷ one ∷ one ∷ [])
 unfolding with_lambda_rule lambda_function lambda_function_rule reduce_rule owner_at
-reduce_of_three alloc m = refl
+reduce_of_three m = refl
 
 -- neither a list nor a hash
 all_of_text : is_wrong (codes "all") takes_x (text (codes "a") ∷ [])
 unfolding with_lambda_rule lambda_function lambda_function_rule iterate_rule over_rule owner_at
-all_of_text alloc m = refl
+all_of_text m = refl
 
 reduce_of_number : is_wrong (codes "reduce") takes_xy (one ∷ [])
 unfolding with_lambda_rule lambda_function lambda_function_rule reduce_rule owner_at
-reduce_of_number alloc m = refl
+reduce_of_number m = refl

@@ -44,7 +44,7 @@ pub fn method<F: Fn(&mut World<'_>, Goal<'_>, Here, u32) -> Result<Evaluated, St
         world.new }
 {
     let arguments = forms.values(world, &call.args, here)?;
-    let arguments = with_receiver(world.alloc, receiver, arguments)?;
+    let arguments = with_receiver(world.heap.alloc(), receiver, arguments)?;
     called(forms, world, call, arguments, line, here)
 }
 

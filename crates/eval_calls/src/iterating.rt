@@ -76,7 +76,7 @@ fn refused(world: &World<'_>, function: Iteration, line: u32, here: Here) -> Res
     ensures { Gives same (spec.refused function line here world.now) result world.now }
 {
     let at = world.place(here, line)?;
-    Err(Stop::Fault(wrong_arguments(world.alloc, function.name(), &at)?))
+    Err(Stop::Fault(wrong_arguments(world.heap.alloc(), function.name(), &at)?))
 }
 
 #[tactic(auto, unfolding(crate::specs::Iterating::over_rule))]
@@ -95,9 +95,9 @@ fn over<F: Fn(&mut World<'_>, Goal<'_>, Here, u32) -> Result<Evaluated, Stop>, M
 {
     let at = world.place(here, line)?;
     let count = param_count(lambda)?;
-    let turns = turns_of(world.alloc, function, value, count, &at)?;
+    let turns = turns_of(world.heap.alloc(), function, value, count, &at)?;
     let results = take_turns(forms, world, function, lambda, turns.as_slice(), line, here)?;
-    Ok(Evaluated::new(gather(world.alloc, function, value, &results)?))
+    Ok(Evaluated::new(gather(world.heap.alloc(), function, value, &results)?))
 }
 
 /// What the lambda gives in each turn, up to the one that decides.
@@ -115,7 +115,7 @@ fn take_turns<F: Fn(&mut World<'_>, Goal<'_>, Here, u32) -> Result<Evaluated, St
     ensures { Gives same (spec.turns_from (M.within forms.now.left) function (opened lambda.now) [] turns.now line
         here world.old) result world.new }
 {
-    let mut done = Values::new(world.alloc);
+    let mut done = Values::new(world.heap.alloc());
     let mut rest = turns;
     while let Some((turn, more)) = rest.split_first() {
         let result = call_lambda(forms, world, lambda, turn, line, here)?;
@@ -144,7 +144,7 @@ fn reduce<F: Fn(&mut World<'_>, Goal<'_>, Here, u32) -> Result<Evaluated, Stop>,
 {
     let at = world.place(here, line)?;
     let count = param_count(lambda)?;
-    let members = reduced_over(world.alloc, arguments, count, &at)?;
+    let members = reduced_over(world.heap.alloc(), arguments, count, &at)?;
     reduced(forms, world, lambda, members.as_slice(), line, here)
 }
 
@@ -164,7 +164,7 @@ fn reduced<F: Fn(&mut World<'_>, Goal<'_>, Here, u32) -> Result<Evaluated, Stop>
     match members {
         [] => Ok(Evaluated::new(Value::Undef)),
         [first, rest @ ..] => {
-            let memo = Evaluated::copy_of(world.alloc, first)?;
+            let memo = Evaluated::copy_of(world.heap.alloc(), first)?;
             reduce_rest(forms, world, lambda, memo, rest, line, here)
         }
     }
@@ -188,7 +188,7 @@ fn reduce_rest<F: Fn(&mut World<'_>, Goal<'_>, Here, u32) -> Result<Evaluated, S
     let mut memo = memo;
     let mut rest = members;
     while let Some((member, more)) = rest.split_first() {
-        let turn = memo_and_member(world.alloc, memo, member)?;
+        let turn = memo_and_member(world.heap.alloc(), memo, member)?;
         memo = call_lambda(forms, world, lambda, &turn, line, here)?;
         rest = more;
     }
@@ -219,6 +219,6 @@ fn with<F: Fn(&mut World<'_>, Goal<'_>, Here, u32) -> Result<Evaluated, Stop>, M
 {
     let at = world.place(here, line)?;
     let count = param_count(lambda)?;
-    let turn = turn_of_with(world.alloc, arguments, count, &at)?;
+    let turn = turn_of_with(world.heap.alloc(), arguments, count, &at)?;
     call_lambda(forms, world, lambda, &turn, line, here)
 }

@@ -68,7 +68,7 @@ fn bind_one(world: &mut World<'_>, param: &Param, argument: &Value, own: Here) -
 {
     match &param.kind {
         None => {
-            let value = Evaluated::copy_of(world.alloc, argument)?;
+            let value = Evaluated::copy_of(world.heap.alloc(), argument)?;
             world.assign(own, &param.name, value, param.at)
         }
         Some(_) => Err(Stop::Fault(world.fault(own, param.at, What::NotBuilt)?)),

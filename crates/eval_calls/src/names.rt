@@ -31,7 +31,7 @@ pub fn is_function(function: &Text) -> bool
 pub fn wrong(world: &World<'_>, function: &Text, line: u32, here: Here) -> Result<Fault, Memory>
     ensures { IfOk result (λ f. f ≡ fault (place_at world.now here line) (what.WrongArguments function.now)) }
 {
-    let function = function.copy(world.alloc)?;
+    let function = function.copy(world.heap.alloc())?;
     world.fault(here, line, What::WrongArguments(function))
 }
 
@@ -39,6 +39,6 @@ pub fn wrong(world: &World<'_>, function: &Text, line: u32, here: Here) -> Resul
 pub fn unknown(world: &World<'_>, function: &Text, line: u32, here: Here) -> Result<Fault, Memory>
     ensures { IfOk result (λ f. f ≡ fault (place_at world.now here line) (what.UnknownFunction function.now)) }
 {
-    let function = function.copy(world.alloc)?;
+    let function = function.copy(world.heap.alloc())?;
     world.fault(here, line, What::UnknownFunction(function))
 }

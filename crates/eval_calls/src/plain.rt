@@ -42,7 +42,7 @@ fn compute(
     ensures { Gives same (at_line (applied function.now arguments.now) line here world.now) result world.now }
 {
     let at = world.place(here, line)?;
-    Ok(Evaluated::new(call_pure(world.alloc, function, arguments, &at)?))
+    Ok(Evaluated::new(call_pure(world.heap.alloc(), function, arguments, &at)?))
 }
 
 /// A function that needs the log, a lambda or the site.
@@ -70,8 +70,8 @@ fn call_evaluated(
 fn log(world: &mut World<'_>, function: &Text, arguments: &Values) -> Result<Evaluated, Stop>
     ensures { Gives same (spec.log_rule function.now arguments.now world.old) result world.new }
 {
-    let level = function.copy(world.alloc)?;
-    let text = joined(world.alloc, arguments)?;
+    let level = function.copy(world.heap.alloc())?;
+    let text = joined(world.heap.alloc(), arguments)?;
     world.write_log(level, text)?;
     Ok(Evaluated::new(Value::Undef))
 }

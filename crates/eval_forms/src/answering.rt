@@ -24,7 +24,7 @@ pub fn combined(
     ensures { Gives same (spec.combined op left.now right.now line here world.now) result world.now }
 {
     let at = world.place(here, line)?;
-    let value = combine(world.alloc, op, left.as_value(), right.as_value(), &at)?;
+    let value = combine(world.heap.alloc(), op, left.as_value(), right.as_value(), &at)?;
     Ok(Evaluated::new(value))
 }
 
@@ -39,7 +39,7 @@ pub fn is_of_type(
     ensures { Gives same (spec.answered_at (is_of value.now kind.now) line here world.now) result world.now }
 {
     let at = world.place(here, line)?;
-    is_of(world.alloc, value.as_value(), kind.as_value(), &at)
+    is_of(world.heap.alloc(), value.as_value(), kind.as_value(), &at)
 }
 
 /// The fault that an operator does not take what it is given, at a line of the file whose code is evaluated.
@@ -52,5 +52,5 @@ pub fn bad_operand(
     ensures { IfOk result (λ f. f ≡ bad_operand operator.now (place_at world.now here line)) }
 {
     let at = world.place(here, line)?;
-    expr_eval::bad_operand(world.alloc, operator, &at)
+    expr_eval::bad_operand(world.heap.alloc(), operator, &at)
 }

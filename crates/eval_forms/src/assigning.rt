@@ -22,7 +22,7 @@ pub fn assigned<F: Fn(&mut World<'_>, Goal<'_>, Here, u32) -> Result<Evaluated, 
         result world.new }
 {
     let value = forms.value(world, expr, here)?;
-    let kept = Evaluated::copy_of(world.alloc, value.as_value())?;
+    let kept = Evaluated::copy_of(world.heap.alloc(), value.as_value())?;
     world.assign(here, name, kept, line)?;
     Ok(value)
 }

@@ -99,7 +99,7 @@ fn takes<F: Fn(&mut World<'_>, Goal<'_>, Here, u32) -> Result<Evaluated, Stop>, 
         return Ok(false);
     }
     let option = forms.value(world, expr, here)?;
-    Ok(value_takes(world.alloc, is_splat(expr), &option, control)?)
+    Ok(value_takes(world.heap.alloc(), is_splat(expr), &option, control)?)
 }
 
 /// Whether the value takes the control value, or where it is spliced one of its members.

@@ -36,7 +36,7 @@ pub fn hash<F: Fn(&mut World<'_>, Goal<'_>, Here, u32) -> Result<Evaluated, Stop
     requires { Nests (M.within forms.now.left) forms.now.left (F.pre forms.now.inner) (F.post forms.now.inner) }
     ensures { Gives same (spec.hash_rule (M.within forms.now.left) pairs.now line here world.old) result world.new }
 {
-    let mut done = Pairs::new(world.alloc);
+    let mut done = Pairs::new(world.heap.alloc());
     let mut rest = pairs.as_slice();
     while let Some((pair, more)) = rest.split_first() {
         done = with_pair(forms, world, done, pair, line, here)?;
@@ -82,7 +82,7 @@ pub fn interpolated<
     requires { Nests (M.within forms.now.left) forms.now.left (F.pre forms.now.inner) (F.post forms.now.inner) }
     ensures { Gives same (spec.interpolated_rule (M.within forms.now.left) pieces.now here world.old) result world.new }
 {
-    let mut done = String::new(world.alloc);
+    let mut done = String::new(world.heap.alloc());
     let mut rest = pieces.as_slice();
     while let Some((piece, more)) = rest.split_first() {
         done = with_piece(forms, world, done, piece, here)?;

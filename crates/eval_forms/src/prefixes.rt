@@ -45,7 +45,7 @@ fn prefixed(
             let nothing = Evaluated::new(Value::Undef);
             combined(world, Op::Negate, value, &nothing, line, here)
         }
-        PrefixOperator::Splat => Ok(Evaluated::new(spread(world.alloc, value.as_value())?)),
+        PrefixOperator::Splat => Ok(Evaluated::new(spread(world.heap.alloc(), value.as_value())?)),
     }
 }
 

@@ -18,5 +18,5 @@ pub fn type_of(world: &World<'_>, name: &Text, line: u32, here: Here) -> Result<
         return Err(Stop::Fault(world.fault(here, line, What::Syntax)?));
     }
     let at = world.place(here, line)?;
-    Ok(Evaluated::new(type_value(world.alloc, name, &at)?))
+    Ok(Evaluated::new(type_value(world.heap.alloc(), name, &at)?))
 }

@@ -2,7 +2,6 @@
 use Rattle.std.proofs.Common.{◌≡◌, ℕ, false, List, [], ◌∷◌, None, Result}
 use Rattle.std.proofs.Common.{Ok, Err, map, codes}
 use Rattle.std.specs.Prelude.{pos}
-use Rattle.std.specs.declared.alloc.Global.{Global}
 use Rattle.pp_tree.specs.Building.{expr_at, form_of, line_of, setting, splat, body}
 use Rattle.pp_tree.specs.Layers.{FormLayer}
 use Rattle.pp_tree.specs.declared.collector.Test.TheOpen.{Form-F}
@@ -29,7 +28,7 @@ use Rattle.eval_world.specs.Inner.{Inner}
 use Rattle.eval_world.specs.Outcomes.{Outcome, Step, ◌>>◌, pure}
 use Rattle.eval_world.specs.Worlds.{empty, fault, write_log}
 use Rattle.eval_world.specs.declared.here.Here.{Here}
-use Rattle.eval_world.specs.declared.manifests.Manifests.{Manifests}
+use Rattle.eval_world.specs.Manifests.{Manifests}
 use Rattle.eval_world.specs.declared.owner.Owner.{Owner}
 use Rattle.eval_world.specs.declared.world.World.{World}
 use Rattle.override_rules.specs.declared.override_line.Right.TheVariants as right
@@ -139,12 +138,12 @@ main = record {
   known = [];
 }
 
-abbrev pub world : Global → Manifests → World
-world alloc manifests = record (empty alloc manifests) { book = new_row main mode.Plain ∷ [] }
+abbrev pub world : Manifests → World
+world manifests = record (empty manifests) { book = new_row main mode.Plain ∷ [] }
 
 -- the same with an override line on `Notify[a]`, which came before it: at line 9
-abbrev pub overridden : Global → Manifests → World
-overridden alloc manifests = record (world alloc manifests) {
+abbrev pub overridden : Manifests → World
+overridden manifests = record (world manifests) {
   overrides = record {
     lines = record {
       target = record { kind = codes "notify"; title = codes "a" };
@@ -179,17 +178,17 @@ abbrev pub seen_by : {A : Type 0} → Outcome A → Result (A × List (List ℕ)
 seen_by (Ok p) = Ok (p.0, texts p.1)
 seen_by (Err f) = Err f
 
-abbrev pub seen : {A : Type 0} → Step A → Global → Manifests → Result (A × List (List ℕ)) Fault
-seen step alloc manifests = seen_by (step (world alloc manifests))
+abbrev pub seen : {A : Type 0} → Step A → Manifests → Result (A × List (List ℕ)) Fault
+seen step manifests = seen_by (step (world manifests))
 
 -- it gives this, and evaluates these texts
 abbrev pub Tells : {A : Type 0} → Step A → A → List (List ℕ) → Type 0
-Tells step a ts = (alloc : Global) (manifests : Manifests) → seen step alloc manifests ≡ Ok (a, ts)
+Tells step a ts = (manifests : Manifests) → seen step manifests ≡ Ok (a, ts)
 
 -- it is refused at this line
 abbrev pub Refuses : {A : Type 0} → Step A → ℕ → What → Type 0
 Refuses step at details =
-    (alloc : Global) (manifests : Manifests) → seen step alloc manifests ≡ Err (faults.fault (place at) details)
+    (manifests : Manifests) → seen step manifests ≡ Err (faults.fault (place at) details)
 
 -- a line with a text
 abbrev pub said : List ℕ → List ℕ → ℕ → Line
@@ -202,12 +201,12 @@ book_by (Ok p) = Ok p.1.book
 book_by (Err f) = Err f
 
 abbrev pub Declares : Step (Unit {0}) → List Row → Type 0
-Declares step rows = (alloc : Global) (manifests : Manifests)
-    → book_by (step (world alloc manifests)) ≡ Ok (new_row main mode.Plain ∷ rows)
+Declares step rows = (manifests : Manifests)
+    → book_by (step (world manifests)) ≡ Ok (new_row main mode.Plain ∷ rows)
 
 abbrev pub Fails : Step (Unit {0}) → ℕ → What → Type 0
-Fails step at details = (alloc : Global) (manifests : Manifests)
-    → book_by (step (world alloc manifests)) ≡ Err (faults.fault (place at) details)
+Fails step at details = (manifests : Manifests)
+    → book_by (step (world manifests)) ≡ Err (faults.fault (place at) details)
 
 -- ---- what is registered
 
@@ -216,5 +215,5 @@ collectors_by (Ok p) = Ok p.1.relations.collectors
 collectors_by (Err f) = Err f
 
 abbrev pub Registers : Step (Unit {0}) → Collector → Type 0
-Registers step c = (alloc : Global) (manifests : Manifests)
-    → collectors_by (step (world alloc manifests)) ≡ Ok (c ∷ [])
+Registers step c = (manifests : Manifests)
+    → collectors_by (step (world manifests)) ≡ Ok (c ∷ [])

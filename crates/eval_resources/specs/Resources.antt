@@ -42,7 +42,7 @@ relations_checked ls = unrelated (find relates ls)
 -- The tests, the declaration, the override lines that came before it, the relations.
 unfoldable pub title_rule : Form → List ℕ → Datum → Body → Here → Step (Unit {0})
 title_rule written kind title b here = do
-  named ← (λ w. answered (tested w.manifests.main.now.definitions written kind title b) w)
+  named ← (λ w. answered (tested w.manifests.main.definitions written kind title b) w)
   number ← declare_rule written named b here
   (λ w. answered (stands w.overrides w.book number) w)
   answered (relations_checked b.lines)

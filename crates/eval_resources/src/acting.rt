@@ -104,16 +104,16 @@ fn declare_title(
         (spec.title_rule form kind.now (view title.now) (body_of body.now) here world.old) result world.new }
 {
     let named = tested(
-        world.alloc,
-        &world.manifests.main.definitions,
+        world.heap.alloc(),
+        &world.manifests.main().definitions,
         form,
         kind,
         title,
         body,
     )?;
     let number = declare(world, form, named, body, here)?;
-    world.overrides.stand(world.alloc, &world.book, number)?;
-    check_relations(world.alloc, body.lines.as_slice())
+    world.overrides.stand(world.heap.alloc(), &world.book, number)?;
+    check_relations(world.heap.alloc(), body.lines.as_slice())
 }
 
 /// Relations by attributes are not built.

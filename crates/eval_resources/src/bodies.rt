@@ -41,7 +41,7 @@ fn defaults<F: Fn(&mut World<'_>, Goal<'_>, Here, u32) -> Result<Evaluated, Stop
     ensures { Gives lines_of
         (spec.defaults_from (M.within forms.now.left) [] written.now here world.old) result world.new }
 {
-    let mut done = Lines::new(world.alloc);
+    let mut done = Lines::new(world.heap.alloc());
     let mut rest = written.as_slice();
     while let Some((body, more)) = rest.split_first() {
         done = with_default(forms, world, done, body, here)?;
@@ -97,7 +97,7 @@ fn others<F: Fn(&mut World<'_>, Goal<'_>, Here, u32) -> Result<Evaluated, Stop>,
     ensures { Gives bodies_of (spec.bodies_from (M.within forms.now.left) (lines_of defaults.now) []
         written.now here world.old) result world.new }
 {
-    let mut done = Bodies::new(world.alloc);
+    let mut done = Bodies::new(world.heap.alloc());
     let mut rest = written.as_slice();
     while let Some((body, more)) = rest.split_first() {
         done = with_other(forms, world, defaults, done, body, here)?;
@@ -141,10 +141,10 @@ fn other<F: Fn(&mut World<'_>, Goal<'_>, Here, u32) -> Result<Evaluated, Stop>, 
         result world.new }
 {
     let title = forms.value(world, &body.title, here)?;
-    let none = Lines::new(world.alloc);
+    let none = Lines::new(world.heap.alloc());
     let own = lines(forms, world, none, &body.attributes, here)?;
     let at = world.place(here, body.at)?;
-    let titles = flat(world.alloc, title.as_value())?;
-    let lines = filled(world.alloc, own, defaults)?;
+    let titles = flat(world.heap.alloc(), title.as_value())?;
+    let lines = filled(world.heap.alloc(), own, defaults)?;
     Ok(Body { titles, lines, at })
 }

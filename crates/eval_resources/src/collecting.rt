@@ -27,7 +27,7 @@ pub fn collector<F: Fn(&mut World<'_>, Goal<'_>, Here, u32) -> Result<Evaluated,
     ensures { Gives nothing
         (spec.collector_rule (M.within forms.now.left) written.now here world.old) result world.new }
 {
-    match native_asked(world.alloc, written)? {
+    match native_asked(world.heap.alloc(), written)? {
         None => Err(Stop::Fault(world.fault(here, written.at, What::NotBuilt)?)),
         Some(native) => {
             let asked = asked(forms, world, &written.query, written.at, here)?;
@@ -64,7 +64,7 @@ fn asked<F: Fn(&mut World<'_>, Goal<'_>, Here, u32) -> Result<Evaluated, Stop>, 
     ensures { Gives same (spec.asked_by (M.within forms.now.left) query.now line here world.old) result world.new }
 {
     match query {
-        None => Ok(QueryBox::new(world.alloc, Query::All)?),
+        None => Ok(QueryBox::new(world.heap.alloc(), Query::All)?),
         Some(query) => asked_tag(forms, world, query, line, here),
     }
 }
@@ -84,7 +84,7 @@ fn asked_tag<F: Fn(&mut World<'_>, Goal<'_>, Here, u32) -> Result<Evaluated, Sto
         None => Err(Stop::Fault(world.fault(here, line, What::NotBuilt)?)),
         Some(tag) => {
             let value = forms.value(world, tag, here)?;
-            Ok(by_tag(world.alloc, value)?)
+            Ok(by_tag(world.heap.alloc(), value)?)
         }
     }
 }
@@ -145,7 +145,7 @@ fn register(
 ) -> Result<(), Stop>
     ensures { Gives nothing (spec.register native query line here world.old) result world.new }
 {
-    let kind = kind_of(world.alloc, native)?;
+    let kind = kind_of(world.heap.alloc(), native)?;
     let at = world.place(here, line)?;
     world.relations.add_collector(Collector {
         kind,

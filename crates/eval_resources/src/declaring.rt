@@ -32,8 +32,8 @@ pub fn declare(
     ensures within { IfOk result (λ n. n < length world.new.book) }
 {
     let owner = world.owners.get(here.owner);
-    let item = item_of(world.alloc, owner, &world.book, named, body)?;
-    world.book.declare(world.alloc, item, mode_of(form))
+    let item = item_of(world.heap.alloc(), owner, &world.book, named, body)?;
+    world.book.declare(world.heap.alloc(), item, mode_of(form))
 }
 
 fn mode_of(form: Form) -> Mode

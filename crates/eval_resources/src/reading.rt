@@ -71,7 +71,7 @@ fn with_setting<F: Fn(&mut World<'_>, Goal<'_>, Here, u32) -> Result<Evaluated, 
 {
     let value = forms.value(world, &setting.value, here)?;
     let at = world.place(here, setting.at)?;
-    Ok(with_line(world.alloc, done, &setting.name, setting.append, value, at)?)
+    Ok(with_line(world.heap.alloc(), done, &setting.name, setting.append, value, at)?)
 }
 
 /// One line more.
@@ -125,10 +125,10 @@ fn with_splatted(
     match value {
         Value::Hash(pairs) => {
             let at = world.place(here, line)?;
-            Ok(with_pairs(world.alloc, done, pairs.as_slice(), &at)?)
+            Ok(with_pairs(world.heap.alloc(), done, pairs.as_slice(), &at)?)
         }
         _ => {
-            let operator = Text::from_str(world.alloc, "*")?;
+            let operator = Text::from_str(world.heap.alloc(), "*")?;
             Err(Stop::Fault(world.fault(here, line, What::BadOperand(operator))?))
         }
     }

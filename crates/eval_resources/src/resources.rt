@@ -24,7 +24,7 @@ pub fn resource<F: Fn(&mut World<'_>, Goal<'_>, Here, u32) -> Result<Evaluated, 
     ensures { Gives nothing (spec.resource_rule (M.within forms.now.left) written.now here world.old) result world.new }
 {
     let bodies = bodies(forms, world, &written.bodies, here)?;
-    let kind = normal_name(world.alloc, &written.kind)?;
+    let kind = normal_name(world.heap.alloc(), &written.kind)?;
     let action = Action::Resource {
         form: form_of(written.form),
         kind,

@@ -1,6 +1,5 @@
 -- The steps that read and change one table of the world.
 use Rattle.std.specs.Prelude.{ℕ, List, [], ◌∷◌, ◌++◌, length, Result, Ok, Err}
-use Rattle.std.specs.declared.alloc.Global.{Global}
 use Rattle.pp_values.specs.Answers.{and_then}
 use Rattle.pp_values.specs.Datum.{Datum}
 use Rattle.pp_values.specs.Faults as faults
@@ -15,13 +14,13 @@ use Rattle.scope_core.specs.declared.scope_kind.ScopeKind.TheVariants as kind
 use Rattle.eval_world.specs.Outcomes.{Outcome, Step, answered}
 use Rattle.eval_world.specs.Owners.{owner_at, main_alone}
 use Rattle.eval_world.specs.declared.here.Here.{Here}
-use Rattle.eval_world.specs.declared.manifests.Manifests.{Manifests}
+use Rattle.eval_world.specs.Manifests.{Manifests}
 use Rattle.eval_world.specs.declared.world.World.{World}
 
 -- before anything was evaluated
-abbrev pub empty : Global → Manifests → World
-empty alloc manifests = record {
-  alloc = alloc;
+abbrev pub empty : Manifests → World
+empty manifests = record {
+  heap = tt;
   manifests = manifests;
   scopes = scopes.top_alone;
   owners = main_alone;

@@ -27,7 +27,7 @@ impl<F: Fn(&mut World<'_>, Goal<'_>, Here, u32) -> Result<Evaluated, Stop>, M: M
         requires { Nests (M.within self.now.left) self.now.left (F.pre self.now.inner) (F.post self.now.inner) }
         ensures { Gives same (spec.values_from (M.within self.now.left) [] args.now here world.old) result world.new }
     {
-        let mut done = Values::new(world.alloc);
+        let mut done = Values::new(world.heap.alloc());
         let mut rest = args.as_slice();
         while let Some((arg, more)) = rest.split_first() {
             done = self.with_argument(world, done, arg, here)?;
@@ -48,7 +48,7 @@ impl<F: Fn(&mut World<'_>, Goal<'_>, Here, u32) -> Result<Evaluated, Stop>, M: M
         ensures { Gives same (spec.argument_rule (M.within self.now.left) done arg.now here world.old) result world.new }
     {
         let value = self.value(world, arg, here)?;
-        Ok(with_given(world.alloc, done, is_splat(arg), value)?)
+        Ok(with_given(world.heap.alloc(), done, is_splat(arg), value)?)
     }
 }
 

@@ -4,6 +4,7 @@ ghost use Rattle.eval_world.specs.Outcomes.{Gives, nothing, same};
 ghost use Rattle.eval_world.specs.Worlds as spec;
 
 use crate::evaluated::Evaluated;
+use crate::heap::Heap;
 use crate::here::Here;
 use crate::manifests::Manifests;
 use crate::owners::Owners;
@@ -17,7 +18,7 @@ use std::alloc::Global;
 /// All that a compile has made so far. Nothing in it is replaced: its lists only grow, but for the scopes of calls of
 /// lambdas that have ended.
 pub struct World<'a> {
-    pub alloc: Global,
+    pub heap: Heap,
     pub manifests: Manifests<'a>,
     pub scopes: Scopes,
     pub owners: Owners,
@@ -31,7 +32,7 @@ pub struct World<'a> {
 impl<'a> Drop for World<'a> {
     fn drop(self) {
         let World {
-            alloc: _alloc,
+            heap: _heap,
             manifests: _manifests,
             scopes: _scopes,
             owners: _owners,
@@ -47,10 +48,10 @@ impl<'a> World<'a> {
     /// The world before anything was evaluated: the empty top scope, the main manifest as the one owner, and no
     /// declaration.
     pub fn new(alloc: Global, manifests: Manifests<'a>) -> Result<World<'a>, Memory>
-        ensures { IfOk result (λ w. w ≡ spec.empty alloc manifests.entry) }
+        ensures { IfOk result (λ w. w ≡ spec.empty manifests) }
     {
         Ok(World {
-            alloc,
+            heap: Heap::new(alloc),
             manifests,
             scopes: Scopes::new(alloc)?,
             owners: Owners::new(alloc)?,
@@ -69,7 +70,7 @@ impl<'a> World<'a> {
         ensures log { result.3 ≡ self.entry.log }
     {
         let World {
-            alloc: _alloc,
+            heap: _heap,
             manifests: _manifests,
             scopes: _scopes,
             owners: _owners,
@@ -86,7 +87,7 @@ impl<'a> World<'a> {
         ensures { IfOk result (λ p. p ≡ spec.place_at self.now here line) }
     {
         Ok(Place {
-            file: self.owners.get(here.owner).file.copy(self.alloc)?,
+            file: self.owners.get(here.owner).file.copy(self.heap.alloc())?,
             line,
         })
     }
@@ -96,7 +97,7 @@ impl<'a> World<'a> {
         ensures { IfOk result (λ f. f ≡ fault (spec.place_at self.now here line) what) }
     {
         let at = self.place(here, line)?;
-        Fault::new(self.alloc, at, what)
+        Fault::new(self.heap.alloc(), at, what)
     }
 
     /// A form of the language that is read and not evaluated yet.
@@ -112,9 +113,9 @@ impl<'a> World<'a> {
         ensures { Gives same (spec.read here name.now line self.now) result self.now }
     {
         match self.scopes.get(here.scope, name) {
-            Some(value) => Ok(Evaluated::copy_of(self.alloc, value)?),
+            Some(value) => Ok(Evaluated::copy_of(self.heap.alloc(), value)?),
             None => {
-                let name = name.copy(self.alloc)?;
+                let name = name.copy(self.heap.alloc())?;
                 Err(Stop::Fault(self.fault(here, line, What::UnknownVariable(name))?))
             }
         }
@@ -133,7 +134,7 @@ impl<'a> World<'a> {
     {
         let at = self.place(here, line)?;
         self.scopes
-            .assign(self.alloc, here.scope, name, value.into_value(), &at)
+            .assign(self.heap.alloc(), here.scope, name, value.into_value(), &at)
     }
 
     /// The scope of one call of a lambda that stands here.
@@ -143,7 +144,7 @@ impl<'a> World<'a> {
     {
         let scope = self
             .scopes
-            .enter(self.alloc, ScopeKind::Lambda, here.scope)?;
+            .enter(self.heap.alloc(), ScopeKind::Lambda, here.scope)?;
         Ok(Here {
             scope,
             owner: here.owner,

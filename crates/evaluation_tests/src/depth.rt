@@ -22,10 +22,7 @@ fn value_in(alloc: Global, main: &File, is_block: bool, depth: u32) -> Result<St
     let node = Text::from_str(alloc, "a")?;
     let facts = facts(alloc)?;
     let files = BTreeMap::new(alloc);
-    let manifests = Manifests {
-        main,
-        files: &files,
-    };
+    let manifests = Manifests::new(main, &files);
     let mut evaluator = Evaluator::start(alloc, manifests, &node, &facts)?;
     if is_block {
         return given(

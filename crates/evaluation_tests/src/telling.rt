@@ -34,11 +34,7 @@ pub fn parsed(alloc: Global, manifest: &str) -> Result<File, Stop> {
 
 fn told_of_main(alloc: Global, main: &File) -> Result<String, Memory> {
     let files = BTreeMap::new(alloc);
-    let manifests = Manifests {
-        main,
-        files: &files,
-    };
-    told_of(alloc, manifests)
+    told_of(alloc, Manifests::new(main, &files))
 }
 
 fn told_of(alloc: Global, manifests: Manifests<'_>) -> Result<String, Memory> {

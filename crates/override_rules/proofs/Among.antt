@@ -19,7 +19,7 @@ use Rattle.override_rules.specs.Defaults.{Default, Scope, parent_of, default_in,
 use Rattle.override_rules.specs.Fold.{set_in, declared, after_lines}
 use Rattle.override_rules.specs.Lines.{Line, lines_on}
 use Rattle.override_rules.specs.Meaning.{State, is_imported, defaulted, attribute_of}
-use Rattle.override_rules.specs.Names.{is_for, names_in, names_from, names_within, line_names, default_names, names_of, settings_among}
+use Rattle.override_rules.specs.Names.{attributes_of, is_for, names_in, names_from, names_within, line_names, default_names, names_of, settings_among}
 
 -- ---- they rise
 
@@ -223,3 +223,7 @@ all_found s r name =
 pub all_rising : (s : State) (r : Row) →
     is_rising (setting_names (settings_among (attribute_of s r) (sorted (names_of s r)))) ≡ true
 all_rising s r = rising_among (attribute_of s r) (sorted (names_of s r)) (is_rising-with_texts (names_of s r) [] refl)
+
+pub each_found : (s : State) (r : Row) (name : List ℕ) → set_in (attributes_of s r) name ≡ attribute_of s r name
+unfolding attributes_of
+each_found s r name = all_found s r name

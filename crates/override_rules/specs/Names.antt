@@ -3,12 +3,13 @@
 use Rattle.std.specs.Prelude.{ℕ, zero, suc, ◌==◌, ◌&&◌, Bool, if◌then◌else◌, List, [], ◌∷◌, ◌++◌, filter, map, length, Option, None, Some, option_map, option_to_list}
 use Rattle.std.specs.Str.{bytes_eq}
 use Rattle.pp_values.specs.Datum.{Datum}
+use Rattle.pp_values.specs.Rising.{sorted}
 use Rattle.pp_values.specs.Settings.{Setting, setting_names}
 use Rattle.res_book.specs.Rows.{reference_of}
 use Rattle.res_book.specs.declared.row.Row.{Row}
 use Rattle.override_rules.specs.Defaults.{Default, Scope, parent_of}
 use Rattle.override_rules.specs.Lines.{Line, lines_on}
-use Rattle.override_rules.specs.Meaning.{State, is_imported}
+use Rattle.override_rules.specs.Meaning.{State, attribute_of, is_imported}
 use Rattle.override_rules.specs.declared.default_key.DefaultKey.{DefaultKey}
 
 abbrev pub is_for : List ℕ → ℕ → DefaultKey → Bool
@@ -49,3 +50,7 @@ setting_for value name = option_to_list (option_map (λ d. (name, d)) (value nam
 abbrev pub settings_among : (List ℕ → Option Datum) → List (List ℕ) → List Setting
 settings_among value [] = []
 settings_among value (t ∷ ts) = setting_for value t ++ settings_among value ts
+
+-- all attributes of a declaration that are set, in the order of their names
+unfoldable pub attributes_of : State → Row → List Setting
+attributes_of s r = settings_among (attribute_of s r) (sorted (names_of s r))

@@ -7,7 +7,7 @@ ghost use Rattle.res_core.specs.AttributeViews.{settings};
 ghost use Rattle.override_rules.specs.Fold.{set_in};
 ghost use Rattle.override_rules.specs.Lines.{line_of, lines_of};
 ghost use Rattle.override_rules.specs.Meaning.{State, attribute_of as attribute_meant, attribute_at, defaulted as defaulted_meant, is_imported as imported_meant, line_added, tested, test_of, row_of, stands, is_orphan as is_orphan_meant, orphan, default_added, scope_opened, touched_by};
-ghost use Rattle.override_rules.specs.Names.{names_of, default_names, setting_for, settings_among};
+ghost use Rattle.override_rules.specs.Names.{names_of, default_names, setting_for, settings_among, attributes_of};
 
 use crate::changing::set_to;
 use crate::defaults::Defaults;
@@ -156,9 +156,11 @@ impl Overrides {
     }
 
     /// All attributes that are set, each with what `attribute` gives for it.
+    #[tactic(auto, using(crate::proofs::Among::each_found))]
     pub fn attributes(&self, alloc: Global, book: &Book, number: u32) -> Result<Attributes, Memory>
         requires { number < length book.now }
-        ensures { IfOk result (λ a. (name : List ℕ) → set_in a name ≡ attribute_at self.now book.now number name) }
+        ensures list { IfOk result (λ a. option_map (attributes_of self.now) (slice_get book.now number) ≡ Some a) }
+        ensures each { IfOk result (λ a. (name : List ℕ) → set_in a name ≡ attribute_at self.now book.now number name) }
     {
         let row = book.row(number);
         let names = self.names(alloc, row)?;
@@ -204,7 +206,7 @@ impl Overrides {
         names: BTreeSet<Text>,
     ) -> Result<Attributes, Memory>
         requires { names.keys ≡ sorted (names_of self.now row.now) }
-        ensures { IfOk result (λ a. (name : List ℕ) → set_in a name ≡ attribute_meant self.now row.now name) }
+        ensures { IfOk result (λ a. a ≡ attributes_of self.now row.now) }
     {
         let mut items = Vec::new(alloc);
         for name in names {

@@ -1,1 +1,4 @@
 pub mod PlainLemmas
+pub mod CycleLemmas
+pub mod LayoutLemmas
+pub mod BelowLemmas

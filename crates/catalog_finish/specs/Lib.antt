@@ -1,2 +1,5 @@
 pub mod PlainForms
 pub mod FirstCycles
+pub mod Layouts
+pub mod Tables
+pub mod Containing

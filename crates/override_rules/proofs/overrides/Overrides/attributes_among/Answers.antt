@@ -6,7 +6,7 @@ use Rattle.res_core.specs.AttributeViews.{settings}
 use Rattle.override_rules.proofs.Among.{all_rising}
 use Rattle.override_rules.proofs.overrides.Overrides.attributes_among.Goals as goal
 use Rattle.override_rules.specs.Meaning.{attribute_of}
-use Rattle.override_rules.specs.Names.{names_of, settings_among}
+use Rattle.override_rules.specs.Names.{attributes_of, names_of, settings_among}
 
 pub from_vec-requires : goal.from_vec-requires
 from_vec-requires c =

@@ -1,4 +1,6 @@
 pub mod PlainLemmas
+pub mod AttributeLemmas
 pub mod CycleLemmas
 pub mod LayoutLemmas
 pub mod BelowLemmas
+pub mod ExportLemmas

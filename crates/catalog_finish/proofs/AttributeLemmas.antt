@@ -8,7 +8,9 @@ use Rattle.override_rules.proofs.Among.{rising_all}
 use Rattle.pp_values.specs.Plain.{is_plain_value}
 use Rattle.pp_values.specs.Rising.{text_cmp, precedes, is_rising}
 use Rattle.pp_values.specs.Settings.{Setting, setting_names}
+use Rattle.res_core.specs.AttributeViews.{setting, settings}
 use Rattle.res_core.specs.PlainAttributes.{are_plain}
+use Rattle.res_core.specs.declared.attribute.Attribute.{Attribute}
 use Rattle.catalog_finish.proofs.PlainLemmas.{plain_of-plain}
 use Rattle.catalog_finish.specs.Attributes.{has_value, is_kept, plain_setting, in_catalog}
 
@@ -46,8 +48,7 @@ filtered_rising test (s ∷ ss) e =
     let parts = both (precedes s.0 (setting_names ss)) (is_rising (setting_names ss)) e in
     let rest = filtered_rising test ss parts.1 in
     let first = above_filtered test s.0 ss (rising_all s.0 (setting_names ss) e) in
-    elim (test s) as (λ b. is_rising (setting_names (cond b (s ∷ filter test ss) (filter test ss))) ≡ true)
-    [
+    elim (test s) as (λ b. is_rising (setting_names (cond b (s ∷ filter test ss) (filter test ss))) ≡ true) [
       | true ↦ together (precedes s.0 (setting_names (filter test ss))) (is_rising (setting_names (filter test ss))) first
           rest
       | false ↦ rest
@@ -102,3 +103,13 @@ none_found_plain (s ∷ ss) e = elim (bool_cases (is_plain_value s.1)) [
       absurd (not_both (find (λ a. not (is_plain_value a.1)) (s ∷ ss)) s e
       (ap (λ b. cond (not b) (Some s) (find (λ a. not (is_plain_value a.1)) ss)) other))
 ]
+
+-- ---- of the attributes themselves
+
+pub kept_filtered : (test : Setting → Bool) (rest : List Attribute) →
+    settings (filter (λ a. test (setting a)) rest) ≡ filter test (settings rest)
+kept_filtered test [] = refl
+kept_filtered test (a ∷ rest) =
+    elim (test (setting a)) as (λ b. settings (cond b (a ∷ filter (λ x. test (setting x)) rest)
+    (filter (λ x. test (setting x)) rest)) ≡ cond b (setting a ∷ filter test (settings rest)) (filter test (settings rest)))
+    [ true ↦ ap (λ xs. setting a ∷ xs) (kept_filtered test rest) | false ↦ kept_filtered test rest ]

@@ -215,10 +215,13 @@ module _ (pairs : List (ℕ × ℕ)) (goal : ℕ) where
       let found = direct c way h.1 in
       elim (bool_cases (list_any (eqb a) (c ∷ found.0))) [
         | inl again ↦ from_later a c found.0 found.1.chain found.1.distinct again
-        | inr new ↦ (c ∷ found.0, record {
+        | inr new ↦ (
+          c ∷ found.0,
+          record {
             chain = (h.0, found.1.chain);
             distinct = (none_equal a (c ∷ found.0) new, found.1.distinct);
-          })
+          },
+        )
       ]
 
   start_below : (count a : ℕ) (way : List ℕ) → AllBelow pairs count → Chain (Paired pairs) a way goal → a < count

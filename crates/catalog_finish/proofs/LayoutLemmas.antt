@@ -21,7 +21,7 @@ row_there [] n h = absurd (omega arith)
 row_there (r ∷ rows) zero h = (r, refl)
 row_there (r ∷ rows) (suc n) h = row_there rows n (omega arith)
 
-rows_from : (rows : List Row) (n : ℕ) (r : Row) → n < length rows → slice_get rows n ≡ Some r →
+pub rows_from : (rows : List Row) (n : ℕ) (r : Row) → n < length rows → slice_get rows n ≡ Some r →
     drop n rows ≡ r ∷ drop (suc n) rows
 rows_from rows n r h is = drop-cons rows n r h ∙ ap (λ x. x ∷ drop (suc n) rows) (get_or_from_slice_get rows n r r is)
 
@@ -207,3 +207,21 @@ pub number_passed : (rows : List Row) (n : ℕ) (old new whole : List ℕ) → n
 number_passed rows n old new whole h live is all =
     let rest : List ℕ = of_live (λ m r. m ∷ []) (n + 1) (drop (n + 1) rows) in
     ap (λ xs. xs ++ rest) is ∙ sym (ap (λ xs. old ++ xs) (live_passed (λ m r. m ∷ []) rows n h live)) ∙ all
+
+module _ {A : Type 0} (each : ℕ → Row → A) (rows : List Row) (n : ℕ) (old new whole : List A) (h : n < length rows)
+    (all : old ++ of_live (λ m r. each m r ∷ []) n (drop n rows) ≡ whole) where
+  rest : List A
+  rest = of_live (λ m r. each m r ∷ []) (n + 1) (drop (n + 1) rows)
+
+  pub live_turn : (r : Row) → slice_get rows n ≡ Some r → is_live_at rows n ≡ true → new ≡ old ++ each n r ∷ [] →
+      new ++ of_live (λ m r. each m r ∷ []) (n + 1) (drop (n + 1) rows) ≡ whole
+  unfolding rest
+  live_turn r there live is =
+      ap (λ xs. xs ++ rest) is ∙ append_assoc old (each n r ∷ []) rest
+      ∙ sym (ap (λ xs. old ++ xs) (live_taken (λ m r. each m r ∷ []) rows n r h there live)) ∙ all
+
+  pub dead_turn : is_live_at rows n ≡ false → new ≡ old →
+      new ++ of_live (λ m r. each m r ∷ []) (n + 1) (drop (n + 1) rows) ≡ whole
+  unfolding rest
+  dead_turn live is =
+      ap (λ xs. xs ++ rest) is ∙ sym (ap (λ xs. old ++ xs) (live_passed (λ m r. each m r ∷ []) rows n h live)) ∙ all

@@ -8,8 +8,8 @@ ghost use Rattle.override_rules.specs.Names.{attributes_of};
 ghost use Rattle.catalog_finish.specs.Attributes.{bound_parameters, catalog_attributes as catalog_meant, exported_attributes as exported_meant, has_value, in_catalog, is_native as native_meant, is_tag as tag_meant, is_value as value_meant};
 
 use crate::plain_values::{plain_copy, plain_value};
-use pp_values::{Memory, Text, Value};
 use override_rules::Overrides;
+use pp_values::{Memory, Text, Value};
 use res_book::{Book, Row};
 use res_core::{Attribute, Attributes, Declared, is_relation_name, native};
 use std::alloc::Global;
@@ -57,11 +57,7 @@ fn set_attributes(
 }
 
 /// Puts an attribute behind the others, where a catalog has it.
-fn put_set(
-    alloc: Global,
-    attribute: Attribute,
-    items: &mut Vec<Attribute>,
-) -> Result<(), Memory>
+fn put_set(alloc: Global, attribute: Attribute, items: &mut Vec<Attribute>) -> Result<(), Memory>
     ensures { OnOk result (settings items.new.items
         ≡ settings items.old.items ++ in_catalog (setting attribute ∷ [])) }
 {
@@ -86,11 +82,7 @@ fn kept_of_set(alloc: Global, attributes: Attributes) -> Result<Attributes, Memo
 }
 
 /// Puts a parameter behind the others, where it has a value and a catalog has it.
-fn put_bound(
-    alloc: Global,
-    attribute: &Attribute,
-    items: &mut Vec<Attribute>,
-) -> Result<(), Memory>
+fn put_bound(alloc: Global, attribute: &Attribute, items: &mut Vec<Attribute>) -> Result<(), Memory>
     ensures { OnOk result (settings items.new.items
         ≡ settings items.old.items ++ in_catalog (filter has_value (setting attribute.now ∷ []))) }
 {

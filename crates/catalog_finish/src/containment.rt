@@ -15,11 +15,7 @@ use res_core::{Held, Indexes};
 use std::alloc::Global;
 
 /// Puts what contains the resource of this index behind the other pairs.
-fn put_pairs(
-    member: u32,
-    containers: &[u32],
-    pairs: &mut Vec<Containment>,
-) -> Result<(), Memory>
+fn put_pairs(member: u32, containers: &[u32], pairs: &mut Vec<Containment>) -> Result<(), Memory>
     ensures { OnOk result (map containment_pair pairs.new.items
         ≡ map containment_pair pairs.old.items ++ map (λ c. (c, member)) containers.now) }
 {

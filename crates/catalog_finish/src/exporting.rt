@@ -52,10 +52,13 @@ fn mismatch(alloc: Global, at: &Place, name: &Text) -> Result<Fault, Memory>
 fn exported_resource(alloc: Global, row: &Row, attributes: Attributes) -> Result<Exported, Stop>
     ensures { Answers result (resource_meant row.now attributes) }
 {
-    if let Some(attribute) = first_not_plain(attributes.as_slice()) {
-        return Err(Stop::Fault(mismatch(alloc, &row.item.at, &attribute.name)?));
+    match first_not_plain(attributes.as_slice()) {
+        Some(attribute) => {
+            let fault = mismatch(alloc, &row.item.at, &attribute.name)?;
+            Err(Stop::Fault(fault))
+        }
+        None => Ok(plain_export(alloc, row, attributes)?),
     }
-    Ok(plain_export(alloc, row, attributes)?)
 }
 
 fn plain_export(alloc: Global, row: &Row, attributes: Attributes) -> Result<Exported, Memory>
@@ -92,11 +95,12 @@ fn export_of(
 pub fn exports(alloc: Global, book: &Book, lines: &Overrides) -> Result<Exports, Stop>
     ensures { Answers result (exports_meant lines.now book.now) }
 {
-    let mut exports = Exports::new(alloc);
+    let mut exports = Vec::new(alloc);
     for number in 0..book.count() {
-        if let Some(export) = export_of(alloc, book, lines, number, book.row(number))? {
-            exports.push(export)?;
+        match export_of(alloc, book, lines, number, book.row(number))? {
+            Some(export) => exports.push(export)?,
+            None => {}
         }
     }
-    Ok(exports)
+    Ok(Exports::from_vec(exports))
 }

@@ -5,4 +5,4 @@ use Rattle.catalog_finish.proofs.exporting.exports.Given as goal
 
 abbrev pub invariant-loop-number : goal.invariant-loop-number
 invariant-loop-number l =
-    in_turn (export_step l.lines) l.exports (drop l.number l.book) ≡ exports l.lines l.book
+    in_turn (export_step l.lines) l.exports.items (drop l.number l.book) ≡ exports l.lines l.book

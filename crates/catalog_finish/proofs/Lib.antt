@@ -4,3 +4,5 @@ pub mod CycleLemmas
 pub mod LayoutLemmas
 pub mod BelowLemmas
 pub mod ExportLemmas
+mod Samples
+mod Examples

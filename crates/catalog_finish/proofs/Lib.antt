@@ -1,0 +1,8 @@
+pub mod PlainLemmas
+pub mod AttributeLemmas
+pub mod CycleLemmas
+pub mod LayoutLemmas
+pub mod BelowLemmas
+pub mod ExportLemmas
+mod Samples
+mod Examples

@@ -1,0 +1,9 @@
+pub mod PlainForms
+pub mod Attributes
+pub mod Layouts
+pub mod Tables
+pub mod Catalogs
+pub mod FirstCycles
+pub mod Containing
+pub mod Exporting
+pub mod Finishing

@@ -42,7 +42,7 @@ with_log log made = (record made.0 { log = log }, made.1)
 
 -- the tables become catalog and exports; the lines of the log are the catalog's
 abbrev pub finished_world : List ℕ → World → Result (Catalog × ExportSet) Fault
-finished_world node w = and_then (finished w.book w.overrides w.relations node) (λ made. Ok (with_log w.log made))
+finished_world node w = and_then (finished w.overrides w.book w.relations node) (λ made. Ok (with_log w.log made))
 
 abbrev pub ended : List ℕ → Outcome (Unit {0}) → Result (Catalog × ExportSet) Fault
 ended node (Ok p) = finished_world node p.1

@@ -15,7 +15,7 @@ use std::alloc::Global;
 
 /// The catalog of a node with these facts and what it exports, by a site and the sets that the nodes export; or the
 /// first fault.
-#[tactic(auto, unfolding(crate::specs::Meaning::meaning), using(crate::proofs::ReadFiles::all_read))]
+#[tactic(auto, unfolding(crate::specs::Meaning::meaning), using(crate::proofs::ReadFiles::manifests_read))]
 pub fn compile(
     alloc: Global,
     site: &Site,

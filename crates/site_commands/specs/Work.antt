@@ -32,8 +32,8 @@ abbrev pub HasLogged : List ℕ → Stream → Stream → Type 0
 HasLogged [] before after = after ≡ before
 HasLogged (b ∷ bs) before after = HasWritten (b ∷ bs) before after
 
--- the log was written whole, and then the output; or the log was not, and nothing of the output; or the log was, and the
--- output was not
+-- the log was written whole, and then the output; or the log was not, and nothing of the output; or the log was, and
+-- the output was not
 abbrev pub WritesLogged : Ending → List ℕ → List ℕ → Stream → Stream → Stream → Stream → Type 0
 WritesLogged e.WriteFault log text out out' err err' = (FailsToSay log err err' × (out' ≡ out))
     ⊎ (HasLogged log err err' × FailsToSay text out out')

@@ -36,7 +36,7 @@ use std::thread::Threads;
 /// | 11 | the manifest is longer than 4 MiB, or no text in UTF-8 | `B3 manifests/site.pp`, `B2 manifests/site.pp` |
 /// | 11 | the input of `sequence` or `batch` is no bundle | `B1`, `B2 PATH` or `B3 PATH` |
 /// | 12 | the input could not be read | `read fault` |
-/// | 13 | the output, the log or the line of a fault could not be written | the log; or a front of it or of the fault's line |
+/// | 13 | the output, the log or a fault's line could not be written | the log; or a front of it or of that line |
 /// | 16 | want of memory, in the program or in a reply that was written | `memory` |
 ///
 /// The first that is met decides, in the order: words (10), input (12, 11), work, output (0, 1 or 13).
@@ -318,12 +318,7 @@ fn deliver<K: Sink, E: Sink>(output: &Output, out: &mut K, err: &mut E) -> Endin
 }
 
 /// Writes the log and then the output, which is not begun where the log can't be written.
-fn deliver_compiled<K: Sink, E: Sink>(
-    log: &Text,
-    text: &Text,
-    out: &mut K,
-    err: &mut E,
-) -> Ending
+fn deliver_compiled<K: Sink, E: Sink>(log: &Text, text: &Text, out: &mut K, err: &mut E) -> Ending
     ensures { WritesLogged result log.now text.now (K.stream out.old) (K.stream out.new) (E.stream err.old)
         (E.stream err.new) }
 {

@@ -100,8 +100,8 @@ catalogs = (refl, refl)
 abbrev logged : List ℕ → List ℕ → LogLine
 logged level text = record { level = level; text = text }
 
--- a log without lines, with an empty text, with a line feed within a text, and with lines in the order in which they were
--- written
+-- a log without lines, with an empty text, with a line feed within a text, and with lines in the order in which they
+-- were written
 logs : (log_text [] ≡ [])
     × (log_text (logged (codes "notice") [] ∷ []) ≡ codes "notice: " ++ 10 ∷ [])
     × (log_text (logged (codes "err") (codes "a" ++ 10 ∷ codes "b") ∷ []) ≡ codes "err: a" ++ 10 ∷ codes "b" ++ 10 ∷ [])

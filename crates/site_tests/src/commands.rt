@@ -564,7 +564,15 @@ const LOGS: [(&str, Failing, u8, bool, &str); 9] = [
 fn logs_are_written_first(rt: HostRuntime) -> Result<(), Fail> {
     for (manifest, failing, status, is_written, log) in LOGS.iter() {
         assert!(rt;
-            logs_as(&rt, rt.alloc(), manifest, *failing, *status, *is_written, log)?,
+            logs_as(
+                &rt,
+                rt.alloc(),
+                manifest,
+                *failing,
+                *status,
+                *is_written,
+                log
+            )?,
             "{manifest} {status}"
         );
     }
@@ -572,7 +580,8 @@ fn logs_are_written_first(rt: HostRuntime) -> Result<(), Fail> {
 }
 
 /// A bundle whose one request writes a log.
-const LOGGED: &str = r#"{"bundle": 1, "files": {"manifests/site.pp": "notice('a')"}, "nodes": {"a": {}}, "requests": [{"node": "a"}]}"#;
+const LOGGED: &str =
+    r#"{"bundle": 1, "files": {"manifests/site.pp": "notice('a')"}, "nodes": {"a": {}}, "requests": [{"node": "a"}]}"#;
 
 /// Whether a command drops the log.
 fn drops_log<R: Threads + Wait + Sync>(

@@ -1,4 +1,4 @@
-//! The tests of bundles, and of the lines of faults and catalogs.
+//! The tests of bundles, and of the texts of faults, catalogs and logs.
 #![tactic(auto)]
 
 #[cfg(test)]
@@ -7,3 +7,5 @@ mod bundles;
 mod catalogs;
 #[cfg(test)]
 mod faults;
+#[cfg(test)]
+mod logs;

@@ -22,7 +22,7 @@ use Rattle.compile_core.specs.Puppet.{puppet, listed}
 use Rattle.site_sequence.specs.SequenceLaws.{is_memory}
 use Rattle.site_commands.specs.Status.{status_of}
 use Rattle.site_commands.specs.Words.{CommandLine, manifest, sequence, batch, usage, bad_word, asked_of}
-use Rattle.site_commands.specs.Work.{WritesOr, WritesShort, Delivers, Serves}
+use Rattle.site_commands.specs.Work.{WritesOr, WritesLogged, WritesShort, Delivers, Serves}
 use Rattle.site_commands.specs.World.{World}
 use Rattle.site_commands.proofs.Told.{read_is_left, left_is_longer, leb-false}
 use Rattle.site_sequence.proofs.Turns.{meant}
@@ -113,6 +113,12 @@ ending-writes : (ending whole : Ending) (text : List ℕ) (s t : Stream) → Wri
 ending-writes e.WriteFault whole text s t did = inr refl
 ending-writes ending whole text s t did = inl did.0
 
+ending-logged : (ending : Ending) (log text : List ℕ) (out out' err err' : Stream) →
+    WritesLogged ending log text out out' err err' →
+    (ending ≡ e.Done) ⊎ (ending ≡ e.WriteFault)
+ending-logged e.WriteFault log text out out' err err' did = inr refl
+ending-logged ending log text out out' err err' did = inl did.0
+
 ending-short : (ending : Ending) (text : List ℕ) (out out' err err' : Stream) →
     WritesShort ending text out out' err err' →
     (ending ≡ e.Memory) ⊎ (ending ≡ e.WriteFault)
@@ -131,6 +137,8 @@ status_of-delivered : (ending : Ending) (output : Output) (out out' err err' : S
     (status_of ending ≡ output_status output) ⊎ (status_of ending ≡ 13)
 status_of-delivered ending (a.Done text) out out' err err' did =
     status-either ending e.Done (a.Done text) refl (ending-writes ending e.Done text out out' did.0)
+status_of-delivered ending (a.Compiled log text) out out' err err' did =
+    status-either ending e.Done (a.Compiled log text) refl (ending-logged ending log text out out' err err' did)
 status_of-delivered ending (a.Refused text) out out' err err' did =
     status-either ending e.Refused (a.Refused text) refl (ending-writes ending e.Refused text out out' did.0)
 status_of-delivered ending (a.Short text) out out' err err' did =

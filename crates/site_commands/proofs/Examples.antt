@@ -1,11 +1,21 @@
 -- Words, complaints and statuses on examples.
-use Rattle.std.proofs.Common.{◌≡◌, ℕ, List, [], ◌∷◌, ◌++◌, replicate, refl}
-use Rattle.std.specs.Prelude.{codes}
+use Rattle.std.proofs.Common.{◌≡◌, ◌⊎◌, ℕ, List, [], ◌∷◌, ◌++◌, length, replicate, refl, ap, inl, inr, arith, length-append}
+use Rattle.std.specs.Fmt.{digits}
+use Rattle.std.specs.Prelude.{Ok, Err, codes}
+use Rattle.pp_values.specs.declared.fault.What.TheVariants.{Failed}
+use Rattle.res_core.specs.declared.catalog.Catalog.{Catalog}
 use Rattle.site_core.specs.declared.reply.ReplyOf.TheVariants as r
-use Rattle.site_commands.specs.Outputs.{output_of}
+use Rattle.site_docs.specs.CatalogText.{catalog_text}
+use Rattle.site_docs.specs.FaultText.{plain_line, fault_text}
+use Rattle.site_docs.specs.LogText.{log_text}
+use Rattle.site_io.specs.Stream.{Stream}
+use Rattle.site_commands.specs.Outputs.{output_meant, output_of}
+use Rattle.site_commands.specs.declared.ending.Ending.TheVariants as e
 use Rattle.site_commands.specs.declared.output.Output.TheVariants as a
 use Rattle.site_commands.specs.Words.{manifest, sequence, batch, usage, bad_word, asked_of}
 use Rattle.site_commands.specs.Endings.{complaint, IsStatusFor}
+use Rattle.site_commands.specs.Work.{HasLogged, WritesLogged}
+use Rattle.site_commands.specs.World.{FailsToSay, line}
 
 abbrev manifest_of : List ℕ → List (List ℕ)
 manifest_of node = codes "manifest" ∷ node ∷ []
@@ -64,3 +74,32 @@ refusals : (output_of (served_and (r.Refused 2 (codes "bad"))) (codes "x") ≡ a
     × (output_of (served_and r.Memory) (codes "x") ≡ a.Short (codes "x"))
     × (output_of (r.UnknownNode 1 ∷ served_and r.Memory) (codes "x") ≡ a.Short (codes "x"))
 refusals = (refl, refl, refl, refl, refl, refl, refl)
+
+-- a catalog comes with the log of its compile, and a fault with none
+abbrev logged : Catalog
+logged = record {
+  node = codes "a";
+  resources = [];
+  edges = [];
+  log = record { level = codes "notice"; text = codes "b" } ∷ record { level = codes "err"; text = codes "c" } ∷ [];
+}
+
+outputs : (output_meant (Ok (logged, record { items = [] })) ≡
+    a.Compiled (codes "notice: b" ++ 10 ∷ codes "err: c" ++ 10 ∷ []) (line (catalog_text logged)))
+    × (output_meant (Err (record { at = record { file = codes "m.pp"; line = 7 }; what = Failed (codes "d") })) ≡
+    a.Fault (codes "F25 m.pp:7 Failed d" ++ 10 ∷ []))
+unfolding log_text fault_text plain_line digits
+outputs = (refl, refl)
+
+-- where anything was written to out, the log stands whole on err
+log_first : (log text : List ℕ) (out out' err err' : Stream) → WritesLogged e.WriteFault log text out out' err err' →
+    (out' ≡ out) ⊎ HasLogged log err err'
+log_first log text out out' err err' (inl lost) = inl lost.1
+log_first log text out out' err err' (inr kept) = inr kept.0
+
+-- a log without lines leaves err alone, and no write of it fails
+no_lines : (text : List ℕ) (out out' err err' : Stream) → WritesLogged e.WriteFault [] text out out' err err' →
+    (err' ≡ err) × FailsToSay text out out'
+no_lines text out out' err err' (inl lost) =
+    absurd (omega (arith, ap length lost.0.1.whole, length-append lost.0.1.front lost.0.1.rest, lost.0.1.short))
+no_lines text out out' err err' (inr kept) = kept

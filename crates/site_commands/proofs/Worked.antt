@@ -20,6 +20,7 @@ use Rattle.site_commands.specs.World.{world}
 -- no output ends a run for its words, or for a fault of the source
 unread : (output : Output) (out out' err err' : Stream) → Delivers e.ReadFault output out out' err err' → ⊥
 unread (a.Done text) out out' err err' did = cc did.0.0
+unread (a.Compiled log text) out out' err err' did = cc did.0
 unread (a.Refused text) out out' err err' did = cc did.0.0
 unread (a.Short text) out out' err err' did = cc did.0
 unread (a.Fault text) out out' err err' did = cc did.0.0
@@ -27,6 +28,7 @@ unread (a.BadInput text) out out' err err' did = cc did.0
 
 unasked : (output : Output) (out out' err err' : Stream) → Delivers e.BadWords output out out' err err' → ⊥
 unasked (a.Done text) out out' err err' did = cc did.0.0
+unasked (a.Compiled log text) out out' err err' did = cc did.0
 unasked (a.Refused text) out out' err err' did = cc did.0.0
 unasked (a.Short text) out out' err err' did = cc did.0
 unasked (a.Fault text) out out' err err' did = cc did.0.0

@@ -86,6 +86,7 @@ Ends e.Memory words before after =
 -- the status of a run that writes this output
 abbrev pub output_status : Output → ℕ
 output_status (a.Done text) = 0
+output_status (a.Compiled log text) = 0
 output_status (a.Refused text) = 1
 output_status (a.Short text) = 16
 output_status (a.Fault text) = 1

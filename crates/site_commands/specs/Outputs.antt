@@ -18,6 +18,7 @@ use Rattle.site_bundle.specs.Refusals.{Refusal, not_json, bad_shape, too_large}
 use Rattle.site_bundle.specs.declared.bundle.Bundle.{Bundle}
 use Rattle.site_docs.specs.CatalogText.{catalog_text}
 use Rattle.site_docs.specs.FaultText.{fault_text}
+use Rattle.site_docs.specs.LogText.{log_text}
 use Rattle.site_docs.specs.JournalText.{journal_text}
 use Rattle.site_docs.specs.ReplyText.{reply_line}
 use Rattle.site_commands.specs.declared.output.Output.{Output}
@@ -34,9 +35,9 @@ refusal_line not_json = line (codes "B1")
 refusal_line (bad_shape path) = line (codes "B2 " ++ path)
 refusal_line (too_large path) = line (codes "B3 " ++ path)
 
--- `manifest`: what the meaning of a manifest is told by
+-- `manifest`: what the meaning of a manifest is told by; a compile that is refused has no log
 abbrev pub output_meant : Result (Catalog × ExportSet) Fault → Output
-output_meant (Ok made) = a.Done (line (catalog_text made.0))
+output_meant (Ok made) = a.Compiled (log_text made.0.log) (line (catalog_text made.0))
 output_meant (Err fault) = a.Fault (line (fault_text fault))
 
 abbrev pub manifest_output : List ℕ → List ℕ → Output

@@ -1,5 +1,5 @@
 -- The work of a command on an input that was read, and what each of its endings means.
-use Rattle.std.specs.Prelude.{◌≡◌, ◌⊎◌, ℕ, List, ◌++◌, codes}
+use Rattle.std.specs.Prelude.{◌≡◌, ◌⊎◌, ℕ, List, [], ◌∷◌, ◌++◌, codes}
 use Rattle.pp_values.specs.declared.place.TheConstants.{MAIN_MANIFEST}
 use Rattle.site_io.specs.Stream.{Stream, HasWritten}
 use Rattle.site_io.specs.declared.transfer.ReadStop.{ReadStop}
@@ -27,9 +27,23 @@ WritesShort e.WriteFault text out out' err err' = FailsToSay text out out' × (e
 WritesShort ending text out out' err err' = (ending ≡ e.Memory)
     × (HasWritten text out out' × Says (line (codes "memory")) err err')
 
+-- a log was written whole; where it has no lines, the stream was left alone
+abbrev pub HasLogged : List ℕ → Stream → Stream → Type 0
+HasLogged [] before after = after ≡ before
+HasLogged (b ∷ bs) before after = HasWritten (b ∷ bs) before after
+
+-- the log was written whole, and then the output; or the log was not, and nothing of the output; or the log was, and
+-- the output was not
+abbrev pub WritesLogged : Ending → List ℕ → List ℕ → Stream → Stream → Stream → Stream → Type 0
+WritesLogged e.WriteFault log text out out' err err' = (FailsToSay log err err' × (out' ≡ out))
+    ⊎ (HasLogged log err err' × FailsToSay text out out')
+WritesLogged ending log text out out' err err' = (ending ≡ e.Done)
+    × (HasLogged log err err' × HasWritten text out out')
+
 -- what is written of an output; out and err, before and after
 abbrev pub Delivers : Ending → Output → Stream → Stream → Stream → Stream → Type 0
 Delivers ending (a.Done text) out out' err err' = WritesOr ending e.Done text out out' × (err' ≡ err)
+Delivers ending (a.Compiled log text) out out' err err' = WritesLogged ending log text out out' err err'
 Delivers ending (a.Refused text) out out' err err' = WritesOr ending e.Refused text out out' × (err' ≡ err)
 Delivers ending (a.Short text) out out' err err' = WritesShort ending text out out' err err'
 Delivers ending (a.Fault text) out out' err err' = WritesOr ending e.Refused text err err' × (out' ≡ out)

@@ -1,8 +1,9 @@
-//! The output to a manifest: the node's catalog, or its fault.
+//! The output to a manifest: the log and the node's catalog, or its fault.
 ghost use Rattle.std.specs.Prelude.{◌≡◌, ◌≤◌, [], ◌∷◌, IfOk, length};
 ghost use Rattle.site_core.specs.Meaning.{Compiles};
 ghost use Rattle.site_docs.specs.CatalogText.{catalog_text};
 ghost use Rattle.site_docs.specs.FaultText.{fault_text};
+ghost use Rattle.site_docs.specs.LogText.{log_text};
 ghost use Rattle.site_bundle.specs.Refusals.{bad_shape};
 ghost use Rattle.site_commands.specs.Outputs.{output_meant, manifest_output, refusal_line};
 ghost use Rattle.site_bundle.specs.declared.limits.TheConstants.{MOST_FILE_BYTES};
@@ -30,6 +31,7 @@ use site_core::compile_stop::CompileStop;
 use site_core::language::Language;
 use site_docs::catalog_texts::catalog_text;
 use site_docs::fault_texts::fault_text;
+use site_docs::log_texts::log_text;
 use site_io::Bytes;
 use std::alloc::Global;
 
@@ -58,7 +60,7 @@ fn output_of_text(alloc: Global, node: &str, manifest: Text) -> Result<Output, M
     ensures { IfOk result (λ output. output ≡ output_meant (manifest_meaning node.now manifest)) }
 {
     match compile_alone(alloc, node, manifest) {
-        Ok((catalog, _)) => Ok(Output::Done(catalog_line(alloc, &catalog)?)),
+        Ok((catalog, _)) => catalog_output(alloc, &catalog),
         Err(CompileStop::Fault(fault)) => Ok(Output::Fault(fault_line(alloc, &fault)?)),
         Err(CompileStop::Memory) => Err(Memory),
     }
@@ -88,6 +90,16 @@ fn site_alone(alloc: Global, manifest: Text) -> Result<Site, Memory>
     let mut files = TextPairs::new(alloc);
     files.push((Text::from_str(alloc, MAIN_MANIFEST)?, manifest))?;
     make_site(alloc, files, FactPairs::new(alloc))
+}
+
+/// The output of a compile that made this catalog.
+fn catalog_output(alloc: Global, catalog: &Catalog) -> Result<Output, Memory>
+    ensures { IfOk result (λ output. output
+        ≡ Output.Compiled (log_text catalog.now.log) (line (catalog_text catalog.now))) }
+{
+    let log = log_text(alloc, &catalog.log)?;
+    let text = catalog_line(alloc, catalog)?;
+    Ok(Output::Compiled { log, text })
 }
 
 fn catalog_line(alloc: Global, catalog: &Catalog) -> Result<Text, Memory>

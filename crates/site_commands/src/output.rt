@@ -6,6 +6,9 @@ pub enum Output {
     /// The output.
     Done(Text),
 
+    /// The log of a compile that succeeded, for the error stream, and the output.
+    Compiled { log: Text, text: Text },
+
     /// The output, which tells of a refusal.
     Refused(Text),
 

@@ -1,10 +1,10 @@
-ghost use Rattle.std.specs.Prelude.{◌≡◌, ◌↔◌, ◌⊎◌, ◌≤◌, List, ℕ, IfOk, length, Some};
+ghost use Rattle.std.specs.Prelude.{◌≡◌, ◌↔◌, ◌⊎◌, ◌≤◌, List, ℕ, IfOk, OnOk, OnErr, length, Some};
 ghost use Rattle.site_commands.specs.Words.{asked_of, asked_by, texts_of, IsWithin, IsPlain, IsShared};
 ghost use Rattle.site_io.specs.Stream.{Rose};
-ghost use Rattle.site_commands.specs.World.{world, line, Says};
+ghost use Rattle.site_commands.specs.World.{world, line, Says, FailsToSay};
 ghost use Rattle.site_commands.specs.Status.{IsStatus};
 ghost use Rattle.site_commands.specs.Outputs.{IsOutput};
-ghost use Rattle.site_commands.specs.Work.{Works, Delivers, GivesUp, too_long};
+ghost use Rattle.site_commands.specs.Work.{Works, Delivers, HasLogged, WritesLogged, GivesUp, too_long};
 ghost use Rattle.site_commands.specs.Limits.{limit_of};
 ghost use Rattle.site_commands.specs.Program.{HasEnded};
 ghost use Rattle.site_commands.specs.Endings.{Ends, IsComplaint, IsSettled};
@@ -18,8 +18,9 @@ use crate::say::{say, say_word};
 use crate::words::{Command, Complaint, read_words};
 use pp_values::memory::Memory;
 use pp_values::place::MAIN_MANIFEST;
+use pp_values::text::Text;
 use site_bundle::limits::{MOST_BUNDLE_BYTES, MOST_FILE_BYTES};
-use site_io::{Bytes, Gate, ReadStop, Sink, Source, read_all, write_all};
+use site_io::{Bytes, Gate, ReadStop, Sink, Source, WriteFault, read_all, write_all};
 use std::alloc::Global;
 use std::sync::Wait;
 use std::thread::Threads;
@@ -28,14 +29,14 @@ use std::thread::Threads;
 ///
 /// | Status | When | Error line |
 /// |-|-|-|
-/// | 0 | the catalog was written, or journal and replies were, none of which is a refusal | none |
+/// | 0 | the catalog was written, or journal and replies were, none of which is a refusal | of `manifest` its log |
 /// | 1 | the manifest has no catalog | its fault |
 /// | 1 | journal and replies were written, one of which is a refusal | none |
 /// | 10 | the words are faulty | `usage: manifest NODE` or `bad word WORD` |
 /// | 11 | the manifest is longer than 4 MiB, or no text in UTF-8 | `B3 manifests/site.pp`, `B2 manifests/site.pp` |
 /// | 11 | the input of `sequence` or `batch` is no bundle | `B1`, `B2 PATH` or `B3 PATH` |
 /// | 12 | the input could not be read | `read fault` |
-/// | 13 | the output, or the line of a fault, could not be written | none, or a front of the fault's line |
+/// | 13 | the output, the log or a fault's line could not be written | the log; or a front of it or of that line |
 /// | 16 | want of memory, in the program or in a reply that was written | `memory` |
 ///
 /// The first that is met decides, in the order: words (10), input (12, 11), work, output (0, 1 or 13).
@@ -299,6 +300,7 @@ fn deliver<K: Sink, E: Sink>(output: &Output, out: &mut K, err: &mut E) -> Endin
             Ok(()) => Ending::Done,
             Err(_) => Ending::WriteFault,
         },
+        Output::Compiled { log, text } => deliver_compiled(log, text, out, err),
         Output::Refused(text) => match write_all(out, text.as_str().as_bytes()) {
             Ok(()) => Ending::Refused,
             Err(_) => Ending::WriteFault,
@@ -313,4 +315,29 @@ fn deliver<K: Sink, E: Sink>(output: &Output, out: &mut K, err: &mut E) -> Endin
         },
         Output::BadInput(line) => refuse(err, Ending::BadInput, line.as_str()),
     }
+}
+
+/// Writes the log and then the output, which is not begun where the log can't be written.
+fn deliver_compiled<K: Sink, E: Sink>(log: &Text, text: &Text, out: &mut K, err: &mut E) -> Ending
+    ensures { WritesLogged result log.now text.now (K.stream out.old) (K.stream out.new) (E.stream err.old)
+        (E.stream err.new) }
+{
+    match write_log(err, log.as_str()) {
+        Ok(()) => match write_all(out, text.as_str().as_bytes()) {
+            Ok(()) => Ending::Done,
+            Err(_) => Ending::WriteFault,
+        },
+        Err(_) => Ending::WriteFault,
+    }
+}
+
+/// Writes a log. One without lines leaves the error stream alone.
+fn write_log<E: Sink>(err: &mut E, log: &str) -> Result<(), WriteFault>
+    ensures all { OnOk result (HasLogged log.now (E.stream err.old) (E.stream err.new)) }
+    ensures part { OnErr result (FailsToSay log.now (E.stream err.old) (E.stream err.new)) }
+{
+    if log.is_empty() {
+        return Ok(());
+    }
+    write_all(err, log.as_bytes())
 }

@@ -11,6 +11,7 @@ use Rattle.pp_values.specs.declared.place.TheConstants.{MAIN_MANIFEST}
 use Rattle.pp_values.specs.Settings.{Setting}
 use Rattle.res_core.specs.declared.held.Held.{Held}
 use Rattle.res_core.specs.declared.catalog.Catalog.{Catalog}
+use Rattle.res_core.specs.declared.log_line.LogLine.{LogLine}
 use Rattle.res_core.specs.declared.exported.Exported.{Exported}
 use Rattle.res_core.specs.Asked.{Asked, compile, deactivate}
 use Rattle.site_core.specs.Events.{Event, opens, publishes, deactivates}
@@ -19,6 +20,7 @@ use Rattle.site_core.specs.declared.reply.ReplyOf.TheVariants.{Served, Refused, 
 use Rattle.site_bundle.specs.SiteView.{SiteView}
 use Rattle.site_docs.specs.CatalogText.{held_object, held_data, edge_data, catalog_object, catalog_data, catalog_text}
 use Rattle.site_docs.specs.FaultText.{plain_line, fault_text}
+use Rattle.site_docs.specs.LogText.{log_text}
 use Rattle.site_docs.specs.declared.fault_names.TheConstants.{FAULT_NAMES}
 use Rattle.site_docs.specs.SiteText.{site_object, site_data, site_text}
 use Rattle.site_docs.specs.JournalText.{export_object, export_data, opening_object, publication_object, deactivation_object, count_object, entry_data, entry_lines, journal_text}
@@ -94,6 +96,19 @@ catalogs : (catalog_text (record {
     ≡ codes "{\"catalog\":1,\"edges\":[[1,0,true]],\"node\":\"a\",\"resources\":[{\"attrs\":{\"message\":\"hello\"},\"in\":[0],\"tags\":[\"hi\",\"notify\"],\"title\":\"hi\",\"type\":\"Notify\"}]}")
 unfolding held_object held_data edge_data catalog_object catalog_data digits serde_json_on_literals
 catalogs = (refl, refl)
+
+abbrev logged : List ℕ → List ℕ → LogLine
+logged level text = record { level = level; text = text }
+
+-- a log without lines, with an empty text, with a line feed within a text, and with lines in the order in which they
+-- were written
+logs : (log_text [] ≡ [])
+    × (log_text (logged (codes "notice") [] ∷ []) ≡ codes "notice: " ++ 10 ∷ [])
+    × (log_text (logged (codes "err") (codes "a" ++ 10 ∷ codes "b") ∷ []) ≡ codes "err: a" ++ 10 ∷ codes "b" ++ 10 ∷ [])
+    × (log_text (logged (codes "warning") (codes "b") ∷ logged (codes "debug") (codes "a") ∷ []) ≡
+    codes "warning: b" ++ 10 ∷ codes "debug: a" ++ 10 ∷ [])
+unfolding log_text
+logs = (refl, refl, refl, refl)
 
 abbrev listing : List ℕ → List (List ℕ) → SiteView
 listing manifest [] = record { files = (MAIN_MANIFEST.now, manifest) ∷ []; nodes = [] }

@@ -1,5 +1,6 @@
 pub mod FaultText
 pub mod CatalogText
+pub mod LogText
 pub mod SiteText
 pub mod JournalText
 pub mod ReplyText

@@ -1,10 +1,11 @@
-//! The texts of documents: catalogs, faults, sites, journals and replies.
+//! The texts of documents: catalogs, logs, faults, sites, journals and replies.
 #![tactic(auto)]
 
 pub mod catalog_texts;
 pub mod fault_names;
 pub mod fault_texts;
 pub mod journals;
+pub mod log_texts;
 pub mod replies;
 mod resource_forms;
 pub mod site_texts;
@@ -13,5 +14,6 @@ pub use catalog_texts::catalog_text;
 pub use fault_names::FAULT_NAMES;
 pub use fault_texts::fault_text;
 pub use journals::write_journal;
+pub use log_texts::log_text;
 pub use replies::write_reply;
 pub use site_texts::site_text;

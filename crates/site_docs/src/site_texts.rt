@@ -8,12 +8,12 @@ ghost use Rattle.site_docs.specs.SiteText.{site_object as object_of_site, file_s
 
 use crate::resource_forms::json_text;
 use json_values::value_forms::value_form;
+use pp_tree::manifest_file::ManifestFile;
 use pp_values::memory::Memory;
 use pp_values::text::Text;
 use pp_values::value::Value;
 use serde_json::{Map, Value as Json, json};
 use site_bundle::site::Site;
-use pp_tree::manifest_file::ManifestFile;
 use std::alloc::{AllocError, Global};
 use std::collections::BTreeMap;
 
@@ -42,7 +42,10 @@ fn site_object(alloc: Global, files: Json, nodes: Json) -> Result<Json, AllocErr
     json!(in alloc; {"files": files, "nodes": nodes})
 }
 
-fn file_forms(alloc: Global, files: &BTreeMap<Text, ManifestFile>) -> Result<Map<String, Json>, Memory>
+fn file_forms(
+    alloc: Global,
+    files: &BTreeMap<Text, ManifestFile>,
+) -> Result<Map<String, Json>, Memory>
     ensures { IfOk result (λ m. members_view m.entries ≡ put_all (file_settings (filed files.now.entries)) no_members) }
 {
     let mut members = Map::new(alloc);

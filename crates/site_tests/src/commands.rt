@@ -516,3 +516,87 @@ fn refusals_are_written(rt: HostRuntime) -> Result<(), Fail> {
     }
     Ok(())
 }
+
+/// Whether `manifest n` ends so: where there is output, it is the catalog of a node without resources of its own.
+fn logs_as<R: Threads + Wait + Sync>(
+    rt: &R,
+    alloc: Global,
+    manifest: &str,
+    failing: Failing,
+    status: u8,
+    is_written: bool,
+    log: &str,
+) -> Result<bool, AllocError> {
+    let line = catalog(alloc, "n", "")?;
+    let outcome = run(rt, alloc, "manifest|n", manifest.as_bytes(), failing)?;
+    let out = if is_written { line.as_str() } else { "" };
+    Ok(is_outcome(&outcome, status, out, log))
+}
+
+const LOGS: [(&str, Failing, u8, bool, &str); 9] = [
+    ("notice('a')", NONE, 0, true, "notice: a\n"),
+    (
+        "err('a', 1)\nnotice(\"b\\nc\")",
+        NONE,
+        0,
+        true,
+        "err: a 1\nnotice: b\nc\n",
+    ),
+    ("notice('')", NONE, 0, true, "notice: \n"),
+    // The log comes first: where it can't be written, nothing else is.
+    ("notice('a')", (0, 0, 1), 13, false, ""),
+    ("notice('a')", (0, 1, 1), 13, false, ""),
+    ("notice('a')", (0, 1, 0), 13, false, "notice: a\n"),
+    // Without lines the error stream is left alone.
+    ("", (0, 0, 1), 0, true, ""),
+    // A compile that is refused has no log.
+    (
+        "notice('a')\nfail('b')",
+        NONE,
+        1,
+        false,
+        "F25 manifests/site.pp:2 Failed b\n",
+    ),
+    ("notice('a')\nfail('b')", (0, 0, 1), 13, false, ""),
+];
+
+#[test]
+fn logs_are_written_first(rt: HostRuntime) -> Result<(), Fail> {
+    for (manifest, failing, status, is_written, log) in LOGS.iter() {
+        assert!(rt;
+            logs_as(
+                &rt,
+                rt.alloc(),
+                manifest,
+                *failing,
+                *status,
+                *is_written,
+                log
+            )?,
+            "{manifest} {status}"
+        );
+    }
+    Ok(())
+}
+
+/// A bundle whose one request writes a log.
+const LOGGED: &str =
+    r#"{"bundle": 1, "files": {"manifests/site.pp": "notice('a')"}, "nodes": {"a": {}}, "requests": [{"node": "a"}]}"#;
+
+/// Whether a command drops the log.
+fn drops_log<R: Threads + Wait + Sync>(
+    rt: &R,
+    alloc: Global,
+    words: &str,
+) -> Result<bool, AllocError> {
+    let outcome = run(rt, alloc, words, LOGGED.as_bytes(), (0, 0, 1))?;
+    Ok(outcome.status == 0 && outcome.err.is_empty() && !outcome.out.is_empty())
+}
+
+#[test]
+fn logs_of_bundles_are_dropped(rt: HostRuntime) -> Result<(), Fail> {
+    for words in ["sequence", "batch", "batch|--workers|4"].iter() {
+        assert!(rt; drops_log(&rt, rt.alloc(), words)?, "{words}");
+    }
+    Ok(())
+}

@@ -20,23 +20,28 @@ levels ls = Some (config_from ls [])
 -- without a hierarchy there are no levels; `defaults` give the folder, and a level's own wins
 folders : (config_read false (codes "{\"version\":5}") ≡ levels [])
     × (config_read false (codes "{\"version\":5,\"hierarchy\":[]}") ≡ levels [])
-    × (config_read false (codes "{\"version\":5,\"hierarchy\":[{\"name\":\"a\",\"path\":\"x.json\"}]}") ≡ levels (plain (codes "data") ∷ []))
-    × (config_read false (codes "{\"version\":5,\"defaults\":{},\"hierarchy\":[{\"name\":\"a\",\"path\":\"x.json\"}]}") ≡ levels (plain (codes "data") ∷ []))
+    × (config_read false (codes "{\"version\":5,\"hierarchy\":[{\"name\":\"a\",\"path\":\"x.json\"}]}")
+        ≡ levels (plain (codes "data") ∷ []))
+    × (config_read false (codes "{\"version\":5,\"defaults\":{},\"hierarchy\":[{\"name\":\"a\",\"path\":\"x.json\"}]}")
+        ≡ levels (plain (codes "data") ∷ []))
     × (config_read false (codes "{\"version\":5,\"defaults\":{\"datadir\":\"d\",\"data_hash\":\"json_data\"},\"hierarchy\":[{\"name\":\"a\",\"path\":\"x.json\"}]}") ≡ levels (plain (codes "d") ∷ []))
     × (config_read false (codes "{\"version\":5,\"defaults\":{\"datadir\":\"d\"},\"hierarchy\":[{\"name\":\"a\",\"datadir\":\"e\",\"path\":\"x.json\"}]}") ≡ levels (plain (codes "e") ∷ []))
 unfolding serde_json_on_literals
 folders = (refl, refl, refl, refl, refl, refl)
 
 -- each form of a level's paths, and levels in their order
-forms : (config_read false (codes "{\"version\":5,\"hierarchy\":[{\"name\":\"a\",\"paths\":[\"x\",\"y\"]},{\"name\":\"b\",\"paths\":[]}]}")
-    ≡ levels (level_of (codes "a") (codes "data") (paths.Templates (codes "x" ∷ codes "y" ∷ [])) ∷ level_of (codes "b") (codes "data") (paths.Templates []) ∷ []))
+forms : (config_read false (codes
+    "{\"version\":5,\"hierarchy\":[{\"name\":\"a\",\"paths\":[\"x\",\"y\"]},{\"name\":\"b\",\"paths\":[]}]}")
+    ≡ levels (level_of (codes "a") (codes "data") (paths.Templates (codes "x" ∷ codes "y" ∷ []))
+        ∷ level_of (codes "b") (codes "data") (paths.Templates []) ∷ []))
     × (config_read false (codes "{\"version\":5,\"hierarchy\":[{\"name\":\"a\",\"data_hash\":\"json_data\",\"mapped_paths\":[\"v\",\"n\",\"%{n}\"]}]}")
     ≡ levels (level_of (codes "a") (codes "data") (paths.Mapped (codes "v") (codes "n") (codes "%{n}")) ∷ []))
 unfolding serde_json_on_literals
 forms = (refl, refl)
 
 -- a module alone has default levels
-of_module : (config_read true (codes "{\"version\":5,\"default_hierarchy\":[{\"name\":\"a\",\"path\":\"x.json\"}]}") ≡ Some (config_from [] (plain (codes "data") ∷ [])))
+of_module : (config_read true (codes "{\"version\":5,\"default_hierarchy\":[{\"name\":\"a\",\"path\":\"x.json\"}]}")
+    ≡ Some (config_from [] (plain (codes "data") ∷ [])))
     × (config_read false (codes "{\"version\":5,\"default_hierarchy\":[]}") ≡ None)
 unfolding serde_json_on_literals
 of_module = (refl, refl)
@@ -85,8 +90,11 @@ unfolding serde_json_on_literals
 refused_levels = (refl, refl, refl, refl, refl, refl, refl, refl, refl, refl, refl, refl, refl, refl)
 
 -- the fault names the file; whose it is decides over `default_hierarchy`
-faults : (at : Place) → (config_or_fault (codes "hiera.yaml") (codes "{") layer.Environment at ≡ Err (fault at (what.BadData (codes "hiera.yaml"))))
-    × (config_or_fault (codes "g") (codes "{\"version\":5,\"default_hierarchy\":[]}") layer.Global at ≡ Err (fault at (what.BadData (codes "g"))))
-    × (config_or_fault (codes "m") (codes "{\"version\":5,\"default_hierarchy\":[]}") (layer.Module (codes "m")) at ≡ Ok (config_from [] []))
+faults : (at : Place) → (config_or_fault (codes "hiera.yaml") (codes "{") layer.Environment at
+    ≡ Err (fault at (what.BadData (codes "hiera.yaml"))))
+    × (config_or_fault (codes "g") (codes "{\"version\":5,\"default_hierarchy\":[]}") layer.Global at
+        ≡ Err (fault at (what.BadData (codes "g"))))
+    × (config_or_fault (codes "m") (codes "{\"version\":5,\"default_hierarchy\":[]}") (layer.Module (codes "m")) at
+        ≡ Ok (config_from [] []))
 unfolding serde_json_on_literals
 faults at = (refl, refl, refl)

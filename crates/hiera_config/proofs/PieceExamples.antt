@@ -17,7 +17,8 @@ unfolding cut_at
 cuts = (refl, refl, refl, refl, refl, refl, refl, refl)
 
 -- space, tab, CR and LF are blanks; a form feed is none
-blanks : (trimmed (codes " \t\r\n a b \n") ≡ codes "a b") × (trimmed (codes " \t") ≡ []) × (trimmed (12 ∷ 97 ∷ []) ≡ 12 ∷ 97 ∷ [])
+blanks : (trimmed (codes " \t\r\n a b \n") ≡ codes "a b") × (trimmed (codes " \t") ≡ [])
+    × (trimmed (12 ∷ 97 ∷ []) ≡ 12 ∷ 97 ∷ [])
 unfolding trimmed_start trimmed_end
 blanks = (refl, refl, refl)
 
@@ -62,11 +63,13 @@ unfolding pieces_from cut_at
 whole = (refl, refl)
 
 -- an interpolation ends at the first `}`, and blanks within at both ends are dropped
-parts : (pieces (codes "x%{a}y") ≡ piece.Letters (codes "x") ∷ piece.Reads (codes "a") ∷ piece.Letters (codes "y") ∷ [])
+parts : (pieces (codes "x%{a}y")
+    ≡ piece.Letters (codes "x") ∷ piece.Reads (codes "a") ∷ piece.Letters (codes "y") ∷ [])
     × (pieces (codes "%{ a.b\t}}") ≡ piece.Letters [] ∷ piece.Reads (codes "a.b") ∷ piece.Letters (codes "}") ∷ [])
     × (pieces (codes "%{}") ≡ piece.Letters [] ∷ piece.Reads [] ∷ piece.Letters [] ∷ [])
     × (pieces (codes "%{lookup('k')}") ≡ piece.Letters [] ∷ piece.Asks (codes "k") ∷ piece.Letters [] ∷ [])
-    × (pieces (codes "%{literal('%')}{a}") ≡ piece.Letters [] ∷ piece.Letters (codes "%") ∷ piece.Letters (codes "{a}") ∷ [])
+    × (pieces (codes "%{literal('%')}{a}")
+        ≡ piece.Letters [] ∷ piece.Letters (codes "%") ∷ piece.Letters (codes "{a}") ∷ [])
 unfolding pieces_from form_of method_of cut_at trimmed_start trimmed_end
 parts = (refl, refl, refl, refl, refl)
 
@@ -75,12 +78,14 @@ broken : (pieces (codes "a%{b") ≡ piece.Letters (codes "a") ∷ piece.Broken (
     × (pieces (codes "%{f('a')}%{b}") ≡ piece.Letters [] ∷ piece.Broken (codes "%{f('a')}%{b}") ∷ [])
     × (pieces (codes "%{lookup('}')}") ≡ piece.Letters [] ∷ piece.Broken (codes "%{lookup('}')}") ∷ [])
     × (pieces (codes "%{alias('a')}x") ≡ piece.Letters [] ∷ piece.Broken (codes "%{alias('a')}x") ∷ [])
-    × (path_pieces (codes "a/%{lookup('b')}") ≡ piece.Letters (codes "a/") ∷ piece.Broken (codes "%{lookup('b')}") ∷ [])
+    × (path_pieces (codes "a/%{lookup('b')}")
+        ≡ piece.Letters (codes "a/") ∷ piece.Broken (codes "%{lookup('b')}") ∷ [])
 unfolding pieces_from form_of method_of path_form cut_at trimmed_start trimmed_end
 broken = (refl, refl, refl, refl, refl)
 
 -- the whole text, and no other interpolation
-aliases : (whole_alias (codes "%{alias('a.b')}") ≡ Some (codes "a.b")) × (whole_alias (codes "%{ alias(\"a\") }") ≡ Some (codes "a"))
+aliases : (whole_alias (codes "%{alias('a.b')}") ≡ Some (codes "a.b"))
+    × (whole_alias (codes "%{ alias(\"a\") }") ≡ Some (codes "a"))
     × (whole_alias (codes " %{alias('a')}") ≡ None) × (whole_alias (codes "%{alias('a')} ") ≡ None)
     × (whole_alias (codes "%{alias('a')") ≡ None) × (whole_alias (codes "%{lookup('a')}") ≡ None)
     × (whole_alias (codes "%{alias( 'a')}") ≡ None) × (whole_alias (codes "a") ≡ None)

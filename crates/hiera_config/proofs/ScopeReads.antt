@@ -20,7 +20,8 @@ pub read_is : (n : ℕ) (x : List ℕ) (at : Place) (s : Scopes) (d : Datum) →
 unfolding read
 read_is n x at s d e = has_value (found n x s) x at d e
 
-pub read_lacks : (n : ℕ) (x : List ℕ) (at : Place) (s : Scopes) (e : Stop) → Reads (read n x at s) (Err e) → None ≡ found n x s
+pub read_lacks : (n : ℕ) (x : List ℕ) (at : Place) (s : Scopes) (e : Stop) → Reads (read n x at s) (Err e)
+    → None ≡ found n x s
 unfolding read
 read_lacks n x at s (stop.Fault f) is = has_none (found n x s) x at (ap is_err is)
 read_lacks n x at s stop.Memory is = has_none (found n x s) x at is

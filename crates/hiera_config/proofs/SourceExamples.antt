@@ -31,11 +31,13 @@ one name value = λ x. if bytes_eq name x then Some value else None
 
 abbrev facts : Variables
 facts = one (codes "f")
-    (d.hash (entries_of ((t (codes "a"), t (codes "x")) ∷ (t (codes "odd"), t (codes "%{f.a}")) ∷ (t (codes "l"), list (t (codes "x") ∷ n 7 ∷ [])) ∷ (t (codes "up"), t (codes "../x")) ∷ [])))
+    (d.hash (entries_of ((t (codes "a"), t (codes "x")) ∷ (t (codes "odd"), t (codes "%{f.a}"))
+        ∷ (t (codes "l"), list (t (codes "x") ∷ n 7 ∷ [])) ∷ (t (codes "up"), t (codes "../x")) ∷ [])))
 
 -- ---- variables and the texts of paths
 
-variables : (variable facts (codes "f.a") ≡ Some (t (codes "x"))) × (variable facts (codes "f.l.1") ≡ Some (n 7)) × (variable facts (codes "f.l.2") ≡ None)
+variables : (variable facts (codes "f.a") ≡ Some (t (codes "x"))) × (variable facts (codes "f.l.1") ≡ Some (n 7))
+    × (variable facts (codes "f.l.2") ≡ None)
     × (variable facts (codes "f.none") ≡ None) × (variable facts (codes "g") ≡ None) × (variable facts [] ≡ None)
 variables = (refl, refl, refl, refl, refl, refl)
 
@@ -58,7 +60,8 @@ at_x text = (codes "x", text) ∷ []
 documents : (in_file [] (codes "k") [] (codes "x") ≡ Ok [])
     × (in_file (at_x (codes "{\"j\":1}")) (codes "k") [] (codes "x") ≡ Ok [])
     × (in_file (at_x (codes "{\"j\":0.5,\"k\":null}")) (codes "k") [] (codes "x") ≡ Ok ((d.undef, codes "x") ∷ []))
-    × (in_file (at_x (codes "{\"k\":[1]}")) (codes "k") ((n 2, codes "y") ∷ []) (codes "x") ≡ Ok ((n 2, codes "y") ∷ (list (n 1 ∷ []), codes "x") ∷ []))
+    × (in_file (at_x (codes "{\"k\":[1]}")) (codes "k") ((n 2, codes "y") ∷ []) (codes "x")
+        ≡ Ok ((n 2, codes "y") ∷ (list (n 1 ∷ []), codes "x") ∷ []))
     × (in_file (at_x (codes "{\"k\":1,\"k\":2}")) (codes "k") [] (codes "x") ≡ Ok ((n 2, codes "x") ∷ []))
 unfolding serde_json_on_literals
 documents = (refl, refl, refl, refl, refl)
@@ -68,14 +71,17 @@ faulty_documents : (in_file (at_x (codes "{\"k\":1")) (codes "k") [] (codes "x")
     × (in_file (at_x (codes "[]")) (codes "k") [] (codes "x") ≡ Err (what.BadData (codes "x")))
     × (in_file (at_x (codes "{\"k\":0.5}")) (codes "k") [] (codes "x") ≡ Err (what.BadData (codes "x")))
     × (in_file (at_x (codes "{\"k\":{\"a\":[1e1]}}")) (codes "k") [] (codes "x") ≡ Err (what.BadData (codes "x")))
-    × (in_file (at_x (codes "{\"k\":9223372036854775808}")) (codes "k") [] (codes "x") ≡ Err (what.BadData (codes "x")))
+    × (in_file (at_x (codes "{\"k\":9223372036854775808}")) (codes "k") [] (codes "x")
+        ≡ Err (what.BadData (codes "x")))
 unfolding serde_json_on_literals
 faulty_documents = (refl, refl, refl, refl, refl)
 
 -- ---- levels
 
 abbrev files : List File
-files = (codes "d/bad.json", codes "[]") ∷ (codes "d/x.json", codes "{\"k\":1}") ∷ (codes "d/y.json", codes "{\"k\":2}") ∷ []
+files =
+    (codes "d/bad.json", codes "[]") ∷ (codes "d/x.json", codes "{\"k\":1}") ∷ (codes "d/y.json", codes "{\"k\":2}")
+    ∷ []
 
 abbrev found_by : LevelPaths → Meant (List Source)
 found_by ps = in_levels files (codes "k") [] facts [] (level_of (codes "a") (codes "d") ps ∷ [])
@@ -88,27 +94,36 @@ y_has = (n 2, codes "d/y.json")
 
 -- paths in their order, absent ones passed over; one that leads out of its folder is no file's
 templates : (found_by (paths.Templates []) ≡ Ok [])
-    × (found_by (paths.Templates (codes "y.json" ∷ codes "z.json" ∷ codes "%{f.a}.json" ∷ [])) ≡ Ok (y_has ∷ x_has ∷ []))
+    × (found_by (paths.Templates (codes "y.json" ∷ codes "z.json" ∷ codes "%{f.a}.json" ∷ []))
+        ≡ Ok (y_has ∷ x_has ∷ []))
     × (found_by (paths.Templates (codes "x.json" ∷ codes "x.json" ∷ [])) ≡ Ok (x_has ∷ x_has ∷ []))
     × (found_by (paths.Templates (codes "%{f.up}.json" ∷ [])) ≡ Ok [])
-    × (in_levels files (codes "k") [] facts [] (level_of (codes "a") (codes "d") (paths.Templates (codes "x.json" ∷ [])) ∷ level_of (codes "b") (codes "%{f.up}") (paths.Templates (codes "y.json" ∷ []))
+    × (in_levels files (codes "k") [] facts []
+        (level_of (codes "a") (codes "d") (paths.Templates (codes "x.json" ∷ []))
+        ∷ level_of (codes "b") (codes "%{f.up}") (paths.Templates (codes "y.json" ∷ []))
     ∷ level_of (codes "c") (codes "d") (paths.Templates (codes "y.json" ∷ [])) ∷ []) ≡ Ok (x_has ∷ y_has ∷ []))
-unfolding go_on in_turn in_template in_level pieces_from path_form cut_at trimmed_start trimmed_end digits serde_json_on_literals
+unfolding go_on in_turn in_template in_level pieces_from path_form cut_at trimmed_start trimmed_end digits
+    serde_json_on_literals
 templates = (refl, refl, refl, refl, refl)
 
 -- each fault at its path's turn; the folder is filled in before the path
-faults : (found_by (paths.Templates (codes "x.json" ∷ codes "bad.json" ∷ codes "%{" ∷ [])) ≡ Err (what.BadData (codes "d/bad.json")))
+faults : (found_by (paths.Templates (codes "x.json" ∷ codes "bad.json" ∷ codes "%{" ∷ []))
+    ≡ Err (what.BadData (codes "d/bad.json")))
     × (found_by (paths.Templates (codes "%{" ∷ codes "bad.json" ∷ [])) ≡ Err (what.BadInterpolation (codes "%{")))
-    × (in_levels files (codes "k") [] facts [] (level_of (codes "a") (codes "%{f(") (paths.Templates (codes "%{" ∷ [])) ∷ []) ≡ Err (what.BadInterpolation (codes "%{f(")))
+    × (in_levels files (codes "k") [] facts []
+        (level_of (codes "a") (codes "%{f(") (paths.Templates (codes "%{" ∷ [])) ∷ [])
+        ≡ Err (what.BadInterpolation (codes "%{f(")))
     × (in_levels files (codes "k") [] facts [] (level_of (codes "a") (codes "%{f(") (paths.Templates []) ∷ []) ≡ Ok [])
-unfolding go_on in_turn in_template in_level pieces_from path_form cut_at trimmed_start trimmed_end digits serde_json_on_literals
+unfolding go_on in_turn in_template in_level pieces_from path_form cut_at trimmed_start trimmed_end digits
+    serde_json_on_literals
 faults = (refl, refl, refl, refl)
 
 -- ---- mapped paths
 
 -- a list's members, a hash's pairs, another value, and nothing for none
 values : (mapped_values (Some (list (n 1 ∷ list [] ∷ []))) ≡ n 1 ∷ list [] ∷ [])
-    × (mapped_values (Some (d.hash (entries_of ((t (codes "a"), n 1) ∷ (n 2, n 3) ∷ [])))) ≡ list (t (codes "a") ∷ n 1 ∷ []) ∷ list (n 2 ∷ n 3 ∷ []) ∷ [])
+    × (mapped_values (Some (d.hash (entries_of ((t (codes "a"), n 1) ∷ (n 2, n 3) ∷ []))))
+        ≡ list (t (codes "a") ∷ n 1 ∷ []) ∷ list (n 2 ∷ n 3 ∷ []) ∷ [])
     × (mapped_values (Some (t (codes "x"))) ≡ t (codes "x") ∷ []) × (mapped_values (Some (t [])) ≡ t [] ∷ [])
     × (mapped_values (Some d.undef) ≡ []) × (mapped_values None ≡ [])
 values = (refl, refl, refl, refl, refl, refl)
@@ -119,17 +134,24 @@ mapped : (found_by (paths.Mapped (codes "f.l") (codes "p") (codes "%{p}.json")) 
     × (found_by (paths.Mapped (codes "f") (codes "p") (codes "%{p.1}.json")) ≡ Ok (x_has ∷ []))
     × (found_by (paths.Mapped (codes "f.none") (codes "p") (codes "%{")) ≡ Ok [])
     × (found_by (paths.Mapped (codes "f(") (codes "p") (codes "x.json")) ≡ Ok [])
-    × (found_by (paths.Mapped (codes "f.a") (codes "p") (codes "%{p('x')}")) ≡ Err (what.BadInterpolation (codes "%{p('x')}")))
-unfolding go_on in_turn in_template in_mapped in_level pieces_from path_form cut_at trimmed_start trimmed_end digits serde_json_on_literals
+    × (found_by (paths.Mapped (codes "f.a") (codes "p") (codes "%{p('x')}"))
+        ≡ Err (what.BadInterpolation (codes "%{p('x')}")))
+unfolding go_on in_turn in_template in_mapped in_level pieces_from path_form cut_at trimmed_start trimmed_end digits
+    serde_json_on_literals
 mapped = (refl, refl, refl, refl, refl, refl)
 
 -- in the folder too
-mapped_folder : in_levels files (codes "k") [] facts [] (level_of (codes "a") (codes "%{p}") (paths.Mapped (codes "dir") (codes "p") (codes "x.json")) ∷ []) ≡ Ok []
-unfolding go_on in_turn in_template in_mapped in_level pieces_from path_form cut_at trimmed_start trimmed_end digits serde_json_on_literals
+mapped_folder : in_levels files (codes "k") [] facts []
+    (level_of (codes "a") (codes "%{p}") (paths.Mapped (codes "dir") (codes "p") (codes "x.json")) ∷ []) ≡ Ok []
+unfolding go_on in_turn in_template in_mapped in_level pieces_from path_form cut_at trimmed_start trimmed_end digits
+    serde_json_on_literals
 mapped_folder = refl
 
-mapped_folder_there : in_levels files (codes "k") [] (one (codes "dir") (t (codes "d"))) [] (level_of (codes "a") (codes "%{p}") (paths.Mapped (codes "dir") (codes "p") (codes "x.json")) ∷ []) ≡ Ok (x_has ∷ [])
-unfolding go_on in_turn in_template in_mapped in_level pieces_from path_form cut_at trimmed_start trimmed_end digits serde_json_on_literals
+mapped_folder_there : in_levels files (codes "k") [] (one (codes "dir") (t (codes "d"))) []
+    (level_of (codes "a") (codes "%{p}") (paths.Mapped (codes "dir") (codes "p") (codes "x.json")) ∷ [])
+    ≡ Ok (x_has ∷ [])
+unfolding go_on in_turn in_template in_mapped in_level pieces_from path_form cut_at trimmed_start trimmed_end digits
+    serde_json_on_literals
 mapped_folder_there = refl
 
 -- ---- layers
@@ -139,9 +161,12 @@ config = codes "{\"version\":5,\"hierarchy\":[{\"name\":\"a\",\"path\":\"c.json\
 
 abbrev layers : List File
 layers =
-    (codes "data/c.json", codes "{\"k\":1,\"m::k\":2}") ∷ (codes "global/data/c.json", codes "{\"k\":3,\"g\":4}") ∷ (codes "global/hiera.yaml", config) ∷ (codes "hiera.yaml", config)
-    ∷ (codes "modules/m/data/c.json", codes "{\"m::k\":5,\"k\":6}") ∷ (codes "modules/m/data/d.json", codes "{\"m::k\":7,\"m::d\":8}")
-    ∷ (codes "modules/m/hiera.yaml", codes "{\"version\":5,\"hierarchy\":[{\"name\":\"a\",\"path\":\"c.json\"}],\"default_hierarchy\":[{\"name\":\"b\",\"path\":\"d.json\"}]}") ∷ []
+    (codes "data/c.json", codes "{\"k\":1,\"m::k\":2}") ∷ (codes "global/data/c.json", codes "{\"k\":3,\"g\":4}")
+        ∷ (codes "global/hiera.yaml", config) ∷ (codes "hiera.yaml", config)
+    ∷ (codes "modules/m/data/c.json", codes "{\"m::k\":5,\"k\":6}")
+        ∷ (codes "modules/m/data/d.json", codes "{\"m::k\":7,\"m::d\":8}")
+    ∷ (codes "modules/m/hiera.yaml", codes
+        "{\"version\":5,\"hierarchy\":[{\"name\":\"a\",\"path\":\"c.json\"}],\"default_hierarchy\":[{\"name\":\"b\",\"path\":\"d.json\"}]}") ∷ []
 
 abbrev of_key : List ℕ → Meant (List Source)
 of_key key = sources layers facts (module_of key) key
@@ -153,31 +178,42 @@ in_layers : (of_key (codes "k") ≡ Ok ((n 3, codes "global/data/c.json") ∷ (n
     × (of_key (codes "m::d") ≡ Ok ((n 8, codes "modules/m/data/d.json") ∷ []))
     × (of_key (codes "::m::d") ≡ Ok [])
     × (of_key (codes "other::k") ≡ Ok [])
-    × (sources layers facts (Some (codes "m")) (codes "k") ≡ Ok ((n 3, codes "global/data/c.json") ∷ (n 1, codes "data/c.json") ∷ (n 6, codes "modules/m/data/c.json") ∷ []))
-unfolding go_on in_turn in_template in_level in_layer in_module pieces_from path_form cut_at trimmed_start trimmed_end digits serde_json_on_literals
+    × (sources layers facts (Some (codes "m")) (codes "k")
+        ≡ Ok ((n 3, codes "global/data/c.json") ∷ (n 1, codes "data/c.json") ∷ (n 6, codes "modules/m/data/c.json")
+        ∷ []))
+unfolding go_on in_turn in_template in_level in_layer in_module pieces_from path_form cut_at trimmed_start trimmed_end
+    digits serde_json_on_literals
 in_layers = (refl, refl, refl, refl, refl, refl, refl)
 
 -- a faulty configuration is a fault of its file for each key that its layer may have, and the first layer's counts
-faulty_layers : (sources ((codes "global/hiera.yaml", codes "{}") ∷ (codes "hiera.yaml", codes "{") ∷ []) facts None (codes "k") ≡ Err (what.BadData (codes "global/hiera.yaml")))
-    × (sources ((codes "hiera.yaml", codes "{\"version\":5,\"default_hierarchy\":[]}") ∷ []) facts None (codes "k") ≡ Err (what.BadData (codes "hiera.yaml")))
-    × (sources ((codes "modules/m/hiera.yaml", codes "{}") ∷ []) facts (Some (codes "m")) (codes "m::k") ≡ Err (what.BadData (codes "modules/m/hiera.yaml")))
+faulty_layers : (sources ((codes "global/hiera.yaml", codes "{}") ∷ (codes "hiera.yaml", codes "{") ∷ []) facts None
+    (codes "k") ≡ Err (what.BadData (codes "global/hiera.yaml")))
+    × (sources ((codes "hiera.yaml", codes "{\"version\":5,\"default_hierarchy\":[]}") ∷ []) facts None (codes "k")
+        ≡ Err (what.BadData (codes "hiera.yaml")))
+    × (sources ((codes "modules/m/hiera.yaml", codes "{}") ∷ []) facts (Some (codes "m")) (codes "m::k")
+        ≡ Err (what.BadData (codes "modules/m/hiera.yaml")))
     × (sources ((codes "modules/m/hiera.yaml", codes "{}") ∷ []) facts None (codes "k") ≡ Ok [])
     × (sources [] facts (Some (codes "m")) (codes "m::k") ≡ Ok [])
-unfolding go_on in_turn in_template in_level in_layer in_module pieces_from path_form cut_at trimmed_start trimmed_end digits serde_json_on_literals
+unfolding go_on in_turn in_template in_level in_layer in_module pieces_from path_form cut_at trimmed_start trimmed_end
+    digits serde_json_on_literals
 faulty_layers = (refl, refl, refl, refl, refl)
 
 -- ---- the module of a key, and the files
 
 -- a segment of a name that begins in lower case or with `_`
-modules : (module_of (codes "a::b") ≡ Some (codes "a")) × (module_of (codes "_a1::b::c") ≡ Some (codes "_a1")) × (module_of (codes "a-b::c") ≡ Some (codes "a-b"))
+modules : (module_of (codes "a::b") ≡ Some (codes "a")) × (module_of (codes "_a1::b::c") ≡ Some (codes "_a1"))
+    × (module_of (codes "a-b::c") ≡ Some (codes "a-b"))
     × (module_of (codes "aB::c") ≡ Some (codes "aB"))
-    × (module_of (codes "a") ≡ None) × (module_of (codes "::a::b") ≡ None) × (module_of (codes "a/b::c") ≡ None) × (module_of (codes "A::b") ≡ None)
-    × (module_of (codes "1a::b") ≡ None) × (module_of (codes "a-::b") ≡ None) × (module_of (codes "a--b::c") ≡ None) × (module_of (codes "-a::b") ≡ None)
+    × (module_of (codes "a") ≡ None) × (module_of (codes "::a::b") ≡ None) × (module_of (codes "a/b::c") ≡ None)
+        × (module_of (codes "A::b") ≡ None)
+    × (module_of (codes "1a::b") ≡ None) × (module_of (codes "a-::b") ≡ None) × (module_of (codes "a--b::c") ≡ None)
+        × (module_of (codes "-a::b") ≡ None)
     × (module_of (codes "a.b::c") ≡ None) × (module_of (codes "a:b") ≡ None)
 unfolding cut_at
 modules = (refl, refl, refl, refl, refl, refl, refl, refl, refl, refl, refl, refl, refl, refl)
 
 -- by path in byte order, whatever the order of the pairs
-kept : put_in [] ((codes "b", codes "1") ∷ (codes "a", codes "2") ∷ []) ≡ (codes "a", codes "2") ∷ (codes "b", codes "1") ∷ []
+kept : put_in [] ((codes "b", codes "1") ∷ (codes "a", codes "2") ∷ [])
+    ≡ (codes "a", codes "2") ∷ (codes "b", codes "1") ∷ []
 unfolding put_in
 kept = refl

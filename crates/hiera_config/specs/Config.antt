@@ -118,7 +118,8 @@ abbrev pub default_names : Names
 default_names = codes "datadir" ∷ codes "data_hash" ∷ []
 
 abbrev pub folder_in : Data → Option (List ℕ)
-folder_in d = guard (has_only default_names (as_object d) && has_json_data d) (text_or (codes "data") (get (codes "datadir") d))
+folder_in d =
+    guard (has_only default_names (as_object d) && has_json_data d) (text_or (codes "data") (get (codes "datadir") d))
 
 -- the default folder of data
 abbrev pub default_folder : Option Data → Option (List ℕ)
@@ -143,7 +144,9 @@ config_from levels default_levels = record { levels = levels; default_levels = d
 
 abbrev pub config_with : Data → List ℕ → Option Config
 config_with d folder =
-    both config_from (levels_in folder (get (codes "hierarchy") d)) (levels_in folder (get (codes "default_hierarchy") d))
+    both config_from
+    (levels_in folder (get (codes "hierarchy") d))
+    (levels_in folder (get (codes "default_hierarchy") d))
 
 abbrev pub config_of : Bool → Data → Option Config
 config_of is_module d =

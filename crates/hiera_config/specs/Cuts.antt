@@ -13,7 +13,8 @@ longer b c = (b ∷ c.0, c.1)
 unfoldable pub cut_at : List ℕ → List ℕ → Option Cut
 cut_at mark [] = None
 cut_at mark (b ∷ bs) =
-    if starts_with nat_eq (b ∷ bs) mark then Some ([], drop (length mark) (b ∷ bs)) else option_map (longer b) (cut_at mark bs)
+    if starts_with nat_eq (b ∷ bs) mark then Some ([], drop (length mark) (b ∷ bs))
+    else option_map (longer b) (cut_at mark bs)
 
 -- what stands behind the mark that the text begins with
 abbrev pub after_prefix : List ℕ → List ℕ → Option (List ℕ)
@@ -50,8 +51,10 @@ or_text (Some t) other = Some t
 
 abbrev pub without_first_blank : List ℕ → Option (List ℕ)
 without_first_blank text =
-    or_text (after_prefix (32 ∷ []) text) (or_text (after_prefix (9 ∷ []) text) (or_text (after_prefix (13 ∷ []) text) (after_prefix (10 ∷ []) text)))
+    or_text (after_prefix (32 ∷ []) text)
+        (or_text (after_prefix (9 ∷ []) text) (or_text (after_prefix (13 ∷ []) text) (after_prefix (10 ∷ []) text)))
 
 abbrev pub without_last_blank : List ℕ → Option (List ℕ)
 without_last_blank text =
-    or_text (before_suffix (32 ∷ []) text) (or_text (before_suffix (9 ∷ []) text) (or_text (before_suffix (13 ∷ []) text) (before_suffix (10 ∷ []) text)))
+    or_text (before_suffix (32 ∷ []) text)
+        (or_text (before_suffix (9 ∷ []) text) (or_text (before_suffix (13 ∷ []) text) (before_suffix (10 ∷ []) text)))

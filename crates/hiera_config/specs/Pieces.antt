@@ -62,8 +62,8 @@ path_form text = if is_some (cut_at (codes "(") text) then unlawful else variabl
 abbrev pub broken_from : List ℕ → List Piece
 broken_from behind = piece.Broken (codes "%{" ++ behind) ∷ []
 
--- What comes of a form, and of the text behind it. `go` gives the pieces of a text. An alias that is not the whole text
--- is none.
+-- What comes of a form, and of the text behind it, whose pieces `go` gives. An alias that is not the whole text is
+-- none.
 abbrev pub form_pieces : (List ℕ → List Piece) → List ℕ → List ℕ → Form → List Piece
 form_pieces go behind rest (variable name) = piece.Reads name ∷ go rest
 form_pieces go behind rest (looked_up key) = piece.Asks key ∷ go rest

@@ -32,7 +32,8 @@ in_member found path (Some d) = value_or_fault found path (strict d)
 
 abbrev pub in_document : List ℕ → List Source → List ℕ → Option Data → Meant (List Source)
 in_document key found path None = Err (what.BadData path)
-in_document key found path (Some d) = if is_document d then in_member found path (get key d) else Err (what.BadData path)
+in_document key found path (Some d) =
+    if is_document d then in_member found path (get key d) else Err (what.BadData path)
 
 abbrev pub in_text : List ℕ → List Source → List ℕ → Option (List ℕ) → Meant (List Source)
 in_text key found path None = Ok found
@@ -51,14 +52,17 @@ joined_path folder inner template = folder ++ inner ++ codes "/" ++ template
 
 abbrev pub path_of : Variables → List ℕ → Level → List ℕ → Meant (List ℕ)
 path_of variables folder level template =
-    go_on (path_text variables level.folder) (λ inner. go_on (path_text variables template) (λ path. Ok (joined_path folder inner path)))
+    go_on (path_text variables level.folder)
+        (λ inner. go_on (path_text variables template) (λ path. Ok (joined_path folder inner path)))
 
-unfoldable pub in_template : List File → List ℕ → List ℕ → Level → Variables → List Source → List ℕ → Meant (List Source)
+unfoldable pub in_template : List File → List ℕ → List ℕ → Level → Variables → List Source → List ℕ
+    → Meant (List Source)
 in_template files key folder level variables found template =
     go_on (path_of variables folder level template) (in_file files key found)
 
 -- the name stands for each value in turn
-unfoldable pub in_mapped : List File → List ℕ → List ℕ → Level → Variables → List ℕ → List ℕ → List Source → Datum → Meant (List Source)
+unfoldable pub in_mapped : List File → List ℕ → List ℕ → Level → Variables → List ℕ → List ℕ → List Source → Datum
+    → Meant (List Source)
 in_mapped files key folder level variables name template found d =
     in_template files key folder level (hiding name d variables) found template
 
@@ -66,7 +70,8 @@ abbrev pub in_paths : List File → List ℕ → List ℕ → Variables → Leve
 in_paths files key folder variables level (paths.Templates ts) found =
     in_turn (in_template files key folder level variables) found ts
 in_paths files key folder variables level (paths.Mapped name_read name template) found =
-    in_turn (in_mapped files key folder level variables name template) found (mapped_values (variable variables name_read))
+    in_turn (in_mapped files key folder level variables name template) found
+        (mapped_values (variable variables name_read))
 
 unfoldable pub in_level : List File → List ℕ → List ℕ → Variables → List Source → Level → Meant (List Source)
 in_level files key folder variables found level = in_paths files key folder variables level level.paths found
@@ -114,7 +119,8 @@ or_default files key variables folder levels (s ∷ found) = Ok (s ∷ found)
 
 abbrev pub in_module_config : List File → List ℕ → Variables → List ℕ → List Source → Config → Meant (List Source)
 in_module_config files key variables folder found config =
-    go_on (in_levels files key folder variables found config.levels) (or_default files key variables folder config.default_levels)
+    go_on (in_levels files key folder variables found config.levels)
+        (or_default files key variables folder config.default_levels)
 
 unfoldable pub in_module : List File → List ℕ → Variables → Option (List ℕ) → List Source → Meant (List Source)
 in_module files key variables None found = Ok found

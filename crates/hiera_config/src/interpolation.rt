@@ -63,7 +63,8 @@ fn add_form(
     form: Form<'_>,
     behind: &str,
 ) -> Result<bool, Memory>
-    ensures added { OnOk result (pieces.new.items ≡ pieces.old.items ++ piece_in behind.now (form_view form.entry) ∷ []) }
+    ensures added { OnOk result
+        (pieces.new.items ≡ pieces.old.items ++ piece_in behind.now (form_view form.entry) ∷ []) }
     ensures goes_on { IfOk result (λ b. b ≡ goes_on (form_view form.entry)) }
 {
     match form {

@@ -56,7 +56,8 @@ fn write_piece(
     out: &mut String,
     piece: &Piece,
 ) -> Result<(), Refused>
-    ensures { MeetsBy (λ u. string_bytes out.new) result (path_piece (names_seen names.now) (string_bytes out.old) piece.now) }
+    ensures { MeetsBy (λ u. string_bytes out.new) result
+        (path_piece (names_seen names.now) (string_bytes out.old) piece.now) }
 {
     match piece {
         Piece::Letters(text) => Ok(out.push_str(text.as_str())?),

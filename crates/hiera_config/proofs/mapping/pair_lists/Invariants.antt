@@ -5,4 +5,5 @@ use Rattle.hiera_config.specs.Variables.{pair_list}
 use Rattle.hiera_config.proofs.mapping.pair_lists.Given as goal
 
 abbrev pub invariant-loop-key : goal.invariant-loop-key
-invariant-loop-key l = views l.values.items ++ map pair_list (pair_views (drop l.key-index l.pairs)) ≡ map pair_list (pair_views l.pairs)
+invariant-loop-key l =
+    views l.values.items ++ map pair_list (pair_views (drop l.key-index l.pairs)) ≡ map pair_list (pair_views l.pairs)

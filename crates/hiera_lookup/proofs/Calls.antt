@@ -27,8 +27,10 @@ unfolding go_on
 fault_of o w e = rw e refl
 
 -- the code's variables, keys and texts are those of the definition
-pub begun : (files : List File) (V V' : Variables) (busy : List (List ℕ)) (m : Option (List ℕ)) (k key : List ℕ) (merge : Option Merge) (r : Result Looked Refused)
-    → V ≡ V' → busy ≡ [] → m ≡ module_of k → k ≡ key → MeetsBy looked_view r (look (world_of files V) 200 busy m k merge)
+pub begun : (files : List File) (V V' : Variables) (busy : List (List ℕ)) (m : Option (List ℕ)) (k key : List ℕ)
+    (merge : Option Merge) (r : Result Looked Refused)
+    → V ≡ V' → busy ≡ [] → m ≡ module_of k → k ≡ key
+        → MeetsBy looked_view r (look (world_of files V) 200 busy m k merge)
     → MeetsBy looked_view r (look (world_of files V') 200 [] (module_of key) key merge)
 begun files V V' busy m k key merge r v b o e h =
     subst (λ x. MeetsBy looked_view r (look (world_of files V') 200 [] (module_of x) x merge)) e
@@ -36,12 +38,14 @@ begun files V V' busy m k key merge r v b o e h =
     (subst (λ x. MeetsBy looked_view r (look (world_of files V') 200 x m k merge)) b
     (subst (λ x. MeetsBy looked_view r (look (world_of files x) 200 busy m k merge)) v h)))
 
-pub ends_ok : (w : World) (key : List ℕ) (merge : Option Merge) (l : Looked) → MeetsBy looked_view (Ok l) (look w 200 [] (module_of key) key merge)
+pub ends_ok : (w : World) (key : List ℕ) (merge : Option Merge) (l : Looked)
+    → MeetsBy looked_view (Ok l) (look w 200 [] (module_of key) key merge)
     → looked_up w key merge ≡ Ok (option_map view l.value)
 ends_ok w key merge l h = value_of (look w 200 [] (module_of key) key merge) (looked_view l) (h.ok l refl)
 
 pub ends_err : (w : World) (key : List ℕ) (merge : Option Merge) (at : Place) (s : Refused) (t : Stop)
-    → MeetsBy looked_view (Err s) (look w 200 [] (module_of key) key merge) → Stops at s t → Finds at (Err t) (looked_up w key merge)
+    → MeetsBy looked_view (Err s) (look w 200 [] (module_of key) key merge) → Stops at s t
+        → Finds at (Err t) (looked_up w key merge)
 ends_err w key merge at (refused.Fault f) (stop.Fault g) h placed =
     (placed.0, fault_of (look w 200 [] (module_of key) key merge) f (h.fault f refl) ∙ ap Err placed.1)
 ends_err w key merge at refused.Memory (stop.Fault g) h placed = absurd placed

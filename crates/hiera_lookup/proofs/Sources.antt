@@ -13,11 +13,13 @@ use Rattle.hiera_lookup.specs.Found.{found_in, dug_or_refused}
 use Rattle.hiera_lookup.specs.Options.{has_options, highest_path}
 use Rattle.hiera_lookup.specs.World.{World}
 
-pub option_seen : (o : Option (Bor Value)) (p : Option Value) → option_copied o ≡ p → option_map (λ v. view v.now) o ≡ option_map view p
+pub option_seen : (o : Option (Bor Value)) (p : Option Value) → option_copied o ≡ p
+    → option_map (λ v. view v.now) o ≡ option_map view p
 option_seen None p e = ap (option_map view) e
 option_seen (Some v) p e = ap (option_map view) e
 
-pub found_none : (key : List ℕ) (merge : Merge) (xs : List Source) → length xs < 1 → found_in key merge (source_views xs) ≡ Ok None
+pub found_none : (key : List ℕ) (merge : Merge) (xs : List Source) → length xs < 1
+    → found_in key merge (source_views xs) ≡ Ok None
 unfolding found_in
 found_none key merge [] h = refl
 found_none key merge (x ∷ xs) h = absurd (omega (arith, h))
@@ -33,7 +35,8 @@ all_of (x ∷ xs) = ap (λ ys. x ∷ ys) (all_of xs)
 behind_first : (x : Source) (xs : List Source) → take (length (x ∷ xs) - 1) (drop 1 (x ∷ xs)) ≡ xs
 behind_first x xs = let is : length (x ∷ xs) - 1 ≡ length xs = omega arith in rw is (all_of xs)
 
-pub found_more : (key : List ℕ) (merge : Merge) (xs : List Source) (high : Source) → 1 ≤ length xs → high ≡ get_or xs 0 high
+pub found_more : (key : List ℕ) (merge : Merge) (xs : List Source) (high : Source) → 1 ≤ length xs
+    → high ≡ get_or xs 0 high
     → found_in key merge (source_views xs)
     ≡ dug_or_refused key (merged merge (view high.value) (map (λ s. view s.value) (take (length xs - 1) (drop 1 xs))))
 unfolding found_in
@@ -41,24 +44,34 @@ found_more key merge [] high h at = absurd (omega (arith, h))
 found_more key merge (x ∷ xs) high h at =
     ap (λ ys. dug_or_refused key (merged merge (view x.value) ys))
     (values_of xs ∙ ap (map (λ (s : Source). view s.value)) (sym (behind_first x xs)))
-    ∙ ap (λ (y : Source). dug_or_refused key (merged merge (view y.value) (map (λ s. view s.value) (take (length (x ∷ xs) - 1) (drop 1 (x ∷ xs)))))) (sym at)
+    ∙ ap (λ (y : Source). dug_or_refused key
+        (merged merge (view y.value) (map (λ s. view s.value) (take (length (x ∷ xs) - 1) (drop 1 (x ∷ xs))))))
+        (sym at)
 
 -- ---- the file of options that are none
 
-pub path_here : (w : World) (answers : List Answer) (root : List ℕ) (xs : List Source) (i : ℕ) (x : Source) → i < length xs → x ≡ get_or xs i x
-    → has_options w answers root (view x.value) ≡ true → highest_path w answers root (source_views (drop i xs)) ≡ x.path
+pub path_here : (w : World) (answers : List Answer) (root : List ℕ) (xs : List Source) (i : ℕ) (x : Source)
+    → i < length xs → x ≡ get_or xs i x
+    → has_options w answers root (view x.value) ≡ true
+        → highest_path w answers root (source_views (drop i xs)) ≡ x.path
 path_here w answers root [] i x h at e = absurd (omega (arith, h))
 path_here w answers root (y ∷ xs) zero x h at e =
-    let there : has_options w answers root (view y.value) ≡ true = ap (λ (z : Source). has_options w answers root (view z.value)) (sym at) ∙ e in
+    let there : has_options w answers root (view y.value) ≡ true =
+    ap (λ (z : Source). has_options w answers root (view z.value)) (sym at) ∙ e in
     rw there (ap (λ (z : Source). z.path) (sym at))
-path_here w answers root (y ∷ xs) (suc i) x h at e = let h' : i < length xs = omega (arith, h) in path_here w answers root xs i x h' at e
+path_here w answers root (y ∷ xs) (suc i) x h at e =
+    let h' : i < length xs = omega (arith, h) in
+    path_here w answers root xs i x h' at e
 
-pub path_later : (w : World) (answers : List Answer) (root : List ℕ) (xs : List Source) (i : ℕ) (x : Source) → i < length xs → x ≡ get_or xs i x
+pub path_later : (w : World) (answers : List Answer) (root : List ℕ) (xs : List Source) (i : ℕ) (x : Source)
+    → i < length xs → x ≡ get_or xs i x
     → has_options w answers root (view x.value) ≡ false
-    → highest_path w answers root (source_views (drop i xs)) ≡ highest_path w answers root (source_views (drop (i + 1) xs))
+    → highest_path w answers root (source_views (drop i xs))
+        ≡ highest_path w answers root (source_views (drop (i + 1) xs))
 path_later w answers root [] i x h at e = absurd (omega (arith, h))
 path_later w answers root (y ∷ xs) zero x h at e =
-    let there : has_options w answers root (view y.value) ≡ false = ap (λ (z : Source). has_options w answers root (view z.value)) (sym at) ∙ e in
+    let there : has_options w answers root (view y.value) ≡ false =
+    ap (λ (z : Source). has_options w answers root (view z.value)) (sym at) ∙ e in
     rw there refl
 path_later w answers root (y ∷ xs) (suc i) x h at e =
     let h' : i < length xs = omega (arith, h) in

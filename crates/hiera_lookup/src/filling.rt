@@ -110,7 +110,8 @@ fn fill_pieces(
     answers: &Answers,
     text: &str,
 ) -> Result<Text, Memory>
-    ensures { IfOk result (λ t. t ≡ flat_map (piece_text ((seen world.now).reads) (answer_to answers.now)) (pieces text.now)) }
+    ensures { IfOk result (λ t. t
+        ≡ flat_map (piece_text ((seen world.now).reads) (answer_to answers.now)) (pieces text.now)) }
 {
     let pieces = pieces(alloc, text)?;
     let mut out = String::new(alloc);
@@ -157,7 +158,8 @@ fn write_piece(
 
 /// Appends the text of the value, where there is one.
 fn write_said(out: &mut String, value: Option<&Value>) -> Result<(), Memory>
-    ensures { OnOk result (string_bytes out.new ≡ string_bytes out.old ++ said (option_map (λ w. view w.now) value.entry)) }
+    ensures { OnOk result (string_bytes out.new
+        ≡ string_bytes out.old ++ said (option_map (λ w. view w.now) value.entry)) }
 {
     match value {
         Some(value) => write_value(out, value),

@@ -5,13 +5,17 @@ use hiera_merge::Merge;
 use std::alloc::Global;
 use std::test::Fail;
 
-const THREE: &str = "{\"version\":5,\"hierarchy\":[{\"name\":\"all\",\"paths\":[\"a.json\",\"b.json\",\"c.json\"]}]}";
+const THREE: &str =
+    "{\"version\":5,\"hierarchy\":[{\"name\":\"all\",\"paths\":[\"a.json\",\"b.json\",\"c.json\"]}]}";
 
 /// Three sources with hashes.
 const HASHES: Files = &[
     ("hiera.yaml", THREE),
     ("data/a.json", "{\"k\":{\"a\":1,\"b\":[1,2]}}"),
-    ("data/b.json", "{\"k\":{\"a\":2,\"b\":[2,3],\"c\":{\"x\":1}}}"),
+    (
+        "data/b.json",
+        "{\"k\":{\"a\":2,\"b\":[2,3],\"c\":{\"x\":1}}}",
+    ),
     ("data/c.json", "{\"k\":{\"c\":{\"y\":2},\"d\":5}}"),
 ];
 
@@ -31,7 +35,10 @@ const MERGED: [(Merge, &str); 4] = [
 #[test]
 fn merges(rt: HostRuntime) -> Result<(), Fail> {
     for (merge, want) in MERGED.iter() {
-        assert!(rt; looks(rt.alloc(), HASHES, "k", Some(*merge), want)?, "{want}");
+        assert!(rt;
+            looks(rt.alloc(), HASHES, "k", Some(*merge), want)?,
+            "{want}"
+        );
     }
     Ok(())
 }
@@ -54,7 +61,10 @@ const UNITED: [(Merge, &str); 4] = [
 #[test]
 fn unions(rt: HostRuntime) -> Result<(), Fail> {
     for (merge, want) in UNITED.iter() {
-        assert!(rt; looks(rt.alloc(), LISTS, "k", Some(*merge), want)?, "{want}");
+        assert!(rt;
+            looks(rt.alloc(), LISTS, "k", Some(*merge), want)?,
+            "{want}"
+        );
     }
     Ok(())
 }

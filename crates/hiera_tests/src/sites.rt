@@ -20,11 +20,7 @@ pub fn data_of(alloc: Global, files: Files) -> Result<SiteData, Memory> {
 }
 
 fn value_of(alloc: Global, json: &str) -> Result<Value, Fail> {
-    Ok(from_data(
-        alloc,
-        &Json::from_str(alloc, json)?,
-        Numbers::Strict,
-    )?)
+    Ok(from_data(alloc, &Json::from_str(alloc, json)?, Numbers::Strict)?)
 }
 
 /// Top scope with one variable.
@@ -33,13 +29,7 @@ pub fn scopes_with(alloc: Global, name: &str, json: &str) -> Result<Scopes, Fail
     let name = Text::from_str(alloc, name)?;
     let file = Text::from_str(alloc, "")?;
     let mut scopes = Scopes::new(alloc)?;
-    match scopes.assign(
-        alloc,
-        ScopeId::TOP,
-        &name,
-        value,
-        &Place { file, line: 1 },
-    ) {
+    match scopes.assign(alloc, ScopeId::TOP, &name, value, &Place { file, line: 1 }) {
         Ok(()) => Ok(scopes),
         Err(_) => Err(Fail::from(Memory)),
     }

@@ -31,7 +31,13 @@ fn told(alloc: Global, answer: Result<Vec<Source>, Refused>) -> Result<String, F
     Ok(out)
 }
 
-fn are_sources(alloc: Global, files: Files, facts: &str, key: &str, want: &str) -> Result<bool, Fail> {
+fn are_sources(
+    alloc: Global,
+    files: Files,
+    facts: &str,
+    key: &str,
+    want: &str,
+) -> Result<bool, Fail> {
     let data = data_of(alloc, files)?;
     let scopes = scopes_with(alloc, "facts", facts)?;
     let variables = Variables::in_scope(&scopes, ScopeId::TOP);
@@ -39,23 +45,33 @@ fn are_sources(alloc: Global, files: Files, facts: &str, key: &str, want: &str) 
     Ok(told(alloc, answer)?.as_str() == want)
 }
 
-const NODES: &str = "{\"version\":5,\"hierarchy\":[{\"name\":\"nodes\",\"path\":\"nodes/%{facts.name}.json\"},{\"name\":\"common\",\"path\":\"common.json\"}]}";
+const NODES: &str =
+    "{\"version\":5,\"hierarchy\":[{\"name\":\"nodes\",\"path\":\"nodes/%{facts.name}.json\"},{\"name\":\"common\",\"path\":\"common.json\"}]}";
 
 const LAYERS: Files = &[
     ("hiera.yaml", NODES),
     ("data/nodes/web1.json", "{\"k\":1,\"m::k\":2}"),
     ("data/common.json", "{\"k\":[3],\"bad\":{\"x\":[0.5]}}"),
-    ("global/hiera.yaml", "{\"version\":5,\"defaults\":{\"datadir\":\"d\"},\"hierarchy\":[{\"name\":\"g\",\"paths\":[\"b.json\",\"a.json\"]}]}"),
+    (
+        "global/hiera.yaml",
+        "{\"version\":5,\"defaults\":{\"datadir\":\"d\"},\"hierarchy\":[{\"name\":\"g\",\"paths\":[\"b.json\",\"a.json\"]}]}",
+    ),
     ("global/d/a.json", "{\"k\":4}"),
     ("global/d/b.json", "{\"k\":5,\"only\":null}"),
-    ("modules/m/hiera.yaml", "{\"version\":5,\"hierarchy\":[{\"name\":\"m\",\"path\":\"m.json\"}],\"default_hierarchy\":[{\"name\":\"d\",\"path\":\"default.json\"}]}"),
+    (
+        "modules/m/hiera.yaml",
+        "{\"version\":5,\"hierarchy\":[{\"name\":\"m\",\"path\":\"m.json\"}],\"default_hierarchy\":[{\"name\":\"d\",\"path\":\"default.json\"}]}",
+    ),
     ("modules/m/data/m.json", "{\"k\":6,\"m::k\":7}"),
     ("modules/m/data/default.json", "{\"m::k\":8,\"m::d\":9}"),
     ("modules/faulty/hiera.yaml", "{}"),
 ];
 
 const SOURCES: [(&str, &str); 9] = [
-    ("k", "global/d/b.json 5;global/d/a.json 4;data/nodes/web1.json 1;data/common.json [3];"),
+    (
+        "k",
+        "global/d/b.json 5;global/d/a.json 4;data/nodes/web1.json 1;data/common.json [3];",
+    ),
     ("only", "global/d/b.json null;"),
     ("bad", "F23 data/common.json"),
     ("none", ""),
@@ -70,26 +86,61 @@ const SOURCES: [(&str, &str); 9] = [
 #[test]
 fn layers(rt: HostRuntime) -> Result<(), Fail> {
     for (key, want) in SOURCES.iter() {
-        assert!(rt; are_sources(rt.alloc(), LAYERS, "{\"name\":\"web1\"}", key, want)?, "{key}");
+        assert!(rt;
+            are_sources(rt.alloc(), LAYERS, "{\"name\":\"web1\"}", key, want)?,
+            "{key}"
+        );
     }
     Ok(())
 }
 
 /// The paths of one level, the facts, and the sources of `k`.
 const PATHS: [(&str, &str, &str); 14] = [
-    ("\"path\":\"%{facts.a}.json\"", "{\"a\":\"x\"}", "data/x.json 1;"),
-    ("\"path\":\"%{ ::facts.a }.json\"", "{\"a\":\"x\"}", "data/x.json 1;"),
-    ("\"path\":\"%{facts.l.1}.json\"", "{\"l\":[\"y\",\"x\"]}", "data/x.json 1;"),
-    ("\"path\":\"x%{facts.none}.json%{none}\"", "{}", "data/x.json 1;"),
+    (
+        "\"path\":\"%{facts.a}.json\"",
+        "{\"a\":\"x\"}",
+        "data/x.json 1;",
+    ),
+    (
+        "\"path\":\"%{ ::facts.a }.json\"",
+        "{\"a\":\"x\"}",
+        "data/x.json 1;",
+    ),
+    (
+        "\"path\":\"%{facts.l.1}.json\"",
+        "{\"l\":[\"y\",\"x\"]}",
+        "data/x.json 1;",
+    ),
+    (
+        "\"path\":\"x%{facts.none}.json%{none}\"",
+        "{}",
+        "data/x.json 1;",
+    ),
     ("\"path\":\"%{facts.a}.json\"", "{\"a\":\"../data/x\"}", ""),
     ("\"path\":\"%{facts.a}\"", "{\"a\":\"%{facts.a}\"}", ""),
-    ("\"path\":\"%{scope('facts.a')}.json\"", "{}", "F24 %{scope('facts.a')}.json"),
+    (
+        "\"path\":\"%{scope('facts.a')}.json\"",
+        "{}",
+        "F24 %{scope('facts.a')}.json",
+    ),
     ("\"path\":\"x.json%{\"", "{}", "F24 %{"),
     ("\"path\":\"x.json\",\"datadir\":\"%{f(\"", "{}", "F24 %{f("),
     ("\"paths\":[]", "{}", ""),
-    ("\"paths\":[\"y.json\",\"x.json\"]", "{}", "data/y.json 2;data/x.json 1;"),
-    ("\"mapped_paths\":[\"facts.l\",\"n\",\"%{n}.json\"]", "{\"l\":[\"x\",\"z\",\"y\"]}", "data/x.json 1;data/y.json 2;"),
-    ("\"mapped_paths\":[\"facts.h\",\"n\",\"%{n.1}.json\"]", "{\"h\":{\"a\":\"y\"}}", "data/y.json 2;"),
+    (
+        "\"paths\":[\"y.json\",\"x.json\"]",
+        "{}",
+        "data/y.json 2;data/x.json 1;",
+    ),
+    (
+        "\"mapped_paths\":[\"facts.l\",\"n\",\"%{n}.json\"]",
+        "{\"l\":[\"x\",\"z\",\"y\"]}",
+        "data/x.json 1;data/y.json 2;",
+    ),
+    (
+        "\"mapped_paths\":[\"facts.h\",\"n\",\"%{n.1}.json\"]",
+        "{\"h\":{\"a\":\"y\"}}",
+        "data/y.json 2;",
+    ),
     ("\"mapped_paths\":[\"facts.none\",\"n\",\"%{f(\"]", "{}", ""),
 ];
 
@@ -101,7 +152,11 @@ fn files_with(alloc: Global, level: &str) -> Result<SiteData, Fail> {
         alloc,
         &[("data/x.json", "{\"k\":1}"), ("data/y.json", "{\"k\":2}")],
     )?;
-    data.read(alloc, Text::from_str(alloc, "hiera.yaml")?, Text::new(config))?;
+    data.read(
+        alloc,
+        Text::from_str(alloc, "hiera.yaml")?,
+        Text::new(config),
+    )?;
     Ok(data)
 }
 

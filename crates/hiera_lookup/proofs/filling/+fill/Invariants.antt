@@ -1,4 +1,5 @@
--- The measure: the size of the value. The loops: what is there are the members so far, and for pairs what is there with the rest.
+-- The measure: the size of the value. The loops: what is there are the members so far, and for pairs what is there
+-- with the rest.
 use Rattle.std.proofs.Common.{◌≡◌, [], drop, map, take}
 use Rattle.pp_values.specs.Datum.{entries_of}
 use Rattle.pp_values.specs.Sizes.{datum_size, data_size, pairs_size}
@@ -18,9 +19,11 @@ decreases-fill_pairs l = pairs_size (pair_views l.pairs.now)
 
 abbrev pub invariant-fill_list-loop-item : goal.invariant-fill_list-loop-item
 invariant-fill_list-loop-item l =
-    views l.filled.items ≡ map (filled ((seen l.world).reads) (answer_to l.answers)) (views (take l.item-index l.items))
+    views l.filled.items ≡ map (filled ((seen l.world).reads) (answer_to l.answers))
+        (views (take l.item-index l.items))
 
 abbrev pub invariant-fill_pairs-loop-key : goal.invariant-fill_pairs-loop-key
 invariant-fill_pairs-loop-key l =
-    pairs_filled ((seen l.world).reads) (answer_to l.answers) (entries_of (pair_views (drop l.key-index l.pairs))) l.filled
+    pairs_filled ((seen l.world).reads) (answer_to l.answers)
+        (entries_of (pair_views (drop l.key-index l.pairs))) l.filled
     ≡ pairs_filled ((seen l.world).reads) (answer_to l.answers) (entries_of (pair_views l.pairs)) []

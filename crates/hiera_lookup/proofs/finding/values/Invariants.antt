@@ -5,4 +5,6 @@ use Rattle.pp_values.specs.Views.{view}
 use Rattle.hiera_lookup.proofs.finding.values.Given as goal
 
 abbrev pub invariant-loop-source : goal.invariant-loop-source
-invariant-loop-source l = behind l.values.items ++ map (λ s. view s.value) (drop l.source-index l.sources) ≡ map (λ s. view s.value) l.sources
+invariant-loop-source l =
+    behind l.values.items ++ map (λ s. view s.value) (drop l.source-index l.sources)
+    ≡ map (λ s. view s.value) l.sources

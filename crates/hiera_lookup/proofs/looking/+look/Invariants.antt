@@ -1,4 +1,5 @@
--- The measure: how many look-ups may still begin, and where one stands within one. The loop: what is done, with the rest.
+-- The measure: how many look-ups may still begin, and where one stands within one. The loop: what is done, with the
+-- rest.
 use Rattle.std.proofs.Common.{◌≡◌, ◌+◌, ◌*◌, [], drop}
 use Rattle.hiera_lookup.specs.Look.{answers, look}
 use Rattle.hiera_lookup.specs.World.{seen}
@@ -30,4 +31,5 @@ decreases-answer l = 8 * l.left + 1
 
 abbrev pub invariant-answers-loop-ask : goal.invariant-answers-loop-ask
 invariant-answers-loop-ask l =
-    answers (look (seen l.world) l.left) l.busy l.done (drop l.ask-index l.asked) ≡ answers (look (seen l.world) l.left) l.busy [] l.asked
+    answers (look (seen l.world) l.left) l.busy l.done (drop l.ask-index l.asked)
+        ≡ answers (look (seen l.world) l.left) l.busy [] l.asked

@@ -16,4 +16,6 @@ returns c =
     after_ok _ c.in_ok-sources.ensures
     (refuses _ _ c.bad_data.ensures
     (ap (λ p. Err (what.BadData p))
-    (sym (c.in_ok-path.ensures ∙ ap (λ xs. highest_path (seen c.args.world.now) c.args.answers.now c.args.root.now (source_views xs)) c.deref.ensures.value))))
+    (sym (c.in_ok-path.ensures ∙ ap
+        (λ xs. highest_path (seen c.args.world.now) c.args.answers.now c.args.root.now (source_views xs))
+        c.deref.ensures.value))))

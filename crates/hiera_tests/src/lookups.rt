@@ -28,7 +28,8 @@ fn told(alloc: Global, answer: Result<Option<Value>, Stop>) -> Result<String, Fa
     }
 }
 
-fn answer(
+/// The line of what a look-up answers: the form of its value, `none`, or its fault.
+pub fn answer(
     alloc: Global,
     data: &SiteData,
     scopes: &Scopes,

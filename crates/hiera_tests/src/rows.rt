@@ -1,6 +1,6 @@
 //! Look-ups whose answers were worked out by hand: merges of three sources, numbers, loops, and what is missing.
-use crate::lookups::{ONE, looks};
-use crate::sites::Files;
+use crate::lookups::{ONE, answer, looks};
+use crate::sites::{Files, data_of, scopes_with};
 use hiera_merge::Merge;
 use std::alloc::Global;
 use std::test::Fail;
@@ -123,6 +123,47 @@ fn is_refused(alloc: Global, files: Files) -> Result<bool, Fail> {
 fn first_looks_below(rt: HostRuntime) -> Result<(), Fail> {
     for files in BELOW.iter() {
         assert!(rt; is_refused(rt.alloc(), files)?, "below");
+    }
+    Ok(())
+}
+
+/// The data of a class, for all nodes and for one of them.
+const NTP: Files = &[
+    (
+        "hiera.yaml",
+        "{\"version\":5,\"hierarchy\":[{\"name\":\"nodes\",\"path\":\"nodes/%{trusted.certname}.json\"},\
+         {\"name\":\"common\",\"path\":\"common.json\"}]}",
+    ),
+    (
+        "data/common.json",
+        "{\"ntp::servers\":[\"0.pool\",\"1.pool\"]}",
+    ),
+    ("data/nodes/web1.json", "{\"ntp::servers\":[\"10.0.0.9\"]}"),
+];
+
+const SERVERS: [(&str, Option<Merge>, &str); 3] = [
+    ("web1", None, "[\"10.0.0.9\"]"),
+    ("web2", None, "[\"0.pool\",\"1.pool\"]"),
+    (
+        "web1",
+        Some(Merge::Unique),
+        "[\"10.0.0.9\",\"0.pool\",\"1.pool\"]",
+    ),
+];
+
+fn serves(alloc: Global, node: &str, merge: Option<Merge>, want: &str) -> Result<bool, Fail> {
+    let mut trusted = String::from_str(alloc, "{\"certname\":\"")?;
+    trusted.push_str(node)?;
+    trusted.push_str("\"}")?;
+    let data = data_of(alloc, NTP)?;
+    let scopes = scopes_with(alloc, "trusted", trusted.as_str())?;
+    Ok(answer(alloc, &data, &scopes, "ntp::servers", merge)?.as_str() == want)
+}
+
+#[test]
+fn nodes(rt: HostRuntime) -> Result<(), Fail> {
+    for (node, merge, want) in SERVERS.iter() {
+        assert!(rt; serves(rt.alloc(), node, *merge, want)?, "{node}");
     }
     Ok(())
 }

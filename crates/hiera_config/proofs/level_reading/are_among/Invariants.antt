@@ -1,0 +1,9 @@
+use Rattle.std.proofs.Common.{◌≡◌, map}
+use Rattle.serde_json.specs.View.{members_view}
+use Rattle.hiera_config.specs.Config.{are_among}
+use Rattle.hiera_config.proofs.level_reading.are_among.Given as goal
+
+abbrev pub invariant-loop-name : goal.invariant-loop-name
+invariant-loop-name l =
+    are_among (map (λ n. n.now) l.names) (members_view l.members.entries)
+        ≡ are_among (map (λ n. n.now) l.names) (members_view l.name-iterator)

@@ -1,0 +1,12 @@
+pub mod Meant
+pub mod Cuts
+pub mod Pieces
+pub mod Config
+pub mod Variables
+pub mod Documents
+pub mod Sources
+pub mod FormView
+pub mod Written
+pub mod Seen
+pub mod Keeping
+pub mod Found

@@ -1,0 +1,26 @@
+//! The data of a site: its files, the configurations of its layers, and the sources that they give for a key.
+#![tactic(auto)]
+
+pub mod config;
+pub mod config_reading;
+mod cutting;
+mod forms;
+pub mod interpolation;
+mod level_reading;
+mod mapping;
+pub mod modules;
+mod names;
+mod paths;
+pub mod refused;
+pub mod searching;
+pub mod site_data;
+pub mod variables;
+
+pub use config::{Config, Layer, Level, LevelPaths, Levels};
+pub use config_reading::read_config;
+pub use interpolation::{Piece, pieces, whole_alias};
+pub use modules::module_of;
+pub use refused::{Refused, bad_data, bad_interpolation};
+pub use searching::{Source, sources};
+pub use site_data::{SiteData, data_from};
+pub use variables::Variables;

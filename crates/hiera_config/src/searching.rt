@@ -1,0 +1,418 @@
+//! The sources of a key.
+ghost use Rattle.std.specs.Prelude.{◌≡◌, Some, IfOk, option_map};
+ghost use Rattle.pp_values.specs.Views.{view, views};
+ghost use Rattle.serde_json.specs.View.{view as json_view};
+ghost use Rattle.hiera_config.specs.Documents.{strict};
+ghost use Rattle.hiera_config.specs.Found.{source_views, shown_config, mapped_from, in_mapped_by};
+ghost use Rattle.hiera_config.specs.Meant.{MeetsBy, in_turn};
+ghost use Rattle.hiera_config.specs.Seen.{seen, names_seen};
+ghost use Rattle.hiera_config.specs.Sources as spec;
+ghost use Rattle.hiera_config.specs.Variables.{variable as variable_of, mapped_values};
+
+use crate::config::{Config, Level, LevelPaths};
+use crate::mapping::mapped_values;
+use crate::names::Names;
+use crate::paths::path_of;
+use crate::refused::{Refused, bad_data};
+use crate::site_data::SiteData;
+use crate::variables::Variables;
+use json_values::{DataStop, Numbers, from_data};
+use pp_values::{Memory, Text, Value};
+use serde_json::Value as Json;
+use std::alloc::Global;
+
+/// A value of a key, and the path of the document that has it.
+pub struct Source {
+    pub value: Value,
+    pub path: Text,
+}
+
+// By hand, so that callers drop a source by one call.
+impl Drop for Source {
+    fn drop(self) {
+        let Source {
+            value: _value,
+            path: _path,
+        } = self;
+    }
+}
+
+/// What is looked for: a key, in the files of a configuration's folder.
+#[derive(Clone, Copy)]
+struct Search<'a> {
+    files: &'a SiteData,
+    folder: &'a str,
+    key: &'a str,
+}
+
+/// A path for each value that a name stands for.
+#[derive(Clone, Copy)]
+struct MappedPath<'a> {
+    level: &'a Level,
+    name: &'a Text,
+    template: &'a Text,
+}
+
+/// The sources of a key, the highest first: of the global layer, of the environment, and of this module, if there is
+/// one.
+pub fn sources(
+    alloc: Global,
+    files: &SiteData,
+    variables: &Variables<'_>,
+    module_name: Option<&str>,
+    key: &str,
+) -> Result<Vec<Source>, Refused>
+    ensures { MeetsBy (λ v. source_views v.items) result
+        (spec.sources files.now (seen variables.now) (option_map (λ m. m.now) module_name.entry) key.now) }
+{
+    let mut found = Vec::new(alloc);
+    add_from_layer(alloc, files, variables, "global/", key, &mut found)?;
+    add_from_layer(alloc, files, variables, "", key, &mut found)?;
+    add_from_module_if(alloc, files, variables, module_name, key, &mut found)?;
+    Ok(found)
+}
+
+#[tactic(auto, unfolding(crate::specs::Sources::in_layer))]
+fn add_from_layer(
+    alloc: Global,
+    files: &SiteData,
+    variables: &Variables<'_>,
+    folder: &str,
+    key: &str,
+    found: &mut Vec<Source>,
+) -> Result<(), Refused>
+    ensures { MeetsBy (λ u. source_views found.new.items) result
+        (spec.in_layer files.now key.now (seen variables.now) folder.now (source_views found.old.items)) }
+{
+    let config = config_in(alloc, files, folder)?;
+    let search = Search { files, folder, key };
+    add_from_levels(alloc, &search, variables, levels_of(config), found)
+}
+
+#[tactic(auto, unfolding(crate::specs::Sources::in_module))]
+fn add_from_module_if(
+    alloc: Global,
+    files: &SiteData,
+    variables: &Variables<'_>,
+    name: Option<&str>,
+    key: &str,
+    found: &mut Vec<Source>,
+) -> Result<(), Refused>
+    ensures { MeetsBy (λ u. source_views found.new.items) result
+        (spec.in_module files.now key.now (seen variables.now) (option_map (λ n. n.now) name.entry)
+        (source_views found.old.items)) }
+{
+    match name {
+        Some(name) => add_from_module(alloc, files, variables, name, key, found),
+        None => Ok(()),
+    }
+}
+
+fn add_from_module(
+    alloc: Global,
+    files: &SiteData,
+    variables: &Variables<'_>,
+    name: &str,
+    key: &str,
+    found: &mut Vec<Source>,
+) -> Result<(), Refused>
+    ensures { MeetsBy (λ u. source_views found.new.items) result
+        (spec.in_module files.now key.now (seen variables.now) (Some name.now) (source_views found.old.items)) }
+{
+    let path = module_folder(alloc, name)?;
+    let folder = path.as_str();
+    let config = config_in(alloc, files, folder)?;
+    let search = Search { files, folder, key };
+    add_from_config(alloc, &search, variables, config, found)
+}
+
+fn levels_of<'a>(config: Option<&'a Config>) -> &'a [Level]
+    ensures { result.now ≡ (shown_config config.entry).levels }
+{
+    match config {
+        Some(config) => config.levels.as_slice(),
+        None => &[],
+    }
+}
+
+fn default_levels_of<'a>(config: Option<&'a Config>) -> &'a [Level]
+    ensures { result.now ≡ (shown_config config.entry).default_levels }
+{
+    match config {
+        Some(config) => config.default_levels.as_slice(),
+        None => &[],
+    }
+}
+
+fn module_folder(alloc: Global, name: &str) -> Result<Text, Memory>
+    ensures { IfOk result (λ t. t ≡ spec.module_folder name.now) }
+{
+    let mut folder = String::from_str(alloc, "modules/")?;
+    folder.push_str(name)?;
+    folder.push_str("/")?;
+    Ok(Text::new(folder))
+}
+
+/// The configuration of a folder, if there is one.
+fn config_in<'a>(
+    alloc: Global,
+    files: &'a SiteData,
+    folder: &str,
+) -> Result<Option<&'a Config>, Refused>
+    ensures { MeetsBy shown_config result
+        (spec.config_in files.now folder.now) }
+{
+    let path = config_path(alloc, folder)?;
+    match files.get(&path) {
+        Some(file) => match &file.config {
+            Some(config) => Ok(Some(config)),
+            None => Err(bad_data(alloc, path.as_str())),
+        },
+        None => Ok(None),
+    }
+}
+
+fn config_path(alloc: Global, folder: &str) -> Result<Text, Memory>
+    ensures { IfOk result (λ t. t ≡ spec.config_path folder.now) }
+{
+    let mut path = String::from_str(alloc, folder)?;
+    path.push_str("hiera.yaml")?;
+    Ok(Text::new(path))
+}
+
+/// The default levels of a module count where no source has the key.
+fn add_from_config(
+    alloc: Global,
+    search: &Search<'_>,
+    variables: &Variables<'_>,
+    config: Option<&Config>,
+    found: &mut Vec<Source>,
+) -> Result<(), Refused>
+    ensures { MeetsBy (λ u. source_views found.new.items) result
+        (spec.in_module_config search.now.files.now search.now.key.now (seen variables.now) search.now.folder.now
+        (source_views found.old.items) (shown_config config.entry)) }
+{
+    add_from_levels(alloc, search, variables, levels_of(config), found)?;
+    add_default(alloc, search, variables, default_levels_of(config), found)
+}
+
+fn add_default(
+    alloc: Global,
+    search: &Search<'_>,
+    variables: &Variables<'_>,
+    levels: &[Level],
+    found: &mut Vec<Source>,
+) -> Result<(), Refused>
+    ensures { MeetsBy (λ u. source_views found.new.items) result
+        (spec.or_default search.now.files.now search.now.key.now (seen variables.now) search.now.folder.now levels.now
+        (source_views found.old.items)) }
+{
+    if found.is_empty() {
+        add_from_levels(alloc, search, variables, levels, found)
+    } else {
+        Ok(())
+    }
+}
+
+fn add_from_levels(
+    alloc: Global,
+    search: &Search<'_>,
+    variables: &Variables<'_>,
+    levels: &[Level],
+    found: &mut Vec<Source>,
+) -> Result<(), Refused>
+    ensures { MeetsBy (λ u. source_views found.new.items) result
+        (spec.in_levels search.now.files.now search.now.key.now search.now.folder.now (seen variables.now)
+        (source_views found.old.items) levels.now) }
+{
+    for level in levels {
+        add_from_level(alloc, search, variables, level, found)?;
+    }
+    Ok(())
+}
+
+#[tactic(auto, unfolding(crate::specs::Sources::in_level))]
+fn add_from_level(
+    alloc: Global,
+    search: &Search<'_>,
+    variables: &Variables<'_>,
+    level: &Level,
+    found: &mut Vec<Source>,
+) -> Result<(), Refused>
+    ensures { MeetsBy (λ u. source_views found.new.items) result
+        (spec.in_level search.now.files.now search.now.key.now search.now.folder.now (seen variables.now)
+        (source_views found.old.items) level.now) }
+{
+    match &level.paths {
+        LevelPaths::Templates(templates) => {
+            add_from_templates(alloc, search, variables, level, templates.as_slice(), found)
+        }
+        LevelPaths::Mapped {
+            variable,
+            name,
+            template,
+        } => {
+            let mapped = MappedPath {
+                level,
+                name,
+                template,
+            };
+            add_from_mapped(alloc, search, variables, &mapped, variable.as_str(), found)
+        }
+    }
+}
+
+fn add_from_templates(
+    alloc: Global,
+    search: &Search<'_>,
+    variables: &Variables<'_>,
+    level: &Level,
+    templates: &[Text],
+    found: &mut Vec<Source>,
+) -> Result<(), Refused>
+    ensures { MeetsBy (λ u. source_views found.new.items) result
+        (in_turn (spec.in_template search.now.files.now search.now.key.now search.now.folder.now level.now
+        (seen variables.now)) (source_views found.old.items) templates.now) }
+{
+    let names = Names::plain(variables);
+    for template in templates {
+        add_from_template(alloc, search, &names, level, template, found)?;
+    }
+    Ok(())
+}
+
+/// A path for each value of the variable.
+fn add_from_mapped(
+    alloc: Global,
+    search: &Search<'_>,
+    variables: &Variables<'_>,
+    mapped: &MappedPath<'_>,
+    variable: &str,
+    found: &mut Vec<Source>,
+) -> Result<(), Refused>
+    ensures { MeetsBy (λ u. source_views found.new.items) result
+        (mapped_from search.now (seen variables.now) mapped.now (source_views found.old.items)
+        (mapped_values (variable_of (seen variables.now) variable.now))) }
+{
+    let values = mapped_values(alloc, variables.value(alloc, variable)?)?;
+    add_for_values(alloc, search, variables, mapped, values.as_slice(), found)
+}
+
+fn add_for_values(
+    alloc: Global,
+    search: &Search<'_>,
+    variables: &Variables<'_>,
+    mapped: &MappedPath<'_>,
+    values: &[Value],
+    found: &mut Vec<Source>,
+) -> Result<(), Refused>
+    ensures { MeetsBy (λ u. source_views found.new.items) result
+        (mapped_from search.now (seen variables.now) mapped.now (source_views found.old.items) (views values.now)) }
+{
+    for value in values {
+        add_for_value(alloc, search, variables, mapped, value, found)?;
+    }
+    Ok(())
+}
+
+/// The name stands for this value.
+#[tactic(auto, unfolding(crate::specs::Sources::in_mapped))]
+fn add_for_value(
+    alloc: Global,
+    search: &Search<'_>,
+    variables: &Variables<'_>,
+    mapped: &MappedPath<'_>,
+    value: &Value,
+    found: &mut Vec<Source>,
+) -> Result<(), Refused>
+    ensures { MeetsBy (λ u. source_views found.new.items) result
+        (in_mapped_by search.now (seen variables.now) mapped.now (source_views found.old.items) (view value.now)) }
+{
+    let names = Names::hiding(variables, mapped.name, value);
+    add_from_template(alloc, search, &names, mapped.level, mapped.template, found)
+}
+
+#[tactic(auto, unfolding(crate::specs::Sources::in_template))]
+fn add_from_template(
+    alloc: Global,
+    search: &Search<'_>,
+    names: &Names<'_>,
+    level: &Level,
+    template: &Text,
+    found: &mut Vec<Source>,
+) -> Result<(), Refused>
+    ensures { MeetsBy (λ u. source_views found.new.items) result
+        (spec.in_template search.now.files.now search.now.key.now search.now.folder.now level.now (names_seen names.now)
+        (source_views found.old.items) template.now) }
+{
+    let path = path_of(alloc, names, search.folder, level, template)?;
+    add_from_file(alloc, search.files, search.key, path, found)
+}
+
+/// What the file at a path has for the key. Where there is no file, nothing.
+fn add_from_file(
+    alloc: Global,
+    files: &SiteData,
+    key: &str,
+    path: Text,
+    found: &mut Vec<Source>,
+) -> Result<(), Refused>
+    ensures { MeetsBy (λ u. source_views found.new.items) result
+        (spec.in_file files.now key.now (source_views found.old.items) path) }
+{
+    match files.get(&path) {
+        Some(file) => add_from_json(alloc, &file.json, key, path, found),
+        None => Ok(()),
+    }
+}
+
+fn add_from_json(
+    alloc: Global,
+    json: &Option<Json>,
+    key: &str,
+    path: Text,
+    found: &mut Vec<Source>,
+) -> Result<(), Refused>
+    ensures { MeetsBy (λ u. source_views found.new.items) result
+        (spec.in_document key.now (source_views found.old.items) path (option_map json_view json.now)) }
+{
+    match json {
+        Some(json) => {
+            if json.is_object() {
+                add_member(alloc, json.get(key), path, found)
+            } else {
+                Err(bad_data(alloc, path.as_str()))
+            }
+        }
+        None => Err(bad_data(alloc, path.as_str())),
+    }
+}
+
+fn add_member(
+    alloc: Global,
+    json: Option<&Json>,
+    path: Text,
+    found: &mut Vec<Source>,
+) -> Result<(), Refused>
+    ensures { MeetsBy (λ u. source_views found.new.items) result
+        (spec.in_member (source_views found.old.items) path (option_map (λ j. json_view j.now) json.entry)) }
+{
+    match json {
+        Some(json) => add_value(alloc, json, path, found),
+        None => Ok(()),
+    }
+}
+
+fn add_value(alloc: Global, json: &Json, path: Text, found: &mut Vec<Source>) -> Result<(), Refused>
+    ensures { MeetsBy (λ u. source_views found.new.items) result
+        (spec.value_or_fault (source_views found.old.items) path (strict (json_view json.now))) }
+{
+    match from_data(alloc, json, Numbers::Strict) {
+        Ok(value) => {
+            found.push(Source { value, path })?;
+            Ok(())
+        }
+        Err(DataStop::Number) => Err(bad_data(alloc, path.as_str())),
+        Err(DataStop::Memory) => Err(Refused::Memory),
+    }
+}

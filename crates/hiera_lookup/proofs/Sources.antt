@@ -1,0 +1,79 @@
+-- Sources as the code holds them.
+use denote.Ref.{Bor}
+use Rattle.std.proofs.Common.{◌≡◌, ℕ, zero, suc, ◌+◌, ◌-◌, ◌<◌, ◌≤◌, true, false, List, [], ◌∷◌, length, drop, take, get_or, Option, None, Some, option_map, map, Ok, refl, sym, ap, ◌∙◌, arith}
+use Rattle.std.specs.Prelude.{option_copied}
+use Rattle.pp_values.specs.Views.{view}
+use Rattle.pp_values.specs.declared.value.Value.{Value}
+use Rattle.hiera_config.specs.Found.{source_views}
+use Rattle.hiera_config.specs.declared.searching.Source.{Source}
+use Rattle.hiera_merge.specs.declared.merge.Merge.{Merge}
+use Rattle.hiera_merge.specs.Merges.{merged}
+use Rattle.hiera_lookup.specs.Filled.{Answer}
+use Rattle.hiera_lookup.specs.Found.{found_in, dug_or_refused}
+use Rattle.hiera_lookup.specs.Options.{has_options, highest_path}
+use Rattle.hiera_lookup.specs.World.{World}
+
+pub option_seen : (o : Option (Bor Value)) (p : Option Value) → option_copied o ≡ p
+    → option_map (λ v. view v.now) o ≡ option_map view p
+option_seen None p e = ap (option_map view) e
+option_seen (Some v) p e = ap (option_map view) e
+
+pub found_none : (key : List ℕ) (merge : Merge) (xs : List Source) → length xs < 1
+    → found_in key merge (source_views xs) ≡ Ok None
+unfolding found_in
+found_none key merge [] h = refl
+found_none key merge (x ∷ xs) h = absurd (omega (arith, h))
+
+values_of : (xs : List Source) → map (λ s. s.0) (source_views xs) ≡ map (λ s. view s.value) xs
+values_of [] = refl
+values_of (x ∷ xs) = ap (λ ds. view x.value ∷ ds) (values_of xs)
+
+all_of : (xs : List Source) → take (length xs) xs ≡ xs
+all_of [] = refl
+all_of (x ∷ xs) = ap (λ ys. x ∷ ys) (all_of xs)
+
+behind_first : (x : Source) (xs : List Source) → take (length (x ∷ xs) - 1) (drop 1 (x ∷ xs)) ≡ xs
+behind_first x xs = let is : length (x ∷ xs) - 1 ≡ length xs = omega arith in rw is (all_of xs)
+
+pub found_more : (key : List ℕ) (merge : Merge) (xs : List Source) (high : Source) → 1 ≤ length xs
+    → high ≡ get_or xs 0 high
+    → found_in key merge (source_views xs)
+    ≡ dug_or_refused key (merged merge (view high.value) (map (λ s. view s.value) (take (length xs - 1) (drop 1 xs))))
+unfolding found_in
+found_more key merge [] high h at = absurd (omega (arith, h))
+found_more key merge (x ∷ xs) high h at =
+    ap (λ ys. dug_or_refused key (merged merge (view x.value) ys))
+    (values_of xs ∙ ap (map (λ (s : Source). view s.value)) (sym (behind_first x xs)))
+    ∙ ap (λ (y : Source). dug_or_refused key
+        (merged merge (view y.value) (map (λ s. view s.value) (take (length (x ∷ xs) - 1) (drop 1 (x ∷ xs))))))
+        (sym at)
+
+-- ---- the file of options that are none
+
+pub path_here : (w : World) (answers : List Answer) (root : List ℕ) (xs : List Source) (i : ℕ) (x : Source)
+    → i < length xs → x ≡ get_or xs i x
+    → has_options w answers root (view x.value) ≡ true
+        → highest_path w answers root (source_views (drop i xs)) ≡ x.path
+path_here w answers root [] i x h at e = absurd (omega (arith, h))
+path_here w answers root (y ∷ xs) zero x h at e =
+    let there : has_options w answers root (view y.value) ≡ true =
+    ap (λ (z : Source). has_options w answers root (view z.value)) (sym at) ∙ e in
+    rw there (ap (λ (z : Source). z.path) (sym at))
+path_here w answers root (y ∷ xs) (suc i) x h at e =
+    let h' : i < length xs = omega (arith, h) in
+    path_here w answers root xs i x h' at e
+
+pub path_later : (w : World) (answers : List Answer) (root : List ℕ) (xs : List Source) (i : ℕ) (x : Source)
+    → i < length xs → x ≡ get_or xs i x
+    → has_options w answers root (view x.value) ≡ false
+    → highest_path w answers root (source_views (drop i xs))
+        ≡ highest_path w answers root (source_views (drop (i + 1) xs))
+path_later w answers root [] i x h at e = absurd (omega (arith, h))
+path_later w answers root (y ∷ xs) zero x h at e =
+    let there : has_options w answers root (view y.value) ≡ false =
+    ap (λ (z : Source). has_options w answers root (view z.value)) (sym at) ∙ e in
+    rw there refl
+path_later w answers root (y ∷ xs) (suc i) x h at e =
+    let h' : i < length xs = omega (arith, h) in
+    let next : suc i + 1 ≡ suc (i + 1) = omega arith in
+    rw next (path_later w answers root xs i x h' at e)

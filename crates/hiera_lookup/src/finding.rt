@@ -1,0 +1,109 @@
+//! What the sources have for a key.
+ghost use Rattle.std.specs.Prelude.{◌≡◌, IfOk, map, option_map};
+ghost use Rattle.pp_values.specs.Views.{view};
+ghost use Rattle.hiera_config.specs.Meant.{MeetsBy};
+ghost use Rattle.hiera_config.specs.Found.{source_views};
+ghost use Rattle.hiera_merge.specs.Digging.{dug};
+ghost use Rattle.hiera_merge.specs.Merges.{merged};
+ghost use Rattle.pp_funcs.specs.Lists.{behind};
+ghost use Rattle.hiera_lookup.specs.Found.{found, found_in, dug_or_refused, root_of, steps_of};
+ghost use Rattle.hiera_lookup.specs.World.{seen};
+
+use crate::refusals::mismatch_at;
+use crate::world::World;
+use hiera_config::{Refused, Source, sources};
+use hiera_merge::{Merge, dig, merged, parts, root, steps};
+use pp_values::{Memory, Value, copy};
+use std::alloc::Global;
+
+/// The values of the key's root in the layers, those of the module too where one is given, merged, and dug by the
+/// key's steps.
+pub fn found(
+    alloc: Global,
+    world: &World<'_>,
+    of_module: Option<&str>,
+    key: &str,
+    merge: Merge,
+) -> Result<Option<Value>, Refused>
+    ensures { MeetsBy (option_map view) result
+        (found (seen world.now) (option_map (λ t. t.now) of_module.entry) key.now merge) }
+{
+    let parts = parts(alloc, key)?;
+    let sources = sources(alloc, world.data, &world.variables, of_module, root(&parts))?;
+    found_in(alloc, key, steps(&parts), merge, &sources)
+}
+
+fn found_in(
+    alloc: Global,
+    key: &str,
+    steps: &[&str],
+    merge: Merge,
+    sources: &[Source],
+) -> Result<Option<Value>, Refused>
+    requires { map (λ x. x.now) steps.now ≡ steps_of key.now }
+    ensures { MeetsBy (option_map view) result (found_in key.now merge (source_views sources.now)) }
+{
+    match sources {
+        [] => Ok(None),
+        [high, lower @ ..] => found_among(alloc, key, steps, merge, high, lower),
+    }
+}
+
+fn found_among(
+    alloc: Global,
+    key: &str,
+    steps: &[&str],
+    merge: Merge,
+    high: &Source,
+    lower: &[Source],
+) -> Result<Option<Value>, Refused>
+    requires { map (λ x. x.now) steps.now ≡ steps_of key.now }
+    ensures { MeetsBy (option_map view) result
+        (dug_or_refused key.now (merged merge (view high.now.value) (map (λ s. view s.value) lower.now))) }
+{
+    if merge == Merge::First {
+        return Ok(copied(alloc, dig(&high.value, steps))?);
+    }
+    let lower = values(alloc, lower)?;
+    match merged(alloc, merge, &high.value, &lower)? {
+        Some(value) => Ok(part(alloc, value, steps)?),
+        None => Err(mismatch_at(alloc, key)),
+    }
+}
+
+fn values<'a>(alloc: Global, sources: &'a [Source]) -> Result<Vec<&'a Value>, Memory>
+    ensures { IfOk result (λ v. behind v.items ≡ map (λ s. view s.value) sources.now) }
+{
+    let mut values = Vec::new(alloc);
+    for source in sources {
+        values.push(&source.value)?;
+    }
+    Ok(values)
+}
+
+/// What the steps lead to. Without steps that is the value itself, and nothing is copied.
+fn part(alloc: Global, value: Value, steps: &[&str]) -> Result<Option<Value>, Memory>
+    ensures { IfOk result (λ o. option_map view o ≡ dug (map (λ x. x.now) steps.now) (view value)) }
+{
+    if steps.is_empty() {
+        return Ok(Some(value));
+    }
+    copied(alloc, dig(&value, steps))
+}
+
+fn copied(alloc: Global, value: Option<&Value>) -> Result<Option<Value>, Memory>
+    ensures { IfOk result (λ o. option_map view o ≡ option_map (λ v. view v.now) value.entry) }
+{
+    match value {
+        Some(value) => Ok(Some(copy(alloc, value)?)),
+        None => Ok(None),
+    }
+}
+
+/// The root of a dotted key: what stands before its first dot.
+pub fn root_of<'a>(alloc: Global, key: &'a str) -> Result<&'a str, Memory>
+    ensures { IfOk result (λ r. r.now ≡ root_of key.now) }
+{
+    let parts = parts(alloc, key)?;
+    Ok(root(&parts))
+}

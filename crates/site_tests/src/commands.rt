@@ -143,7 +143,7 @@ const FAULTS: [(&str, &str); 7] = [
     ("notify { 'a'", "F1 manifests/site.pp:1 Syntax\n"),
     ("notify {\n'a\n\n", "F1 manifests/site.pp:4 Syntax\n"),
     ("\nnotify { 'a': \0}", "F1 manifests/site.pp:2 Syntax\n"),
-    ("$x = 1", "F31 manifests/site.pp:1 NotBuilt\n"),
+    ("$x = 1\n$x = 2", "F3 manifests/site.pp:2 Reassigned x\n"),
     ("\u{feff}notify { 'a': }", "F1 manifests/site.pp:1 Syntax\n"),
     (
         "notify { 'a': }\n/* open\n",
@@ -159,7 +159,7 @@ fn faults_are_told(rt: HostRuntime) -> Result<(), Fail> {
     Ok(())
 }
 
-/// A message of so many lists within one another.
+/// A message of so many lists within one another, and then a title that is there already.
 fn nested_message(alloc: Global, lists: usize) -> Result<String, AllocError> {
     let mut manifest = String::from_str(alloc, "notify { 'a': message => ")?;
     for _ in 0..lists {
@@ -168,7 +168,7 @@ fn nested_message(alloc: Global, lists: usize) -> Result<String, AllocError> {
     for _ in 0..lists {
         manifest.push_str("]")?;
     }
-    manifest.push_str(" }")?;
+    manifest.push_str(" }\nnotify { 'a': }")?;
     Ok(manifest)
 }
 
@@ -183,7 +183,10 @@ fn tells_nested<R: Threads + Wait + Sync>(
 }
 
 const NESTED: [(usize, &str); 2] = [
-    (199, "F31 manifests/site.pp:1 NotBuilt\n"),
+    (
+        199,
+        "F14 manifests/site.pp:2 Duplicate Notify[a] manifests/site.pp:1\n",
+    ),
     (200, "F29 manifests/site.pp:1 DepthLimit\n"),
 ];
 

@@ -68,37 +68,126 @@ fn catalogs_and_faults(rt: HostRuntime) -> Result<(), Fail> {
     Ok(())
 }
 
-// Each of these is the first fault of a manifest: F31 where it is met, and the other one where that comes before.
-const NOT_BUILT: [(&str, &str); 31] = [
-    ("$x = 1", "F31 manifests/site.pp:1 NotBuilt"),
-    ("\n\nnotify { '': }", "F31 manifests/site.pp:3 NotBuilt"),
+// Resources behind `Class[main]`: what a manifest evaluates to, and what finishing makes of values.
+const EVALUATED: [(&str, &str); 12] = [
     (
-        "notify { 'a': }\n\nfile { 'b': }\nnotify { 'a': }",
-        "F31 manifests/site.pp:3 NotBuilt",
+        "notify { 'x': message => -7 / 2 }",
+        "{\"attrs\":{\"message\":-4},\"in\":[0],\"tags\":[\"class\",\"main\",\"notify\",\"x\"],\"title\":\"x\",\"type\":\"Notify\"}",
+    ),
+    (
+        "$a = ['m', 'n']\nnotify { $a: message => \"${a[0]} of ${trusted['certname']}\" }",
+        "{\"attrs\":{\"message\":\"m of n1\"},\"in\":[0],\"tags\":[\"class\",\"m\",\"main\",\"notify\"],\"title\":\"m\",\"type\":\"Notify\"},{\"attrs\":{\"message\":\"m of n1\"},\"in\":[0],\"tags\":[\"class\",\"main\",\"n\",\"notify\"],\"title\":\"n\",\"type\":\"Notify\"}",
+    ),
+    // A data type and `default` become their texts, at any depth.
+    (
+        "notify { 'x': message => [Integer[1, 2], { a => default }] }",
+        "{\"attrs\":{\"message\":[\"Integer[1, 2]\",{\"a\":\"default\"}]},\"in\":[0],\"tags\":[\"class\",\"main\",\"notify\",\"x\"],\"title\":\"x\",\"type\":\"Notify\"}",
+    ),
+    (
+        "notify { 'x': message => undef, loglevel => err, tag => [a, B] }",
+        "{\"attrs\":{\"loglevel\":\"err\"},\"in\":[0],\"tags\":[\"a\",\"b\",\"class\",\"main\",\"notify\",\"x\"],\"title\":\"x\",\"type\":\"Notify\"}",
+    ),
+    // A reference, and hashes in both forms.
+    (
+        "notify { 'x': message => [File['/a'], { b => 1, a => 2 }, { a => 1, b => 2 }] }",
+        "{\"attrs\":{\"message\":[{\"__ptype\":\"Ref\",\"kind\":\"file\",\"title\":\"/a\"},{\"__ptype\":\"Hash\",\"__pvalue\":[\"b\",1,\"a\",2]},{\"a\":1,\"b\":2}]},\"in\":[0],\"tags\":[\"class\",\"main\",\"notify\",\"x\"],\"title\":\"x\",\"type\":\"Notify\"}",
+    ),
+    (
+        "file { default: mode => '0644'; '/a': ; '/b': mode => '0600', * => { owner => root } }",
+        "{\"attrs\":{\"mode\":\"0644\"},\"in\":[0],\"tags\":[\"class\",\"file\",\"main\"],\"title\":\"/a\",\"type\":\"File\"},{\"attrs\":{\"mode\":\"0600\",\"owner\":\"root\"},\"in\":[0],\"tags\":[\"class\",\"file\",\"main\"],\"title\":\"/b\",\"type\":\"File\"}",
+    ),
+    ("@notify { 'v': }\n@@notify { 'e': }", ""),
+    // An exported resource is in its own node's catalog where a collector takes it.
+    (
+        "@@notify { 'e': tag => t }\nNotify <<| tag == 'T' |>>",
+        "{\"attrs\":{},\"in\":[0],\"tags\":[\"class\",\"e\",\"main\",\"notify\",\"t\"],\"title\":\"e\",\"type\":\"Notify\"}",
+    ),
+    ("@@notify { 'e': tag => t }\nNotify <<| tag == 'u' |>>", ""),
+    (
+        "[1, 2].each |$i| { if $i == 2 { notify { \"n${i}\": } } }",
+        "{\"attrs\":{},\"in\":[0],\"tags\":[\"class\",\"main\",\"n2\",\"notify\"],\"title\":\"n2\",\"type\":\"Notify\"}",
+    ),
+    (
+        "notify { x: noop => true }",
+        "{\"attrs\":{\"noop\":true},\"in\":[0],\"tags\":[\"class\",\"main\",\"notify\",\"x\"],\"title\":\"x\",\"type\":\"Notify\"}",
+    ),
+    (
+        "::notify { \"a b\": message => 'it' }",
+        "{\"attrs\":{\"message\":\"it\"},\"in\":[0],\"tags\":[\"class\",\"main\",\"notify\"],\"title\":\"a b\",\"type\":\"Notify\"}",
+    ),
+];
+
+fn with_resources(alloc: Global, resources: &str) -> Result<String, Memory> {
+    let mut want = String::from_str(
+        alloc,
+        "{\"catalog\":1,\"edges\":[],\"node\":\"n1\",\"resources\":[{\"attrs\":{},\"in\":[],\"tags\":[\"class\",\"main\"],\"title\":\"main\",\"type\":\"Class\"}",
+    )?;
+    if !resources.is_empty() {
+        want.push_str(",")?;
+        want.push_str(resources)?;
+    }
+    want.push_str("]}")?;
+    Ok(want)
+}
+
+fn evaluates_to(alloc: Global, manifest: &str, resources: &str) -> Result<bool, Memory> {
+    let want = with_resources(alloc, resources)?;
+    compiles_to(alloc, manifest, want.as_str())
+}
+
+#[test]
+fn what_is_evaluated(rt: HostRuntime) -> Result<(), Fail> {
+    for (manifest, resources) in EVALUATED.iter() {
+        assert!(rt;
+            evaluates_to(rt.alloc(), manifest, resources)?,
+            "{manifest}"
+        );
+    }
+    Ok(())
+}
+
+// Each of these is the first fault of a manifest: F31 where it is met, and the other one where that comes before.
+const FAULTS: [(&str, &str); 24] = [
+    (
+        "\n\nnotify { '': }",
+        "F8 manifests/site.pp:3 TypeMismatch title",
+    ),
+    (
+        "notify { 'a': }\n\nfile { 'b': nope => 1 }\nnotify { 'a': }",
+        "F10 manifests/site.pp:3 UnknownParameter File[b] nope",
     ),
     (
         "notify { 'a': }\nnotify { 'a': }\ninclude b",
         "F14 manifests/site.pp:2 Duplicate Notify[a] manifests/site.pp:1",
     ),
-    ("include b", "F31 manifests/site.pp:1 NotBuilt"),
-    (
-        "notify {\n  'a': ;\n  'b':\n}",
-        "F31 manifests/site.pp:1 NotBuilt",
-    ),
     (
         "\n@@notify {\n  'b':\n  message => 'm', message => 'n'\n}",
-        "F31 manifests/site.pp:2 NotBuilt",
+        "F15 manifests/site.pp:4 AlreadySet Notify[b] message",
     ),
     (
         "notify { 'b': message => \"a ${b}\" }",
-        "F31 manifests/site.pp:1 NotBuilt",
+        "F2 manifests/site.pp:1 UnknownVariable b",
+    ),
+    ("nope { 'b': }", "F5 manifests/site.pp:1 UnknownType nope"),
+    (
+        "notify { 'x': message => 9223372036854775807 + 1 }",
+        "F12 manifests/site.pp:1 NumberRange +",
     ),
     (
-        "notify { 'b': loglevel => 'err' }",
-        "F31 manifests/site.pp:1 NotBuilt",
+        "notify { 'x': message => 1 / 0 }",
+        "F13 manifests/site.pp:1 ZeroDivisor /",
     ),
-    ("@notify { 'b': }", "F31 manifests/site.pp:1 NotBuilt"),
-    ("notify { b: }", "F31 manifests/site.pp:1 NotBuilt"),
+    ("f(1)", "F6 manifests/site.pp:1 UnknownFunction f"),
+    ("fail('a', 1)", "F25 manifests/site.pp:1 Failed a 1"),
+    // A data type and `default` are in no export: of resources in their order, then of attributes in theirs.
+    (
+        "@@notify { 'a': }\n@@notify { 'b': message => [default] }\n@@notify { 'c': message => Any }",
+        "F8 manifests/site.pp:2 TypeMismatch message",
+    ),
+    (
+        "@@notify { 'a': message => { k => Any }, loglevel => default }",
+        "F8 manifests/site.pp:1 TypeMismatch loglevel",
+    ),
     (
         "notify { 'a': } -> notify { 'b': }",
         "F31 manifests/site.pp:1 NotBuilt",
@@ -113,32 +202,13 @@ const NOT_BUILT: [(&str, &str); 31] = [
         "F31 manifests/site.pp:1 NotBuilt",
     ),
     (
-        "Notify <<| tag == 'a' and tag == 'b' |>>",
-        "F31 manifests/site.pp:1 NotBuilt",
-    ),
-    (
         "Notify <<| tag != 'a' |>>",
-        "F31 manifests/site.pp:1 NotBuilt",
-    ),
-    (
-        "Notify <<| (tag == 'a') |>>",
         "F31 manifests/site.pp:1 NotBuilt",
     ),
     (
         "Notify <<| |>> { message => 'm' }",
         "F31 manifests/site.pp:1 NotBuilt",
     ),
-    ("File <<| |>>", "F31 manifests/site.pp:1 NotBuilt"),
-    (
-        "notify { 'a': * => { message => 'm' } }",
-        "F31 manifests/site.pp:1 NotBuilt",
-    ),
-    ("notify { ['a', 'b']: }", "F31 manifests/site.pp:1 NotBuilt"),
-    (
-        "notify { default: message => 'm' }",
-        "F31 manifests/site.pp:1 NotBuilt",
-    ),
-    ("::notify { 'a': }", "F31 manifests/site.pp:1 NotBuilt"),
     (
         "Notify['a'] { message => 'm' }",
         "F31 manifests/site.pp:1 NotBuilt",
@@ -147,26 +217,21 @@ const NOT_BUILT: [(&str, &str); 31] = [
         "Notify { message => 'm' }",
         "F31 manifests/site.pp:1 NotBuilt",
     ),
-    ("if true { }", "F31 manifests/site.pp:1 NotBuilt"),
-    ("f(1)", "F31 manifests/site.pp:1 NotBuilt"),
-    // A node definition comes behind all statements.
+    ("realize(Notify['a'])", "F31 manifests/site.pp:1 NotBuilt"),
+    ("$x = lookup('a')", "F31 manifests/site.pp:1 NotBuilt"),
     (
-        "class a { }\nnode 'b', 'c' { }\nnotify { 'a': }\nnode default { }",
+        "notify { 'a':\n  require => Notify['b'] }",
         "F31 manifests/site.pp:2 NotBuilt",
     ),
     (
         "node default { }\nnotify { 'a': }\nnotify { 'a': }",
         "F14 manifests/site.pp:3 Duplicate Notify[a] manifests/site.pp:2",
     ),
-    (
-        "node default { }\n$x = 1",
-        "F31 manifests/site.pp:2 NotBuilt",
-    ),
 ];
 
 #[test]
-fn statements_that_are_not_built(rt: HostRuntime) -> Result<(), Fail> {
-    for (manifest, want) in NOT_BUILT.iter() {
+fn first_faults(rt: HostRuntime) -> Result<(), Fail> {
+    for (manifest, want) in FAULTS.iter() {
         assert!(rt; compiles_to(rt.alloc(), manifest, want)?, "{manifest}");
     }
     Ok(())

@@ -1,6 +1,6 @@
 -- Bundles, and what they say.
-use Rattle.std.proofs.Common.{◌≡◌, ℕ, ◌*◌, true, false, [], ◌∷◌, Some, None, Ok, Err, refl, codes}
-use Rattle.pp_values.specs.Datum.{hash, no_entries}
+use Rattle.std.proofs.Common.{◌≡◌, ℕ, ◌*◌, true, false, [], ◌∷◌, Some, None, Ok, Err, refl, codes, pos}
+use Rattle.pp_values.specs.Datum.{undef, flag, int, text, list, hash, no_entries, data_of, entries_of}
 use Rattle.pp_values.specs.declared.place.TheConstants.{MAIN_MANIFEST}
 use Rattle.res_core.specs.Asked.{compile, deactivate}
 use Rattle.site_bundle.specs.NodeNames.{is_node_name}
@@ -78,6 +78,18 @@ file_behind = refl
 node_name : bundle_of (codes "{\"bundle\":1,\"files\": {\"manifests/site.pp\": \"\"},\"nodes\":{\"A\":{}}}") ≡ Err (bad_shape (codes "nodes.A"))
 unfolding bundle_on_literals
 node_name = refl
+
+-- facts are read whole, by name in byte order; a number that is no 64-bit integer is Undef
+whole_facts : bundle_of (codes "{\"bundle\":1,\"files\": {\"manifests/site.pp\": \"\"},\"nodes\":{\"a\":{\"n\":3,\"load\":0.5,\"l\":[true,{\"x\":null}]}}}") ≡ Ok (record {
+  site = record {
+    files = (MAIN_MANIFEST.now, []) ∷ [];
+    nodes = (codes "a", hash (entries_of ((text (codes "l"), list (data_of (flag true ∷ hash (entries_of ((text (codes "x"), undef) ∷ [])) ∷ []))) ∷
+        (text (codes "load"), undef) ∷ (text (codes "n"), int (pos 3)) ∷ []))) ∷ [];
+  };
+  requests = [];
+})
+unfolding bundle_on_literals
+whole_facts = refl
 
 -- facts that are no object
 node_facts : bundle_of (codes "{\"bundle\":1,\"files\": {\"manifests/site.pp\": \"\"},\"nodes\":{\"a\":1}}") ≡ Err (bad_shape (codes "nodes.a"))

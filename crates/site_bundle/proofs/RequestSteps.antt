@@ -10,6 +10,7 @@ use Rattle.serde_json.specs.Data.{Data, null, boolean, number, string, array, ob
 use Rattle.serde_json.specs.Find.{get, as_array}
 use Rattle.serde_json.specs.declared.value.Value.{Value}
 use Rattle.serde_json.specs.View.{view, items_view}
+use Rattle.pp_values.specs.Datum.{Datum}
 use Rattle.pp_values.specs.Facts.{are_facts}
 use Rattle.site_bundle.specs.declared.bundle_stop.BundleStop.{BundleStop}
 use Rattle.site_bundle.specs.Refusals.{Refusal, too_large, bad_shape, Tells, Refuses, Reads, result_and_then}
@@ -17,6 +18,7 @@ use Rattle.site_bundle.specs.GivenFacts.{given_facts}
 use Rattle.site_bundle.specs.declared.limits.TheConstants.{MOST_REQUESTS}
 use Rattle.site_bundle.specs.RequestsOf.{bad_member, facts_asked, seen_asked, name_asked, wanted_in, asked_by, asked_in, asked_from, item_count, asked_among, all_asked_in}
 use Rattle.res_core.specs.AskedFacts.{has_facts, asks_with_facts, give_facts}
+use Rattle.site_bundle.proofs.FactSteps.{given_are_facts}
 use Rattle.site_bundle.proofs.Chains.{refuses_then, refuses_same, reads_same, told, if_then, if_each}
 
 -- ---- the loop
@@ -114,14 +116,13 @@ give_facts-push : (found : List Asked) (a : Asked) → IsTrue (give_facts found)
 give_facts-push [] a h p = both _ _ p refl
 give_facts-push (f ∷ fs) a h p = both _ _ (first _ _ h) (give_facts-push fs a (second _ _ h) p)
 
+given_if : (o : Option Datum) (r : Refusal) → ((d : Datum) → o ≡ Some d → IsTrue (are_facts d)) →
+    IfOk (ok_or o r) (λ facts. IsTrue (are_facts facts))
+given_if None r h = tt
+given_if (Some d) r h = h d refl
+
 given-facts : (d : Data) (r : Refusal) → IfOk (ok_or (given_facts d) r) (λ facts. IsTrue (are_facts facts))
-given-facts null r = tt
-given-facts (boolean b) r = tt
-given-facts (number n) r = tt
-given-facts (string s) r = tt
-given-facts (array ds) r = tt
-given-facts (object no_members) r = refl
-given-facts (object (member k d ms)) r = tt
+given-facts d r = given_if (given_facts d) r (given_are_facts d)
 
 asked-facts : (index : ℕ) (o : Option Data) → IfOk (facts_asked index o) (λ facts. IsTrue (has_facts facts))
 asked-facts index None = refl

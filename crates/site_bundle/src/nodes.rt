@@ -1,5 +1,5 @@
 //! The nodes of a bundle.
-ghost use Rattle.std.specs.Prelude.{◌≡◌, [], option_map};
+ghost use Rattle.std.specs.Prelude.{◌≡◌, [], option_map, IfOk};
 ghost use Rattle.pp_values.specs.Views.{view as value_view};
 ghost use Rattle.serde_json.specs.View.{view, members_view};
 ghost use Rattle.site_bundle.specs.Refusals.{Reads, ReadsAs};
@@ -10,6 +10,7 @@ use crate::given_facts::given_facts;
 use crate::listed_nodes::ListedNodes;
 use crate::node_name::is_node_name;
 use crate::refusing::{bad_member, bad_shape};
+use pp_values::memory::Memory;
 use pp_values::text::Text;
 use pp_values::value::Value as FactValue;
 use serde_json::{Map, Value};
@@ -44,6 +45,7 @@ fn nodes_among(alloc: Global, members: &Map<String, Value>) -> Result<ListedNode
     Ok(nodes)
 }
 
+#[tactic(auto, using(crate::proofs::FactSteps::listed_are_facts))]
 fn with_node(
     alloc: Global,
     key: &str,
@@ -52,7 +54,7 @@ fn with_node(
 ) -> Result<(), BundleStop>
     ensures { ReadsAs (λ done. nodes.new) result (with_node nodes.old key.now (view facts.now)) }
 {
-    let Some(facts) = listed_facts(alloc, key, facts) else {
+    let Some(facts) = listed_facts(alloc, key, facts)? else {
         return Err(bad_member(alloc, "nodes", key));
     };
     let name = Text::from_str(alloc, key)?;
@@ -60,12 +62,12 @@ fn with_node(
     Ok(())
 }
 
-fn listed_facts(alloc: Global, key: &str, facts: &Value) -> Option<FactValue>
-    ensures { option_map value_view result ≡ listed_facts key.now (view facts.now) }
+fn listed_facts(alloc: Global, key: &str, facts: &Value) -> Result<Option<FactValue>, Memory>
+    ensures { IfOk result (λ o. option_map value_view o ≡ listed_facts key.now (view facts.now)) }
 {
     if is_node_name(key) {
         given_facts(alloc, facts)
     } else {
-        None
+        Ok(None)
     }
 }

@@ -105,7 +105,7 @@ fn facts_asked(
     let Some(facts) = request.get("facts") else {
         return Ok(None);
     };
-    match given_facts(alloc, facts) {
+    match given_facts(alloc, facts)? {
         Some(facts) => Ok(Some(facts)),
         None => Err(bad_request_member(alloc, index, "facts")),
     }

@@ -9,6 +9,7 @@ use Rattle.site_bundle.specs.Given.{are_distinct, has_main, is_manifest_path}
 use Rattle.site_bundle.specs.declared.limits.TheConstants.{MOST_BUNDLE_BYTES, MOST_FILE_BYTES, MOST_NAME_CHARACTERS, MOST_REQUESTS}
 use Rattle.site_bundle.specs.Refusals.{not_json, bad_shape}
 use Rattle.site_bundle.specs.Bundles.{bundle_of}
+use Rattle.site_bundle.specs.Files.{with_files}
 use Rattle.site_bundle.proofs.OnLiterals.{bundle_on_literals}
 
 -- nodes by name, requests in their order
@@ -21,62 +22,82 @@ whole : bundle_of (codes "{\"bundle\": 1, \"files\": {\"manifests/site.pp\": \"\
   requests = compile (record { node = codes "a"; facts = None; seen = 2 }) ∷
       compile (record { node = codes "b"; facts = Some (hash no_entries); seen = 0 }) ∷ deactivate (codes "z") ∷ [];
 })
-unfolding bundle_on_literals
+unfolding bundle_on_literals with_files
 whole = refl
 
 -- nodes and requests may be missing, and other members do not count
 least : bundle_of (codes "{\"bundle\":1,\"files\":{\"manifests/site.pp\":\"x\"},\"other\":[1.5]}") ≡ Ok (record { site = record { files = (MAIN_MANIFEST.now, codes "x") ∷ []; nodes = [] }; requests = [] })
-unfolding bundle_on_literals
+unfolding bundle_on_literals with_files
 least = refl
 
 -- a text that is cut off
 no_json : bundle_of (codes "{") ≡ Err not_json
-unfolding bundle_on_literals
+unfolding bundle_on_literals with_files
 no_json = refl
 
 -- a byte that is no text
 no_text : bundle_of (255 ∷ []) ≡ Err not_json
-unfolding bundle_on_literals
+unfolding bundle_on_literals with_files
 no_text = refl
 
 -- a document that is no object
 no_object : bundle_of (codes "[1]") ≡ Err (bad_shape (codes "bundle"))
-unfolding bundle_on_literals
+unfolding bundle_on_literals with_files
 no_object = refl
 
 -- `1.0` is not the integer 1
 no_integer : bundle_of (codes "{\"bundle\":1.0,\"files\": {\"manifests/site.pp\": \"\"}}") ≡ Err (bad_shape (codes "bundle"))
-unfolding bundle_on_literals
+unfolding bundle_on_literals with_files
 no_integer = refl
 
 -- no files
 no_files : bundle_of (codes "{\"bundle\":1}") ≡ Err (bad_shape (codes "files"))
-unfolding bundle_on_literals
+unfolding bundle_on_literals with_files
 no_files = refl
 
 -- files come before nodes
 files_first : bundle_of (codes "{\"nodes\":[],\"files\":[],\"bundle\":1}") ≡ Err (bad_shape (codes "files"))
-unfolding bundle_on_literals
+unfolding bundle_on_literals with_files
 files_first = refl
 
 -- a file before the main manifest
 other_file : bundle_of (codes "{\"bundle\":1,\"files\":{\"a\":\"\",\"manifests/site.pp\":\"\"}}") ≡ Err (bad_shape (codes "files.a"))
-unfolding bundle_on_literals
+unfolding bundle_on_literals with_files
 other_file = refl
+
+-- manifests beside the main one, by path in byte order
+modules : bundle_of (codes "{\"bundle\":1,\"files\":{\"modules/m/manifests/init.pp\":\"m\",\"a.pp\":\"a\",\"manifests/site.pp\":\"\"}}") ≡ Ok (record {
+  site = record {
+    files = (codes "a.pp", codes "a") ∷ (MAIN_MANIFEST.now, []) ∷ (codes "modules/m/manifests/init.pp", codes "m") ∷ [];
+    nodes = [];
+  };
+  requests = [];
+})
+unfolding bundle_on_literals with_files
+modules = refl
+
+-- the first path that is bad decides: here the main manifest's place, which comes before `z.pp`
+missing_before : bundle_of (codes "{\"bundle\":1,\"files\":{\"a.pp\":\"\",\"z.pp\":1}}") ≡ Err (bad_shape (codes "files.manifests/site.pp"))
+unfolding bundle_on_literals with_files
+missing_before = refl
+
+no_text : bundle_of (codes "{\"bundle\":1,\"files\":{\"a.pp\":1,\"z\":\"\"}}") ≡ Err (bad_shape (codes "files.a.pp"))
+unfolding bundle_on_literals with_files
+no_text = refl
 
 -- the main manifest is missing where it should stand
 main_missing : bundle_of (codes "{\"bundle\":1,\"files\":{\"z\":\"\"}}") ≡ Err (bad_shape (codes "files.manifests/site.pp"))
-unfolding bundle_on_literals
+unfolding bundle_on_literals with_files
 main_missing = refl
 
 -- a file behind the main manifest, which is a text
 file_behind : bundle_of (codes "{\"bundle\":1,\"files\":{\"z\":1,\"manifests/site.pp\":\"\"}}") ≡ Err (bad_shape (codes "files.z"))
-unfolding bundle_on_literals
+unfolding bundle_on_literals with_files
 file_behind = refl
 
 -- a key that is no node name
 node_name : bundle_of (codes "{\"bundle\":1,\"files\": {\"manifests/site.pp\": \"\"},\"nodes\":{\"A\":{}}}") ≡ Err (bad_shape (codes "nodes.A"))
-unfolding bundle_on_literals
+unfolding bundle_on_literals with_files
 node_name = refl
 
 -- facts are read whole, by name in byte order; a number that is no 64-bit integer is Undef
@@ -88,52 +109,52 @@ whole_facts : bundle_of (codes "{\"bundle\":1,\"files\": {\"manifests/site.pp\":
   };
   requests = [];
 })
-unfolding bundle_on_literals
+unfolding bundle_on_literals with_files
 whole_facts = refl
 
 -- facts that are no object
 node_facts : bundle_of (codes "{\"bundle\":1,\"files\": {\"manifests/site.pp\": \"\"},\"nodes\":{\"a\":1}}") ≡ Err (bad_shape (codes "nodes.a"))
-unfolding bundle_on_literals
+unfolding bundle_on_literals with_files
 node_facts = refl
 
 -- both node and deactivate
 both : bundle_of (codes "{\"bundle\":1,\"files\": {\"manifests/site.pp\": \"\"},\"requests\":[{\"node\":\"a\"},{\"node\":\"a\",\"deactivate\":\"a\"}]}") ≡ Err (bad_shape (codes "requests.1"))
-unfolding bundle_on_literals
+unfolding bundle_on_literals with_files
 both = refl
 
 -- beside `deactivate` nothing else counts
 ignored : bundle_of (codes "{\"bundle\":1,\"files\": {\"manifests/site.pp\": \"\"},\"requests\":[{\"facts\":1,\"seen\":-1,\"deactivate\":\"a\"}]}") ≡ Ok (record { site = record { files = (MAIN_MANIFEST.now, []) ∷ []; nodes = [] }; requests = deactivate (codes "a") ∷ [] })
-unfolding bundle_on_literals
+unfolding bundle_on_literals with_files
 ignored = refl
 
 -- a number that takes more than 32 bits
 seen : bundle_of (codes "{\"bundle\":1,\"files\": {\"manifests/site.pp\": \"\"},\"requests\":[{\"node\":\"a\",\"seen\":4294967296}]}") ≡ Err (bad_shape (codes "requests.0.seen"))
-unfolding bundle_on_literals
+unfolding bundle_on_literals with_files
 seen = refl
 
 -- facts come before node and seen
 facts_first : bundle_of (codes "{\"bundle\":1,\"files\": {\"manifests/site.pp\": \"\"},\"requests\":[{\"node\":\"\",\"seen\":1.0,\"facts\":[]}]}") ≡ Err (bad_shape (codes "requests.0.facts"))
-unfolding bundle_on_literals
+unfolding bundle_on_literals with_files
 facts_first = refl
 
 -- and node before seen
 name_next : bundle_of (codes "{\"bundle\":1,\"files\": {\"manifests/site.pp\": \"\"},\"requests\":[{\"node\":\"\",\"seen\":1.0}]}") ≡ Err (bad_shape (codes "requests.0.node"))
-unfolding bundle_on_literals
+unfolding bundle_on_literals with_files
 name_next = refl
 
 -- a machine, after all the others
 machine_last : bundle_of (codes "{\"bundle\":1,\"machine\":null,\"files\":{},\"nodes\":{}}") ≡ Err (bad_shape (codes "files.manifests/site.pp"))
-unfolding bundle_on_literals
+unfolding bundle_on_literals with_files
 machine_last = refl
 
 -- a machine
 machine : bundle_of (codes "{\"bundle\":1,\"machine\":null,\"files\": {\"manifests/site.pp\": \"\"}}") ≡ Err (bad_shape (codes "machine"))
-unfolding bundle_on_literals
+unfolding bundle_on_literals with_files
 machine = refl
 
 -- the last value of a key that stands twice
 twice : bundle_of (codes "{\"bundle\":2,\"bundle\":1,\"files\":{\"manifests/site.pp\":\"\"}}") ≡ Ok (record { site = record { files = (MAIN_MANIFEST.now, []) ∷ []; nodes = [] }; requests = [] })
-unfolding bundle_on_literals
+unfolding bundle_on_literals with_files
 twice = refl
 
 empty_name : is_node_name [] ≡ false

@@ -3,6 +3,7 @@ mod Parsed
 mod Chains
 mod NodeSteps
 mod FactSteps
+mod FileSteps
 mod RequestSteps
 pub mod OnLiterals
 mod Examples

@@ -1,14 +1,13 @@
 -- What the bytes of a bundle say.
 use Rattle.std.specs.Prelude.{ℕ, ◌==◌, Bool, false, if◌then◌else◌, codes, is_some, List, [], ◌∷◌, Option, Some, None, option_and_then, Result, Ok, Err}
-use Rattle.pp_values.specs.declared.place.TheConstants.{MAIN_MANIFEST}
 use Rattle.serde_json.specs.Data.{Data}
 use Rattle.serde_json.specs.Find.{get, as_number, as_u64}
 use Rattle.site_bundle.specs.declared.bundle.Bundle.{Bundle}
 use Rattle.site_bundle.specs.Refusals.{Refusal, bad_shape, result_and_then}
 use Rattle.site_bundle.specs.Documents.{document_of}
-use Rattle.site_bundle.specs.Files.{manifest_of}
+use Rattle.site_bundle.specs.Files.{files_of}
 use Rattle.site_bundle.specs.Nodes.{nodes_of}
-use Rattle.site_bundle.specs.SiteView.{SiteView, Listed}
+use Rattle.site_bundle.specs.SiteView.{SiteView, Filed, Listed}
 use Rattle.site_bundle.specs.RequestsOf.{requests_of}
 
 abbrev pub is_one : Option ℕ → Bool
@@ -23,16 +22,15 @@ is_bundle d = is_one (option_and_then as_u64 (option_and_then as_number (get (co
 abbrev pub unless_machine : Data → Bundle → Result Bundle Refusal
 unless_machine d bundle = if is_some (get (codes "machine") d) then Err (bad_shape (codes "machine")) else Ok bundle
 
--- so far the main manifest is the one file
-abbrev pub site_of_main : List ℕ → List Listed → SiteView
-site_of_main manifest nodes = record { files = (MAIN_MANIFEST.now, manifest) ∷ []; nodes = nodes }
+abbrev pub site_with : List Filed → List Listed → SiteView
+site_with files nodes = record { files = files; nodes = nodes }
 
 -- its members in their order, so that the first one that is bad decides
 unfoldable pub members_of : Data → Result Bundle Refusal
 members_of d =
-    result_and_then (λ manifest. result_and_then (λ nodes. result_and_then (λ requests.
-    unless_machine d (record { site = site_of_main manifest nodes; requests = requests }))
-    (requests_of d)) (nodes_of d)) (manifest_of d)
+    result_and_then (λ files. result_and_then (λ nodes. result_and_then (λ requests.
+    unless_machine d (record { site = site_with files nodes; requests = requests }))
+    (requests_of d)) (nodes_of d)) (files_of d)
 
 abbrev pub bundle_in : Data → Result Bundle Refusal
 bundle_in d = if is_bundle d then members_of d else Err (bad_shape (codes "bundle"))

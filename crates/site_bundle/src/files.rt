@@ -1,65 +1,127 @@
-//! The files of a bundle: so far the main manifest alone.
-ghost use Rattle.std.specs.Prelude.{◌≤◌, IfOk, length};
+//! The files of a bundle.
+ghost use Rattle.std.specs.Prelude.{◌≡◌, ◌≤◌, [], IfOk, IsSome, length};
+ghost use Rattle.std.specs.FinMap.{find};
+ghost use Rattle.pp_values.specs.Rising.{text_cmp};
+ghost use Rattle.pp_values.specs.declared.place.TheConstants.{MAIN_MANIFEST as MAIN};
 ghost use Rattle.serde_json.specs.View.{view, members_view};
-ghost use Rattle.site_bundle.specs.Refusals.{Reads};
-ghost use Rattle.site_bundle.specs.Files.{short_text, content_of, with_nothing_behind, manifest_among, manifest_of};
+ghost use Rattle.site_bundle.specs.Given.{is_manifest_path};
+ghost use Rattle.site_bundle.specs.Refusals.{Reads, ReadsAs};
+ghost use Rattle.site_bundle.specs.Files.{short_text, content_of, manifest_in, with_file, with_files, lacks_main, is_passed, files_of};
 
 use crate::bundle_stop::BundleStop;
-use crate::limits::MOST_FILE_BYTES;
+use crate::limits::{MOST_FILE_BYTES, MOST_FILES};
 use crate::refusing::{bad_member, bad_shape, too_large};
+use crate::site_files::SiteFiles;
 use pp_values::place::MAIN_MANIFEST;
 use pp_values::text::Text;
 use serde_json::{Map, Value};
 use std::alloc::Global;
 use std::cmp::Ordering;
 
-/// The main manifest of a bundle.
-pub fn read_manifest(alloc: Global, bundle: &Value) -> Result<Text, BundleStop>
-    ensures manifest { Reads result (manifest_of (view bundle.now)) }
-    ensures short { IfOk result (λ t. length t ≤ MOST_FILE_BYTES) }
+/// The files of a bundle, the main manifest among them. Each is read here.
+pub fn read_files(alloc: Global, bundle: &Value) -> Result<SiteFiles, BundleStop>
+    ensures files { Reads result (files_of (view bundle.now)) }
+    ensures main { IfOk result (λ fs. IsSome (find text_cmp MAIN.now fs)) }
 {
     match bundle.get("files").and_then(Value::as_object) {
-        Some(files) => manifest_among(alloc, files),
+        Some(files) => files_among(alloc, files),
         None => Err(bad_shape(alloc, "files")),
     }
 }
 
 /// The files come by path in byte order.
-fn manifest_among(alloc: Global, files: &Map<String, Value>) -> Result<Text, BundleStop>
-    ensures { Reads result (manifest_among (members_view files.now.entries)) }
+fn files_among(alloc: Global, members: &Map<String, Value>) -> Result<SiteFiles, BundleStop>
+    ensures files { Reads result (with_files (members_view members.now.entries) []) }
+    ensures main { IfOk result (λ fs. IsSome (find text_cmp MAIN.now fs)) }
 {
-    let mut files = files.iter();
-    let Some((path, content)) = files.next() else {
-        return Err(bad_member(alloc, "files", MAIN_MANIFEST));
-    };
-    match path.as_str().cmp(MAIN_MANIFEST) {
-        Ordering::Less => Err(bad_member(alloc, "files", path.as_str())),
-        Ordering::Greater => Err(bad_member(alloc, "files", MAIN_MANIFEST)),
-        Ordering::Equal => {
-            let manifest = read_content(alloc, content)?;
-            match files.next() {
-                Some((path, _)) => Err(bad_member(alloc, "files", path.as_str())),
-                None => Ok(manifest),
-            }
+    let main = Text::from_str(alloc, MAIN_MANIFEST)?;
+    let mut files = SiteFiles::new(alloc);
+    for (path, content) in members {
+        if is_passed(&files, &main, path.as_str()) {
+            return Err(bad_member(alloc, "files", MAIN_MANIFEST));
         }
+        with_file(alloc, path.as_str(), content, &mut files)?;
+    }
+    if lacks_main(&files, &main) {
+        return Err(bad_member(alloc, "files", MAIN_MANIFEST));
+    }
+    Ok(files)
+}
+
+/// Whether the path stands behind that of the main manifest, which did not come.
+fn is_passed(files: &SiteFiles, main: &Text, path: &str) -> bool
+    requires { main.now ≡ MAIN.now }
+    ensures { result ≡ is_passed files.now path.now }
+{
+    match path.cmp(MAIN_MANIFEST) {
+        Ordering::Less => false,
+        Ordering::Equal => false,
+        Ordering::Greater => lacks_main(files, main),
     }
 }
 
-fn read_content(alloc: Global, content: &Value) -> Result<Text, BundleStop>
-    ensures { Reads result (content_of (view content.now)) }
+fn lacks_main(files: &SiteFiles, main: &Text) -> bool
+    requires { main.now ≡ MAIN.now }
+    ensures { result ≡ lacks_main files.now }
+{
+    match files.get(main) {
+        Some(_) => false,
+        None => true,
+    }
+}
+
+fn with_file(
+    alloc: Global,
+    path: &str,
+    content: &Value,
+    files: &mut SiteFiles,
+) -> Result<(), BundleStop>
+    ensures { ReadsAs (λ done. files.new) result (with_file files.old path.now (view content.now)) }
+{
+    if files.len() >= MOST_FILES {
+        return Err(too_large(alloc, path));
+    }
+    let text = manifest_in(alloc, path, content)?;
+    let path = Text::from_str(alloc, path)?;
+    files.read(alloc, path, text)?;
+    Ok(())
+}
+
+fn manifest_in(alloc: Global, path: &str, content: &Value) -> Result<Text, BundleStop>
+    ensures manifest { Reads result (manifest_in path.now (view content.now)) }
+    ensures short { IfOk result (λ t. length t ≤ MOST_FILE_BYTES) }
+{
+    if is_manifest_path(path.as_bytes()) {
+        read_content(alloc, path, content)
+    } else {
+        Err(bad_member(alloc, "files", path))
+    }
+}
+
+fn is_manifest_path(path: &[u8]) -> bool
+    ensures { result ≡ is_manifest_path path.now }
+{
+    let front = path.len().saturating_sub(3);
+    &path[front..] == b".pp".as_slice()
+}
+
+fn read_content(alloc: Global, path: &str, content: &Value) -> Result<Text, BundleStop>
+    ensures text { Reads result (content_of path.now (view content.now)) }
+    ensures short { IfOk result (λ t. length t ≤ MOST_FILE_BYTES) }
 {
     match content.as_str() {
-        Some(text) => short_text(alloc, text),
-        None => Err(bad_member(alloc, "files", MAIN_MANIFEST)),
+        Some(text) => short_text(alloc, path, text),
+        None => Err(bad_member(alloc, "files", path)),
     }
 }
 
-fn short_text(alloc: Global, text: &str) -> Result<Text, BundleStop>
-    ensures { Reads result (short_text text.now) }
+fn short_text(alloc: Global, path: &str, text: &str) -> Result<Text, BundleStop>
+    ensures text { Reads result (short_text path.now text.now) }
+    ensures short { IfOk result (λ t. length t ≤ MOST_FILE_BYTES) }
 {
     if text.len() <= MOST_FILE_BYTES {
         Ok(Text::from_str(alloc, text)?)
     } else {
-        Err(too_large(alloc, MAIN_MANIFEST))
+        Err(too_large(alloc, path))
     }
 }

@@ -9,11 +9,11 @@ ghost use Rattle.site_bundle.specs.Bundles.{is_bundle, members_of, bundle_in, bu
 use crate::bundle::Bundle;
 use crate::bundle_stop::BundleStop;
 use crate::document::read_document;
-use crate::files::read_manifest;
+use crate::files::read_files;
 use crate::nodes::read_nodes;
 use crate::refusing::bad_shape;
 use crate::requests::read_requests;
-use crate::site::site_of_main;
+use crate::site::site_with;
 use serde_json::Value;
 use std::alloc::Global;
 
@@ -56,12 +56,12 @@ fn members_of(alloc: Global, document: &Value) -> Result<Bundle, BundleStop>
     ensures facts { IfOk result (λ b. IsTrue (give_facts b.requests)) }
     ensures few { IfOk result (λ b. length b.requests ≤ MOST_REQUESTS) }
 {
-    let manifest = read_manifest(alloc, document)?;
+    let files = read_files(alloc, document)?;
     let nodes = read_nodes(alloc, document)?;
     let requests = read_requests(alloc, document)?;
     if document.get("machine").is_some() {
         return Err(bad_shape(alloc, "machine"));
     }
-    let site = site_of_main(alloc, manifest, nodes)?;
+    let site = site_with(alloc, files, nodes)?;
     Ok(Bundle { site, requests })
 }

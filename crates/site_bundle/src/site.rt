@@ -1,5 +1,7 @@
 //! Sites.
-ghost use Rattle.std.specs.Prelude.{◌≡◌, ◌+◌, ◌^◌, ◌<◌, [], ◌∷◌, length, IsTrue, IfOk, IfSome, option_map};
+ghost use Rattle.std.specs.Prelude.{◌≡◌, ◌+◌, ◌^◌, ◌<◌, [], ◌∷◌, length, IsSome, IsTrue, IfOk, IfSome, option_map};
+ghost use Rattle.std.specs.FinMap.{find};
+ghost use Rattle.pp_values.specs.Rising.{text_cmp};
 ghost use Rattle.pp_parser.specs.Manifest.{file_of};
 ghost use Rattle.pp_values.specs.Facts.{are_facts};
 ghost use Rattle.pp_values.specs.Views.{view};
@@ -111,6 +113,15 @@ pub fn site_of_main(alloc: Global, manifest: Text, nodes: ListedNodes) -> Result
     let main = Text::from_str(alloc, MAIN_MANIFEST)?;
     let mut files = SiteFiles::new(alloc);
     files.read(alloc, main.copy(alloc)?, manifest)?;
+    Ok(Site { main, files, nodes })
+}
+
+/// The site of these files, the main manifest among them, with nodes that are listed already.
+pub fn site_with(alloc: Global, files: SiteFiles, nodes: ListedNodes) -> Result<Site, Memory>
+    requires { IsSome (find text_cmp MAIN_MANIFEST.now files) }
+    ensures { IfOk result (λ s. s ≡ record { files = files; nodes = nodes }) }
+{
+    let main = Text::from_str(alloc, MAIN_MANIFEST)?;
     Ok(Site { main, files, nodes })
 }
 

@@ -55,6 +55,13 @@ impl SiteFiles {
         Ok(())
     }
 
+    /// How many manifests there are.
+    pub fn len(&self) -> usize
+        ensures { result ≡ length self.now }
+    {
+        self.by_path.len()
+    }
+
     /// The manifest at this path.
     pub fn get(&self, path: &Text) -> Option<&ManifestFile>
         ensures text { option_map (λ f. f.now.text) result ≡ find text_cmp path.now self.now }

@@ -81,9 +81,9 @@ missing_before : bundle_of (codes "{\"bundle\":1,\"files\":{\"a.pp\":\"\",\"z.pp
 unfolding bundle_on_literals with_files
 missing_before = refl
 
-no_text : bundle_of (codes "{\"bundle\":1,\"files\":{\"a.pp\":1,\"z\":\"\"}}") ≡ Err (bad_shape (codes "files.a.pp"))
+content_no_text : bundle_of (codes "{\"bundle\":1,\"files\":{\"a.pp\":1,\"z\":\"\"}}") ≡ Err (bad_shape (codes "files.a.pp"))
 unfolding bundle_on_literals with_files
-no_text = refl
+content_no_text = refl
 
 -- the main manifest is missing where it should stand
 main_missing : bundle_of (codes "{\"bundle\":1,\"files\":{\"z\":\"\"}}") ≡ Err (bad_shape (codes "files.manifests/site.pp"))

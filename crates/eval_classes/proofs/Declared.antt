@@ -1,9 +1,9 @@
 -- What a declaration's body means, by its row.
-use Rattle.std.proofs.Common.{◌≡◌, ℕ, zero, suc, ◌<◌, List, [], ◌∷◌, length, Option, None, Some, refl, ap, sym, ◌∙◌, arith}
+use Rattle.std.proofs.Common.{◌≡◌, ℕ, zero, suc, ◌<◌, List, [], ◌∷◌, length, Some, refl, ap, sym, ◌∙◌, arith}
 use Rattle.std.specs.Prelude.{option_map, unwrap_or, slice_get}
 use Rattle.override_rules.specs.Names.{attributes_of}
 use Rattle.pp_values.specs.Settings.{Setting}
-use Rattle.res_book.specs.Rows.{item_at, reference_of, with_bound, with_change, bound_to}
+use Rattle.res_book.specs.Rows.{item_at, reference_of, with_change, bound_to}
 use Rattle.res_book.specs.declared.row.Row.{Row}
 use Rattle.res_core.specs.declared.declared.Declared.{Declared}
 use Rattle.eval_world.specs.Inner.{Inner}

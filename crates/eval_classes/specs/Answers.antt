@@ -1,5 +1,5 @@
 -- Answers that lend what they name, and answers placed at a line of the file whose code is evaluated.
-use Rattle.std.specs.Prelude.{◌≡◌, ℕ, Option, Result, Ok, Err}
+use Rattle.std.specs.Prelude.{◌≡◌, Option, Result, Ok, Err}
 use Rattle.std.specs.Option.{option_copied}
 use denote.Ref.{Bor}
 use Rattle.pp_values.specs.Answers.{IsRefused, fault_told}

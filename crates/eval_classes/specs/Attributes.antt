@@ -1,5 +1,5 @@
 -- Attributes by name, and the tags that they give.
-use Rattle.std.specs.Prelude.{ℕ, Bool, true, false, List, [], ◌∷◌, map, Option, None, Some, slice_get, codes}
+use Rattle.std.specs.Prelude.{ℕ, Bool, true, false, List, [], map, Option, None, Some, slice_get, codes}
 use Rattle.pp_funcs.specs.Lists.{flat}
 use Rattle.pp_values.specs.Datum as d
 use Rattle.pp_values.specs.Datum.{Datum}

@@ -1,7 +1,5 @@
 -- What the bodies of classes and instances mean. Both have names, parameters and a block.
-use Rattle.std.specs.Prelude.{ℕ, List, [], ◌++◌, Option, None, Some, option_map, unwrap_or, slice_get, Result, Ok, Err, codes}
-use Rattle.pp_tree.specs.declared.definition.Class.{Class}
-use Rattle.pp_tree.specs.declared.definition.Define.{Define}
+use Rattle.std.specs.Prelude.{ℕ, List, [], ◌++◌, Option, None, Some, option_map, unwrap_or, slice_get, Ok, codes}
 use Rattle.pp_tree.specs.declared.expr.Expr.{Expr}
 use Rattle.pp_tree.specs.declared.param.Param.{Param}
 use Rattle.pp_tree.specs.declared.statement.Statement.{Statement}

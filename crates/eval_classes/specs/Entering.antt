@@ -1,5 +1,5 @@
 -- Where the body of a class, of an instance or of a node is evaluated.
-use Rattle.std.specs.Prelude.{ℕ, ◌+◌, List, length, Some, Ok}
+use Rattle.std.specs.Prelude.{ℕ, ◌+◌, length, Some, Ok}
 use Rattle.override_rules.specs.Meaning.{scope_opened}
 use Rattle.scope_core.specs.Scopes.{entered}
 use Rattle.scope_core.specs.declared.scope_kind.ScopeKind.{ScopeKind}

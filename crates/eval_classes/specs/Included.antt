@@ -1,6 +1,6 @@
 -- The functions `include` and `contain`.
 use Rattle.std.specs.Prelude.{ℕ, Bool, true, false, if◌then◌else◌, List, [], ◌∷◌, ◌++◌, map, Option, None, Some}
-use Rattle.std.specs.Prelude.{Result, Ok, Err, codes}
+use Rattle.std.specs.Prelude.{Ok, codes}
 use Rattle.std.specs.Str.{bytes_eq}
 use Rattle.pp_funcs.specs.Lists.{flat_members}
 use Rattle.pp_tree.specs.Names.{normal}

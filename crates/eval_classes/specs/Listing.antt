@@ -20,7 +20,6 @@ use Rattle.scope_core.specs.declared.scope_kind.ScopeKind.TheVariants as kind
 use Rattle.eval_world.specs.Inner.{Inner}
 use Rattle.eval_world.specs.Outcomes.{Step, ◌>>=◌, ◌>>◌, pure, answered}
 use Rattle.eval_world.specs.Owners.{Owners, owner_at, with_owner}
-use Rattle.eval_world.specs.declared.here.Here.{Here}
 use Rattle.eval_world.specs.Manifests.{Manifests}
 use Rattle.eval_world.specs.declared.owner.Owner.{Owner}
 use Rattle.eval_world.specs.declared.world.World.{World}

@@ -1,6 +1,6 @@
 -- Lists that are kept as stacks: what comes first is what was put on last.
 use denote.Ref.{Bor}
-use Rattle.std.specs.Prelude.{ℕ, List, ◌∷◌, map, reverse}
+use Rattle.std.specs.Prelude.{ℕ, List, map, reverse}
 use Rattle.pp_tree.specs.declared.definition.Class.{Class}
 use Rattle.eval_classes.specs.declared.chain.Chain as code
 use Rattle.eval_classes.specs.declared.entered.Entered as code_entered

@@ -23,10 +23,7 @@ pub fn is_value(value: &Value) -> bool
 }
 
 /// The attributes of an ordered map.
-pub fn attributes_from(
-    alloc: Global,
-    set: BTreeMap<Text, Evaluated>,
-) -> Result<Attributes, Memory>
+pub fn attributes_from(alloc: Global, set: BTreeMap<Text, Evaluated>) -> Result<Attributes, Memory>
     requires { IsTrue (is_rising (setting_names set.entries)) }
     ensures { IfOk result (λ a. a ≡ set.entries) }
 {

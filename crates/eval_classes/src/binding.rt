@@ -17,11 +17,7 @@ pub struct Binding {
 }
 
 impl Binding {
-    pub fn new(
-        alloc: Global,
-        given: Attributes,
-        item: &Declared,
-    ) -> Result<Binding, Memory>
+    pub fn new(alloc: Global, given: Attributes, item: &Declared) -> Result<Binding, Memory>
         ensures { IfOk result (λ b. b
             ≡ record { given = given; of = reference_of item.now; at = item.now.at }) }
     {

@@ -48,11 +48,7 @@ pub fn class_body<
 fn declared_class<
     F: Fn(&mut World<'_>, Goal<'_>, Here, u32) -> Result<Evaluated, Stop>,
     M: Meaning,
->(
-    forms: &Forms<F, M>,
-    world: &mut World<'_>,
-    body: Listed,
-) -> Result<Evaluated, Stop>
+>(forms: &Forms<F, M>, world: &mut World<'_>, body: Listed) -> Result<Evaluated, Stop>
     requires nests { Nests (M.within forms.now.left) forms.now.left (F.pre forms.now.inner) (F.post forms.now.inner) }
     requires there { body.number < length world.old.book }
     ensures { Gives same (spec.class_rule (M.within forms.now.left) body.number body.line body.here world.old) result
@@ -112,11 +108,7 @@ pub fn instance_body<
 fn declared_instance<
     F: Fn(&mut World<'_>, Goal<'_>, Here, u32) -> Result<Evaluated, Stop>,
     M: Meaning,
->(
-    forms: &Forms<F, M>,
-    world: &mut World<'_>,
-    body: Listed,
-) -> Result<Evaluated, Stop>
+>(forms: &Forms<F, M>, world: &mut World<'_>, body: Listed) -> Result<Evaluated, Stop>
     requires nests { Nests (M.within forms.now.left) forms.now.left (F.pre forms.now.inner) (F.post forms.now.inner) }
     requires there { body.number < length world.old.book }
     ensures { Gives same (spec.instance_rule (M.within forms.now.left) body.number body.line body.here world.old) result

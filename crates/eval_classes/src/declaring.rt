@@ -85,7 +85,14 @@ fn resource_of(
     let kind = Kind::from_str(alloc, "class")?;
     let title = class_name(alloc, class)?;
     let own = given_tags(alloc, given)?;
-    let tags = tags_within(alloc, book, Some(owner.resource), kind.as_text(), &title, &own)?;
+    let tags = tags_within(
+        alloc,
+        book,
+        Some(owner.resource),
+        kind.as_text(),
+        &title,
+        &own,
+    )?;
     let attributes = copy_attributes(alloc, given)?;
     Ok(Resource {
         kind,

@@ -19,7 +19,9 @@ pub fn enter_body(
 ) -> Result<Here, Stop>
     ensures { Gives same (spec.enter_rule kind parent outer owner world.old) result world.new }
 {
-    let scope = world.scopes.enter(world.heap.alloc(), kind, ScopeId { number: parent })?;
+    let scope = world
+        .scopes
+        .enter(world.heap.alloc(), kind, ScopeId { number: parent })?;
     world.overrides.open_scope(scope.number, Some(outer))?;
     let owner = world.owners.add(Owner {
         file: owner.file,

@@ -50,10 +50,7 @@ fn refused(world: &World<'_>, function: &Text, line: u32, here: Here) -> Result<
 }
 
 #[tactic(auto, unfolding(crate::specs::Included::include_names))]
-fn include_names<
-    F: Fn(&mut World<'_>, Goal<'_>, Here, u32) -> Result<Evaluated, Stop>,
-    M: Meaning,
->(
+fn include_names<F: Fn(&mut World<'_>, Goal<'_>, Here, u32) -> Result<Evaluated, Stop>, M: Meaning>(
     forms: &Forms<F, M>,
     world: &mut World<'_>,
     including: Including,
@@ -159,7 +156,9 @@ fn contain_number(world: &mut World<'_>, number: Option<u32>, here: Here) -> Res
 {
     if let Some(inner) = number {
         let outer = world.owners.get(here.owner).resource;
-        world.relations.add_containment(Containment { outer, inner })?;
+        world
+            .relations
+            .add_containment(Containment { outer, inner })?;
     }
     Ok(())
 }

@@ -19,11 +19,7 @@ use std::alloc::Global;
 pub fn run_instance<
     F: Fn(&mut World<'_>, Goal<'_>, Here, u32) -> Result<Evaluated, Stop>,
     M: Meaning,
->(
-    forms: &Forms<F, M>,
-    world: &mut World<'_>,
-    number: u32,
-) -> Result<(), Stop>
+>(forms: &Forms<F, M>, world: &mut World<'_>, number: u32) -> Result<(), Stop>
     requires { Nests (M.within forms.now.left) forms.now.left (F.pre forms.now.inner) (F.post forms.now.inner) }
     ensures { Gives nothing (spec.run_rule (M.within forms.now.left) number world.old) result world.new }
 {
@@ -34,10 +30,7 @@ pub fn run_instance<
 }
 
 #[tactic(auto, unfolding(crate::specs::Bodies::run_rule, crate::specs::Bodies::run_item))]
-fn run_declared<
-    F: Fn(&mut World<'_>, Goal<'_>, Here, u32) -> Result<Evaluated, Stop>,
-    M: Meaning,
->(
+fn run_declared<F: Fn(&mut World<'_>, Goal<'_>, Here, u32) -> Result<Evaluated, Stop>, M: Meaning>(
     forms: &Forms<F, M>,
     world: &mut World<'_>,
     number: u32,

@@ -21,10 +21,7 @@ use std::alloc::Global;
 
 /// Enters the scopes of these classes, the last parent's first.
 #[tactic(auto, unfolding(crate::specs::Listing::enter_chain))]
-pub fn enter_chain<'a>(
-    world: &mut World<'a>,
-    chain: Chain<'a>,
-) -> Result<Vec<Entered<'a>>, Stop>
+pub fn enter_chain<'a>(world: &mut World<'a>, chain: Chain<'a>) -> Result<Vec<Entered<'a>>, Stop>
     ensures { Gives (λ v. stack_of entered_seen v.items) (spec.enter_chain (chain_seen chain.entry) world.old) result
         world.new }
 {
@@ -63,7 +60,11 @@ fn enter_scope(world: &mut World<'_>, class: &Class, parent: u32) -> Result<Scop
 {
     let name = class_name(world.heap.alloc(), class)?;
     let parent = ScopeId { number: parent };
-    Ok(world.scopes.enter(world.heap.alloc(), ScopeKind::Class(name), parent)?)
+    Ok(
+        world
+            .scopes
+            .enter(world.heap.alloc(), ScopeKind::Class(name), parent)?,
+    )
 }
 
 /// The scope that a class is entered from: that of its parent, which is declared already, or else top scope.
@@ -152,7 +153,13 @@ fn own(
     ensures { Gives same (spec.own_rule class.now scope.number number from world.old) result world.new }
 {
     let outer = world.owners.get(from).scope;
-    let owner = class_owner(world.heap.alloc(), &world.manifests, class, number, scope.number)?;
+    let owner = class_owner(
+        world.heap.alloc(),
+        &world.manifests,
+        class,
+        number,
+        scope.number,
+    )?;
     world.overrides.open_scope(scope.number, Some(outer))?;
     let owner = world.owners.add(owner)?;
     Ok(Listed {

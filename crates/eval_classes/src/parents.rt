@@ -58,11 +58,7 @@ fn comes_to(
     Ok(false)
 }
 
-fn parent_at(
-    alloc: Global,
-    manifests: &Manifests<'_>,
-    name: &Text,
-) -> Result<Option<Text>, Memory>
+fn parent_at(alloc: Global, manifests: &Manifests<'_>, name: &Text) -> Result<Option<Text>, Memory>
     ensures { IfOk result (λ p. p ≡ spec.parent_at manifests.now name.now) }
 {
     match class_in(find(alloc, manifests, name)?) {

@@ -1,6 +1,4 @@
-use Rattle.std.proofs.Common.{ap}
 use Rattle.res_core.proofs.SegmentLemmas.{segments_whole}
-use Rattle.eval_classes.specs.Definitions.{within_modules}
 use Rattle.eval_classes.proofs.Segments.{within_further}
 use Rattle.eval_classes.proofs.paths.put_path.Goals as goal
 

@@ -5,3 +5,5 @@ pub mod Scopes
 pub mod Segments
 pub mod Stacks
 pub mod Ways
+mod Examples
+mod Samples

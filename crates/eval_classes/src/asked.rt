@@ -2,13 +2,12 @@
 ghost use Rattle.std.specs.Prelude.{◌≡◌, [], map, IfOk};
 ghost use Rattle.eval_classes.specs.Included as spec;
 ghost use Rattle.pp_funcs.specs.Lists.{behind};
-ghost use Rattle.pp_values.specs.Datum as d;
 ghost use Rattle.pp_values.specs.Views.{view};
 
 use crate::flattening::flat_members;
-use crate::names::normal_name;
+use crate::names::{class_reference, normal_name};
 use eval_world::Evaluated;
-use pp_values::{Kind, Memory, Reference, Text, Texts, Value, Values};
+use pp_values::{Memory, Reference, Text, Texts, Value, Values};
 use std::alloc::Global;
 
 /// The names of the classes that are asked for, lists flattened; `None` where there is no argument, or where one is
@@ -71,16 +70,7 @@ fn reference_values(alloc: Global, names: &[Text]) -> Result<Values, Memory>
 {
     let mut list = Values::new(alloc);
     for name in names {
-        list.push(Value::Ref(reference_to(alloc, name)?))?;
+        list.push(Value::Ref(class_reference(alloc, name)?))?;
     }
     Ok(list)
-}
-
-fn reference_to(alloc: Global, name: &Text) -> Result<Reference, Memory>
-    ensures { IfOk result (λ r. d.reference r ≡ spec.reference_to name.now) }
-{
-    Ok(Reference {
-        kind: Kind::from_str(alloc, "class")?,
-        title: name.copy(alloc)?,
-    })
 }

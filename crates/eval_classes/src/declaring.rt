@@ -5,11 +5,11 @@ ghost use Rattle.eval_classes.specs.Listing as spec;
 ghost use Rattle.eval_world.specs.Outcomes.{Gives, same};
 ghost use Rattle.res_book.specs.Rows as rows;
 
-use crate::names::{class_name, param_names};
+use crate::names::{class_name, class_reference, param_names};
 use crate::tagging::{given_tags, tags_within};
 use eval_world::{Owner, World};
 use pp_tree::definition::Class;
-use pp_values::{Kind, Memory, Place, Reference, Stop, Text};
+use pp_values::{Kind, Memory, Place, Stop, Text};
 use res_book::{Book, Mode};
 use res_core::{Attributes, Declared, Resource, copy_attributes};
 use std::alloc::Global;
@@ -18,10 +18,7 @@ use std::alloc::Global;
 pub fn number_of(alloc: Global, book: &Book, name: &Text) -> Result<Option<u32>, Memory>
     ensures { IfOk result (λ n. n ≡ rows.number_of (spec.class_reference name.now) book.now) }
 {
-    let reference = Reference {
-        kind: Kind::from_str(alloc, "class")?,
-        title: name.copy(alloc)?,
-    };
+    let reference = class_reference(alloc, name)?;
     Ok(book.find(&reference))
 }
 

@@ -107,9 +107,9 @@ fn include_one<F: Fn(&mut World<'_>, Goal<'_>, Here, u32) -> Result<Evaluated, S
     contain(world, including, class, here)
 }
 
-/// A class that is declared already stays as it is.
+/// Declares a class as `include` does: one that is declared already stays as it is.
 #[tactic(auto, unfolding(crate::specs::Included::declared_once))]
-fn declare_once<
+pub fn declare_once<
     'a,
     F: Fn(&mut World<'_>, Goal<'_>, Here, u32) -> Result<Evaluated, Stop>,
     M: Meaning,

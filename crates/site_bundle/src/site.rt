@@ -56,7 +56,7 @@ impl Model for Site {
 }
 
 impl Site {
-    pub fn files(&self) -> &ManifestFiles
+    pub fn files(&self) -> &SiteFiles
         ensures { result.now ≡ self.now.files }
     {
         &self.files

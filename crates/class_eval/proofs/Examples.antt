@@ -1,17 +1,24 @@
 -- The definitions at worked examples. Each line with `refl` holds by computing.
 use Rattle.std.proofs.Common.{◌≡◌, ℕ, true, false, List, [], ◌∷◌, None, Some, Ok, Err, refl, codes, pos}
-use Rattle.pp_tree.specs.Building.{expr_at}
+use Rattle.pp_tree.specs.Building.{expr_at, node_name}
+use Rattle.pp_tree.specs.Building.{node_of as node_of_names}
+use Rattle.pp_tree.specs.Tables.{Entries}
+use Rattle.pp_tree.specs.declared.definition.Definition.TheVariants as definition
+use Rattle.pp_tree.specs.declared.definition.Node.{Node}
 use Rattle.pp_tree.specs.declared.expr.Expr.{Expr}
 use Rattle.pp_tree.specs.declared.expr.Form as forms
 use Rattle.pp_tree.specs.declared.expr.Form.TheVariants as f
+use Rattle.pp_tree.specs.declared.table.DefinitionName.TheVariants as name
 use Rattle.pp_values.specs.Datum as d
 use Rattle.pp_values.specs.Datum.{Datum}
 use Rattle.pp_values.specs.Faults.{fault}
 use Rattle.pp_values.specs.declared.fault.What.TheVariants as what
-use Rattle.class_eval.specs.Evaluating.{value_at, block_at}
+use Rattle.class_eval.specs.Evaluating.{value_at, block_at, has_nodes, node_of, node_owner, node_rule, nodes_rule}
 use Rattle.class_eval.specs.Facts.{host_of, domain_of, is_variable}
 use Rattle.class_eval.specs.Meaning.{within, value_rule}
 use Rattle.class_eval.specs.Statements.{statements_from, or_before}
+use Rattle.scope_core.specs.declared.scope_kind.ScopeKind.TheVariants as kind
+use Rattle.eval_classes.specs.Entering.{enter_rule, with_body}
 use Rattle.eval_world.specs.Worlds.{top, place_at}
 use Rattle.eval_world.specs.declared.world.World.{World}
 
@@ -52,6 +59,51 @@ deepest_value w = refl
 too_deep : (w : World) → value_at deeper top 1001 w ≡ Err (fault (place_at w top 6) what.DepthLimit)
 unfolding within
 too_deep w = refl
+
+-- ---- nodes
+
+-- `node 'a', 'b' { }` at line 3, and `node default { }` at line 4
+abbrev two : Node
+two = node_of_names (node_name (Some (codes "a")) 3 ∷ node_name (Some (codes "b")) 3 ∷ []) [] 3
+
+abbrev default : Node
+default = node_of_names (node_name None 4 ∷ []) [] 4
+
+abbrev nodes : Entries
+nodes =
+    (name.Node (Some (codes "a")), definition.Node two)
+    ∷ (name.Node (Some (codes "b")), definition.SameNode (Some (codes "a")))
+    ∷ (name.Node None, definition.Node default)
+    ∷ []
+
+first_name : node_of nodes (codes "a") ≡ Some two
+unfolding node_of
+first_name = refl
+
+further_name : node_of nodes (codes "b") ≡ Some two
+unfolding node_of
+further_name = refl
+
+-- names are exact
+other_name : node_of nodes (codes "A") ≡ Some default
+unfolding node_of
+other_name = refl
+
+-- F19 where nodes are defined and none of them is for this one; nothing where none is defined
+no_node : (w : World) → nodes_rule ((name.Node (Some (codes "a")), definition.Node two) ∷ []) (codes "c") w
+    ≡ Err (fault (place_at w top 1) (what.NoNode (codes "c")))
+unfolding nodes_rule has_nodes node_of
+no_node w = refl
+
+no_nodes : (w : World) → nodes_rule [] (codes "c") w ≡ Ok (tt, w)
+unfolding nodes_rule has_nodes
+no_nodes w = refl
+
+-- its block has depth 1, and F29 would stand where the definition begins
+node_block : (w : World) → node_rule default w
+    ≡ Ok (tt, with_body kind.Node 0 0 node_owner w)
+unfolding node_rule enter_rule within statements_from
+node_block w = refl
 
 -- ---- blocks
 

@@ -11,13 +11,14 @@ use Rattle.pp_values.specs.declared.fault.What.TheVariants as what
 use Rattle.class_eval.specs.Postfixes.{postfixed_rule}
 use Rattle.class_eval.specs.Statements.{block_rule}
 use Rattle.eval_calls.specs.Calls.{call_rule, words_rule}
+use Rattle.eval_classes.specs.Bodies.{class_rule, instance_rule}
 use Rattle.eval_forms.specs.Conditions.{if_rule, unless_rule, case_rule}
 use Rattle.eval_forms.specs.Literals.{list_rule, hash_rule, interpolated_rule}
 use Rattle.eval_forms.specs.Operators.{prefix_rule, binary_rule, assigned_rule}
 use Rattle.eval_forms.specs.Types.{type_rule}
 use Rattle.eval_world.specs.Inner.{Inner}
 use Rattle.eval_world.specs.Outcomes.{Step, pure}
-use Rattle.eval_world.specs.Worlds.{read, fault, not_built}
+use Rattle.eval_world.specs.Worlds.{read, fault}
 use Rattle.eval_world.specs.declared.goal.Goal.{Goal}
 use Rattle.eval_world.specs.declared.goal.Goal.TheVariants as goal
 use Rattle.eval_world.specs.declared.here.Here.{Here}
@@ -77,8 +78,8 @@ one_more inner = record {
   value = value_rule inner;
   block = λ b line here. block_rule inner b here;
   words = words_rule inner;
-  class = λ n line here. not_built here line;
-  instance = λ n line here. not_built here line;
+  class = class_rule inner;
+  instance = instance_rule inner;
 }
 
 -- what each part means where so many levels are left

@@ -2,6 +2,7 @@
 use Rattle.std.specs.Prelude.{List, [], ◌∷◌, Some, None, codes}
 use Rattle.pp_values.specs.Datum.{Datum}
 use Rattle.pp_values.specs.declared.place.TheConstants.{MAIN_MANIFEST}
+use Rattle.override_rules.specs.Meaning.{scope_opened}
 use Rattle.res_book.specs.Rows.{new_row}
 use Rattle.res_book.specs.declared.mode.Mode.TheVariants as mode
 use Rattle.res_book.specs.declared.row.Row.{Row}
@@ -34,9 +35,13 @@ main_class = record {
 abbrev pub main_row : Row
 main_row = record (new_row main_class mode.Plain) { bound = Some [] }
 
--- `Class[main]` is declaration 0, and top scope has its names
+-- `Class[main]` is declaration 0; top scope has its names, and no dynamic parent
 abbrev pub begun : Name → Datum → World → World
-begun node facts w = record w { scopes = with_top_names node facts w.scopes; book = main_row ∷ [] }
+begun node facts w = record w {
+  scopes = with_top_names node facts w.scopes;
+  book = main_row ∷ [];
+  overrides = scope_opened 0 None w.overrides;
+}
 
 abbrev pub started : Manifests → Name → Datum → World
 started manifests node facts = begun node facts (empty manifests)

@@ -6,18 +6,22 @@ ghost use Rattle.class_eval.specs.Meaning.{within};
 ghost use Rattle.class_eval.specs.Starting.{started};
 ghost use Rattle.eval_world.specs.Outcomes.{Gives, nothing, same};
 
+use crate::classes::class_at;
 use crate::knot::{Whole, evaluate};
-use crate::nodes::first_node;
+use crate::nodes::{has_nodes, node_of};
 use crate::starting::start_world;
 use crate::statements::block;
+use eval_classes::{BodyOwner, enter_body, run_instance};
 use eval_world::{Evaluated, Forms, Goal, Here, Manifests, World};
 use override_rules::Overrides;
+use pp_tree::definition::Node;
 use pp_tree::expr::Expr;
 use pp_tree::statement::Block;
 use pp_tree::table::Table;
-use pp_values::{Memory, Stop, Text, Value};
+use pp_values::{MAIN_MANIFEST, Memory, Place, Stop, Text, Value, What};
 use res_book::{Book, Relations};
-use res_core::LogLines;
+use res_core::{Attributes, LogLines};
+use scope_core::{ScopeId, ScopeKind, Scopes};
 use std::alloc::Global;
 use std::marker::PhantomData;
 
@@ -28,6 +32,8 @@ pub const GREATEST_DEPTH: u32 = 1_000;
 #[derive(Drop)]
 pub struct Evaluator<'a> {
     pub world: World<'a>,
+    /// The name of the node that is compiled.
+    pub node: Text,
 }
 
 impl<'a> Evaluator<'a> {
@@ -38,11 +44,12 @@ impl<'a> Evaluator<'a> {
         node: &Text,
         facts: &Value,
     ) -> Result<Evaluator<'a>, Memory>
-        ensures { IfOk result (λ e. e.world ≡ started manifests.entry node.now (view facts.now)) }
+        ensures world { IfOk result (λ e. e.world ≡ started manifests.entry node.now (view facts.now)) }
+        ensures node { IfOk result (λ e. e.node ≡ node.now) }
     {
-        Ok(Evaluator {
-            world: start_world(alloc, manifests, node, facts)?,
-        })
+        let name = node.copy(alloc)?;
+        let world = start_world(alloc, manifests, node, facts)?;
+        Ok(Evaluator { world, node: name })
     }
 
     /// The tables that finishing reads, and the lines of the log.
@@ -52,7 +59,7 @@ impl<'a> Evaluator<'a> {
         ensures relations { result.2 ≡ self.world.relations }
         ensures log { result.3 ≡ self.world.log }
     {
-        let Evaluator { world } = self;
+        let Evaluator { world, node: _node } = self;
         world.into_parts()
     }
 
@@ -81,13 +88,11 @@ impl<'a> Evaluator<'a> {
         )
     }
 
-    /// Runs the statements of the main manifest. A node definition is not evaluated yet.
+    /// Runs the statements of the main manifest, and then the node's definition, where nodes are defined.
     #[tactic(auto, unfolding(crate::specs::Evaluating::main_rule))]
     pub fn run_main(&mut self) -> Result<(), Stop>
-        ensures { Gives nothing
-            (spec.main_rule self.old.world.manifests.main.statements self.old.world.manifests.main.definitions
-            self.old.world)
-            result self.new.world }
+        ensures { Gives nothing (spec.main_rule self.old.world.manifests.main self.old.node self.old.world) result
+            self.new.world }
     {
         let main = self.world.manifests.main();
         let forms: Forms<_, Whole> = Forms {
@@ -96,7 +101,55 @@ impl<'a> Evaluator<'a> {
             meaning: PhantomData,
         };
         block(&forms, &mut self.world, &main.statements, Here::top())?;
-        no_node(&self.world, &main.definitions)
+        run_nodes(&mut self.world, &main.definitions, &self.node)
+    }
+
+    /// Declares the class of a name, as the code that stands here does at this depth: as by `include`, or with what is
+    /// given as by `class { }`. The answer is its number.
+    pub fn declare_class(
+        &mut self,
+        name: &Text,
+        given: Option<Attributes>,
+        here: Here,
+        at: &Place,
+        depth: u32,
+    ) -> Result<u32, Stop>
+        ensures { Gives same (spec.class_at name.now given at.now here depth self.old.world) result self.new.world }
+    {
+        class_at(&mut self.world, name, given, here, at, levels_left(depth))
+    }
+
+    /// Evaluates the instance of this declaration, which stands at this depth.
+    pub fn run_instance(&mut self, number: u32, depth: u32) -> Result<(), Stop>
+        ensures { Gives nothing (spec.instance_at number depth self.old.world) result self.new.world }
+    {
+        let forms: Forms<_, Whole> = Forms {
+            left: levels_left(depth),
+            inner: evaluate,
+            meaning: PhantomData,
+        };
+        run_instance(&forms, &mut self.world, number)
+    }
+
+    /// The declarations so far.
+    pub fn book(&self) -> &Book
+        ensures { result.now ≡ self.now.world.book }
+    {
+        &self.world.book
+    }
+
+    /// The scopes so far.
+    pub fn scopes(&self) -> &Scopes
+        ensures { result.now ≡ self.now.world.scopes }
+    {
+        &self.world.scopes
+    }
+
+    /// Top scope.
+    pub fn top_scope(&self) -> ScopeId
+        ensures { result.number ≡ 0 }
+    {
+        ScopeId { number: 0 }
     }
 }
 
@@ -107,14 +160,48 @@ fn levels_left(depth: u32) -> u32
     (GREATEST_DEPTH + 1).saturating_sub(depth)
 }
 
-fn no_node(world: &World<'_>, definitions: &Table) -> Result<(), Stop>
-    ensures { Gives nothing (spec.no_node (spec.first_node definitions.now) world.now) result world.now }
+#[tactic(auto, unfolding(crate::specs::Evaluating::nodes_rule))]
+fn run_nodes(world: &mut World<'_>, definitions: &Table, name: &Text) -> Result<(), Stop>
+    ensures { Gives nothing (spec.nodes_rule definitions.now name.now world.old) result world.new }
 {
-    match first_node(definitions) {
-        Some(line) => {
-            world.not_built(Here::top(), line)?;
-            Ok(())
-        }
-        None => Ok(()),
+    if has_nodes(definitions) {
+        return run_chosen(world, definitions, name);
     }
+    Ok(())
+}
+
+fn run_chosen(world: &mut World<'_>, definitions: &Table, name: &Text) -> Result<(), Stop>
+    ensures { Gives nothing (spec.chosen (spec.node_of definitions.now name.now) name.now world.old) result world.new }
+{
+    match node_of(world.heap.alloc(), definitions, name)? {
+        Some(node) => run_node(world, node),
+        None => {
+            let name = name.copy(world.heap.alloc())?;
+            Err(Stop::Fault(world.fault(Here::top(), 1, What::NoNode(name))?))
+        }
+    }
+}
+
+/// The block of a node's definition, in the node's scope.
+#[tactic(auto, unfolding(crate::specs::Evaluating::node_rule))]
+fn run_node(world: &mut World<'_>, node: &Node) -> Result<(), Stop>
+    ensures { Gives nothing (spec.node_rule node.now world.old) result world.new }
+{
+    let owner = node_owner(world.heap.alloc())?;
+    let own = enter_body(world, ScopeKind::Node, 0, 0, owner)?;
+    let goal = Goal::Block(&node.block, node.at);
+    drop(evaluate(world, goal, own, levels_left(1))?);
+    Ok(())
+}
+
+fn node_owner(alloc: Global) -> Result<BodyOwner, Memory>
+    ensures { IfOk result (λ o. o ≡ spec.node_owner) }
+{
+    let file = Text::from_str(alloc, MAIN_MANIFEST)?;
+    let source = Text::from_str(alloc, "node")?;
+    Ok(BodyOwner {
+        file,
+        source,
+        resource: 0,
+    })
 }

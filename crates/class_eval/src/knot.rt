@@ -9,6 +9,7 @@ ghost use Rattle.eval_world.specs.Outcomes.{Gives, same};
 use crate::postfixes::postfixed;
 use crate::statements::block;
 use eval_calls::{call, words};
+use eval_classes::{class_body, instance_body};
 use eval_forms::{
     assigned, binary, case_of, hash, if_of, interpolated, list, prefix, type_of, unless_of,
 };
@@ -116,7 +117,7 @@ pub fn evaluate(
         Goal::Value(expr) => form(&forms, world, expr, here),
         Goal::Block(statements, _) => block(&forms, world, statements, here),
         Goal::Words(said) => words(&forms, world, said, here),
-        Goal::Class(_, line) => world.not_built(here, line),
-        Goal::Instance(_, line) => world.not_built(here, line),
+        Goal::Class(number, line) => class_body(&forms, world, number, line, here),
+        Goal::Instance(number, line) => instance_body(&forms, world, number, line, here),
     }
 }

@@ -1,6 +1,7 @@
 //! The evaluator: what each form of the language gives, within one another to any lawful depth.
 #![tactic(auto)]
 
+mod classes;
 mod evaluator;
 mod knot;
 mod nodes;

@@ -29,6 +29,7 @@ fn begin(world: &mut World<'_>, node: &Text, facts: &Value) -> Result<(), Memory
 {
     let at = main_place(world.heap.alloc())?;
     put_top_names(world.heap.alloc(), &mut world.scopes, node, facts, &at)?;
+    world.overrides.open_scope(0, None)?;
     declare_main(world.heap.alloc(), &mut world.book)
 }
 

@@ -31,7 +31,9 @@ use Rattle.eval_world.specs.Worlds.{empty, fault, read, assign, enter_lambda, wr
 use Rattle.eval_world.specs.declared.here.Here.{Here}
 use Rattle.eval_world.specs.Manifests.{Manifests}
 use Rattle.eval_calls.specs.Calls.{invoked, invoked_on, words_rule}
-use Rattle.eval_calls.specs.Calls.{plain_rule, evaluated_rule, log_rule, with_lambda_rule, stray_lambda_rule}
+use Rattle.eval_calls.specs.Calls.{plain_rule, evaluated_rule, site_rule, log_rule, with_lambda_rule}
+use Rattle.eval_calls.specs.Calls.{stray_lambda_rule}
+use Rattle.eval_classes.specs.Included.{included, names_from}
 use Rattle.eval_calls.specs.Iterating.{turns_from, over_rule, iterate_rule, reduce_from, reduced, reduce_rule}
 use Rattle.eval_calls.specs.Iterating.{with_rule, lambda_function_rule}
 use Rattle.eval_calls.specs.Lambdas.{Opened, bind_rule, bind_from, lambda_rule}
@@ -206,7 +208,7 @@ fault_of_words m = refl
 
 -- once the arguments have their values
 abbrev plainly : List ℕ → List Datum → Step Datum
-plainly f arguments = plain_rule f arguments 3 top
+plainly f arguments = plain_rule (inner d.undef fails) f arguments 3 top
 
 -- the levels of the log are the functions' names
 abbrev levels : Outcome Datum → Result (List (List ℕ × List ℕ)) Fault
@@ -276,28 +278,29 @@ with_alone : wants_lambda (codes "with")
 unfolding plain_rule evaluated_rule needs_evaluator lambda_function owner_at
 with_alone m = refl
 
+-- classes are declared, and what names none is refused
+no_class : (m : Manifests) → run (plainly (codes "include") (one ∷ [])) m ≡ refuses 3 (what.WrongArguments (codes "include"))
+unfolding plain_rule evaluated_rule site_rule included names_from needs_evaluator lambda_function owner_at
+no_class m = refl
+
+contains_no_class : (m : Manifests) → run (plainly (codes "contain") []) m ≡ refuses 3 (what.WrongArguments (codes "contain"))
+unfolding plain_rule evaluated_rule site_rule included needs_evaluator lambda_function owner_at
+contains_no_class m = refl
+
 -- what is not evaluated yet
 abbrev is_not_built : List ℕ → Type 0
 is_not_built f = (m : Manifests) → run (plainly f (one ∷ [])) m ≡ refuses 3 what.NotBuilt
 
-include_to_come : is_not_built (codes "include")
-unfolding plain_rule evaluated_rule needs_evaluator lambda_function owner_at
-include_to_come m = refl
-
-contain_to_come : is_not_built (codes "contain")
-unfolding plain_rule evaluated_rule needs_evaluator lambda_function owner_at
-contain_to_come m = refl
-
 require_to_come : is_not_built (codes "require")
-unfolding plain_rule evaluated_rule needs_evaluator lambda_function owner_at
+unfolding plain_rule evaluated_rule site_rule needs_evaluator lambda_function owner_at
 require_to_come m = refl
 
 realize_to_come : is_not_built (codes "realize")
-unfolding plain_rule evaluated_rule needs_evaluator lambda_function owner_at
+unfolding plain_rule evaluated_rule site_rule needs_evaluator lambda_function owner_at
 realize_to_come m = refl
 
 lookup_to_come : is_not_built (codes "lookup")
-unfolding plain_rule evaluated_rule needs_evaluator lambda_function owner_at
+unfolding plain_rule evaluated_rule site_rule needs_evaluator lambda_function owner_at
 lookup_to_come m = refl
 
 arguments_before_not_built : (m : Manifests)

@@ -10,6 +10,8 @@ use Rattle.pp_values.specs.declared.fault.What.TheVariants as what
 use Rattle.expr_eval.specs.Names.{lambda_function}
 use Rattle.expr_eval.specs.Texts.{joined}
 use Rattle.expr_eval.specs.declared.functions.LambdaFunction.{LambdaFunction}
+use Rattle.eval_classes.specs.Included.{included, including_of}
+use Rattle.eval_classes.specs.declared.including.Including.{Including}
 use Rattle.eval_world.specs.Arguments.{values_from}
 use Rattle.eval_world.specs.Inner.{Inner}
 use Rattle.eval_world.specs.Outcomes.{Step, ◌>>=◌, ◌>>◌, pure}
@@ -28,21 +30,31 @@ log_rule f arguments = do
   write_log f (joined arguments)
   pure undef
 
--- A function that takes a lambda does not take its arguments without one. What is left are `include`, `contain`,
--- `require`, `realize` and `lookup`, which are not evaluated yet.
-abbrev pub without_lambda_by : Option LambdaFunction → List ℕ → ℕ → Here → Step Datum
-without_lambda_by (Some g) f line here = wrong f line here
-without_lambda_by None f line here = not_built here line
+-- Classes are declared. What is left are `require`, `realize` and `lookup`, which are not evaluated yet.
+abbrev pub site_by : Inner → Option Including → List ℕ → List Datum → ℕ → Here → Step Datum
+site_by inner (Some i) f arguments line here = included inner i f arguments line here
+site_by inner None f arguments line here = not_built here line
+
+-- a function that needs the site
+unfoldable pub site_rule : Inner → List ℕ → List Datum → ℕ → Here → Step Datum
+site_rule inner f arguments line here = site_by inner (including_of f) f arguments line here
+
+-- a function that takes a lambda does not take its arguments without one
+abbrev pub without_lambda_by : Inner → Option LambdaFunction → List ℕ → List Datum → ℕ → Here → Step Datum
+without_lambda_by inner (Some g) f arguments line here = wrong f line here
+without_lambda_by inner None f arguments line here = site_rule inner f arguments line here
 
 -- a function that needs the log, a lambda or the site
-unfoldable pub evaluated_rule : List ℕ → List Datum → ℕ → Here → Step Datum
-evaluated_rule f arguments line here =
-    if is_log f then log_rule f arguments else without_lambda_by (lambda_function f) f line here
+unfoldable pub evaluated_rule : Inner → List ℕ → List Datum → ℕ → Here → Step Datum
+evaluated_rule inner f arguments line here =
+    if is_log f then log_rule f arguments
+    else without_lambda_by inner (lambda_function f) f arguments line here
 
 -- any other function is one of its arguments alone, or there is none of that name
-unfoldable pub plain_rule : List ℕ → List Datum → ℕ → Here → Step Datum
-plain_rule f arguments line here =
-    if needs_evaluator f then evaluated_rule f arguments line here else at_line (applied f arguments) line here
+unfoldable pub plain_rule : Inner → List ℕ → List Datum → ℕ → Here → Step Datum
+plain_rule inner f arguments line here =
+    if needs_evaluator f then evaluated_rule inner f arguments line here
+    else at_line (applied f arguments) line here
 
 -- ---- with a lambda
 
@@ -62,7 +74,7 @@ with_lambda_rule inner f l arguments line here = with_lambda_by inner (lambda_fu
 
 -- the function of these arguments, and the lambda where there is one
 abbrev pub called : Inner → List ℕ → Option Opened → List Datum → ℕ → Here → Step Datum
-called inner f None arguments line here = plain_rule f arguments line here
+called inner f None arguments line here = plain_rule inner f arguments line here
 called inner f (Some l) arguments line here = with_lambda_rule inner f l arguments line here
 
 -- the same of a call as it stands in the tree

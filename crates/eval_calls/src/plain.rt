@@ -2,29 +2,37 @@
 ghost use Rattle.std.specs.Prelude.{◌≡◌, false};
 ghost use Rattle.eval_calls.specs.Calls as spec;
 ghost use Rattle.eval_calls.specs.Places.{at_line};
+ghost use Rattle.eval_world.specs.Nests.{Nests};
 ghost use Rattle.eval_world.specs.Outcomes.{Gives, same};
 ghost use Rattle.pp_funcs.specs.Functions.{applied};
 ghost use Rattle.pp_funcs.specs.Names.{needs_evaluator};
 
 use crate::names::{is_function, is_log, unknown, wrong};
-use eval_world::{Evaluated, Here, World};
+use eval_classes::{Including, include};
+use eval_world::{Evaluated, Forms, Goal, Here, Meaning, World};
 use expr_eval::{LambdaFunction, joined};
 use pp_funcs::{call_pure, needs_evaluator};
 use pp_values::{Stop, Text, Value, Values};
 
 /// A call without a lambda.
 #[tactic(auto, unfolding(crate::specs::Calls::plain_rule))]
-pub fn call_plain(
+pub fn call_plain<
+    F: Fn(&mut World<'_>, Goal<'_>, Here, u32) -> Result<Evaluated, Stop>,
+    M: Meaning,
+>(
+    forms: &Forms<F, M>,
     world: &mut World<'_>,
     function: &Text,
     arguments: &Values,
     line: u32,
     here: Here,
 ) -> Result<Evaluated, Stop>
-    ensures { Gives same (spec.plain_rule function.now arguments.now line here world.old) result world.new }
+    requires { Nests (M.within forms.now.left) forms.now.left (F.pre forms.now.inner) (F.post forms.now.inner) }
+    ensures { Gives same (spec.plain_rule (M.within forms.now.left) function.now arguments.now line here world.old)
+        result world.new }
 {
     if needs_evaluator(function) {
-        call_evaluated(world, function, arguments, line, here)
+        call_evaluated(forms, world, function, arguments, line, here)
     } else {
         compute(world, function, arguments, line, here)
     }
@@ -47,20 +55,46 @@ fn compute(
 
 /// A function that needs the log, a lambda or the site.
 #[tactic(auto, unfolding(crate::specs::Calls::evaluated_rule))]
-fn call_evaluated(
+fn call_evaluated<
+    F: Fn(&mut World<'_>, Goal<'_>, Here, u32) -> Result<Evaluated, Stop>,
+    M: Meaning,
+>(
+    forms: &Forms<F, M>,
     world: &mut World<'_>,
     function: &Text,
     arguments: &Values,
     line: u32,
     here: Here,
 ) -> Result<Evaluated, Stop>
-    ensures { Gives same (spec.evaluated_rule function.now arguments.now line here world.old) result world.new }
+    requires { Nests (M.within forms.now.left) forms.now.left (F.pre forms.now.inner) (F.post forms.now.inner) }
+    ensures { Gives same (spec.evaluated_rule (M.within forms.now.left) function.now arguments.now line here world.old)
+        result world.new }
 {
     if is_log(function) {
         return log(world, function, arguments);
     }
     match LambdaFunction::from_name(function) {
         Some(_) => Err(Stop::Fault(wrong(world, function, line, here)?)),
+        None => call_site(forms, world, function, arguments, line, here),
+    }
+}
+
+/// A function that needs the site.
+#[tactic(auto, unfolding(crate::specs::Calls::site_rule))]
+fn call_site<F: Fn(&mut World<'_>, Goal<'_>, Here, u32) -> Result<Evaluated, Stop>, M: Meaning>(
+    forms: &Forms<F, M>,
+    world: &mut World<'_>,
+    function: &Text,
+    arguments: &Values,
+    line: u32,
+    here: Here,
+) -> Result<Evaluated, Stop>
+    requires { Nests (M.within forms.now.left) forms.now.left (F.pre forms.now.inner) (F.post forms.now.inner) }
+    ensures { Gives same (spec.site_rule (M.within forms.now.left) function.now arguments.now line here world.old)
+        result world.new }
+{
+    match Including::from_name(function) {
+        Some(including) => include(forms, world, including, function, arguments, line, here),
         None => world.not_built(here, line),
     }
 }

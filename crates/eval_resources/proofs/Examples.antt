@@ -3,12 +3,14 @@ use Rattle.std.proofs.Common.{◌≡◌, ℕ, Bool, true, false, List, [], ◌�
 use Rattle.std.proofs.Common.{codes}
 use Rattle.std.specs.Fmt.{digits}
 use Rattle.override_rules.specs.Rights.{line_tests}
-use Rattle.pp_tree.specs.Building.{name_at, class_of, define_of, comparison, resource}
+use Rattle.pp_tree.specs.Building.{name_at, class_of, define_of, comparison, param, resource}
 use Rattle.pp_tree.specs.Names.{normal, without_front_colons}
 use Rattle.pp_tree.specs.Tables.{Entries}
+use Rattle.pp_tree.specs.declared.definition.Class.{Class}
 use Rattle.pp_tree.specs.declared.definition.Definition.TheVariants as definition
 use Rattle.pp_tree.specs.declared.expr.Expr.{Expr}
 use Rattle.pp_tree.specs.declared.expr.Form.{out-Form}
+use Rattle.pp_tree.specs.declared.param.Param.{Param}
 use Rattle.pp_tree.specs.declared.resource.ResourceForm.TheVariants as mark
 use Rattle.pp_tree.specs.declared.table.DefinitionName.TheVariants.{Code}
 use Rattle.pp_values.specs.Datum as d
@@ -29,12 +31,15 @@ use Rattle.res_core.specs.TagNames.{segments, is_word_byte, is_tag_byte}
 use Rattle.res_core.specs.declared.action.Action.TheVariants as action
 use Rattle.res_core.specs.declared.form.Form.TheVariants as form
 use Rattle.res_core.specs.declared.native_type.NativeType.TheVariants as native
+use Rattle.eval_classes.specs.Attributes.{given_tags}
+use Rattle.eval_classes.specs.Definitions.{class_found, define_found, definition_of}
+use Rattle.eval_classes.specs.Listing.{class_reference}
 use Rattle.eval_resources.specs.Bodies.{bodies_rule, bodies_from, body_rule, defaults_from, default_rule, filled}
-use Rattle.eval_resources.specs.Checks.{tested, native_checked, title_checked, names_known, names_apart}
+use Rattle.eval_resources.specs.Checks.{tested, class_tested, kind_checked, title_checked, names_known, names_apart}
 use Rattle.eval_resources.specs.Checks.{lines_checked}
 use Rattle.eval_resources.specs.Collectors.{tag_compared, native_by, register, tag_asked, collected_by}
-use Rattle.eval_resources.specs.Declaring.{set_from, given_tags, declare_rule, item_of, container_in}
-use Rattle.eval_resources.specs.Resources.{title_rule, titles_rule, declare_bodies, resource_rule, act_rule}
+use Rattle.eval_resources.specs.Declaring.{set_from, declare_rule, item_of, container_in}
+use Rattle.eval_resources.specs.Resources.{title_rule, declared_rule, titles_rule, declare_bodies, resource_rule, act_rule}
 use Rattle.eval_resources.specs.Lines.{Line, Body}
 use Rattle.eval_resources.specs.Reading.{line, lines_from, attribute_rule, setting_rule, splat_rule, splatted}
 use Rattle.eval_resources.proofs.Samples.{text, int, nested, told, word, undef, default, a_hash, a_list}
@@ -122,11 +127,27 @@ titles_flattened manifests = refl
 
 -- ---- the tests of a title
 
-abbrev vhost : Entries
-vhost =
-    (Code (codes "web::vhost"), definition.Define (define_of (name_at (codes "web::vhost") 1) [] [] 1))
-    ∷ (Code (codes "web"), definition.Class (class_of (name_at (codes "web") 2) [] None [] 2))
+-- a define with the parameter `port`, and a class with the same
+abbrev port : List (Param Expr)
+port = param None (codes "port") None 1 ∷ []
+
+abbrev web : Class
+web = class_of (name_at (codes "web") 2) port None [] 2
+
+abbrev definitions : Entries
+definitions =
+    (Code (codes "web::vhost"), definition.Define (define_of (name_at (codes "web::vhost") 1) port [] 1))
+    ∷ (Code (codes "web"), definition.Class web)
     ∷ []
+
+abbrev site_of : Entries → Manifests
+site_of es = record { main = record { statements = []; definitions = es }; files = [] }
+
+abbrev nothing : Manifests
+nothing = site_of []
+
+abbrev vhost : Manifests
+vhost = site_of definitions
 
 abbrev body_with : List Line → Body
 body_with ls = record { titles = []; lines = ls; at = place 7 }
@@ -141,62 +162,95 @@ mode_line at = said (codes "mode") (codes "0644") at
 abbrev owners : Line
 owners = said (codes "owners") a 8
 
-passes : tested [] form.Exported (codes "file") (text a) (body_with (mode_line 8 ∷ said (codes "noop") a 9 ∷ []))
-    ≡ Ok (record { native = native.File; title = a })
-unfolding tested native_checked native_of title_checked lines_checked names_known names_apart attributes_of known_checked is_metaparameter
+passes : tested nothing (codes "file") (text a) (body_with (mode_line 8 ∷ said (codes "noop") a 9 ∷ []))
+    ≡ Ok (record { kind = codes "file"; title = a; known = attributes_of native.File })
+unfolding tested kind_checked native_of title_checked lines_checked names_known names_apart attributes_of known_checked is_metaparameter
 passes = refl
 
 -- F5 at the body; before a title that is none, and before unknown attributes
-unknown_kind : tested vhost form.Plain (codes "web") (int 4) (body_with (owners ∷ []))
+unknown_kind : tested vhost (codes "web") (int 4) (body_with (owners ∷ []))
     ≡ Err (fault (place 7) (what.UnknownType (codes "web")))
-unfolding tested native_checked native_of
+unfolding tested kind_checked native_of define_found definition_of
 unknown_kind = refl
 
--- an instance of a define is not built
-instance : tested vhost form.Plain (codes "web::vhost") (text a) (body_with []) ≡ Err (fault (place 7) what.NotBuilt)
-unfolding tested native_checked native_of
+-- an instance of a define takes its parameters
+instance : tested vhost (codes "web::vhost") (text a) (body_with (said (codes "port") a 8 ∷ []))
+    ≡ Ok (record { kind = codes "web::vhost"; title = a; known = codes "port" ∷ [] })
+unfolding tested kind_checked native_of define_found definition_of title_checked lines_checked names_known names_apart known_checked
 instance = refl
 
--- `class { 'a': }` is not built
-class : tested vhost form.Plain (codes "class") (text a) (body_with []) ≡ Err (fault (place 7) what.NotBuilt)
-unfolding tested native_checked native_of
+-- a kind that no file defines
+absent_kind : tested nothing (codes "nginx::vhost") (text a) (body_with [])
+    ≡ Err (fault (place 7) (what.UnknownType (codes "nginx::vhost")))
+unfolding tested kind_checked native_of define_found definition_of segments
+absent_kind = refl
+
+-- ---- the tests of a class
+
+class : class_tested vhost form.Plain (text (codes "::Web")) (body_with (said (codes "port") a 8 ∷ [])) ≡ Ok web
+unfolding class_tested title_checked class_found definition_of lines_checked names_known names_apart known_checked normal without_front_colons
 class = refl
 
--- F26 names the class, and the kind alone where the title is no text
-virtual_class : tested [] form.Virtual (codes "class") (text (codes "::Web")) (body_with [])
-    ≡ Err (fault (place 7)
-    (what.ClassVirtual (subject.Reference (record { kind = codes "class"; title = codes "web" }))))
-unfolding tested native_checked native_of normal without_front_colons
+-- F26 names the class, and the kind alone where the title is no text; it comes before F8
+virtual_class : class_tested nothing form.Virtual (text (codes "::Web")) (body_with [])
+    ≡ Err (fault (place 7) (what.ClassVirtual (subject.Reference (class_reference (codes "web")))))
+unfolding class_tested normal without_front_colons
 virtual_class = refl
 
-exported_class : tested [] form.Exported (codes "class") (int 4) (body_with [])
+exported_class : class_tested nothing form.Exported (int 4) (body_with [])
     ≡ Err (fault (place 7) (what.ClassVirtual (subject.Kind (codes "class"))))
-unfolding tested native_checked native_of
+unfolding class_tested
 exported_class = refl
 
--- F8 at the body, before unknown attributes
-no_text : tested [] form.Plain (codes "file") (int 4) (body_with (owners ∷ []))
+-- F8 comes before F4, and F4 before F10
+no_class_title : class_tested nothing form.Plain (int 4) (body_with (owners ∷ []))
     ≡ Err (fault (place 7) (what.TypeMismatch (codes "title")))
-unfolding tested native_checked native_of title_checked
+unfolding class_tested title_checked
+no_class_title = refl
+
+no_class : class_tested nothing form.Plain (text (codes "Web")) (body_with (owners ∷ []))
+    ≡ Err (fault (place 7) (what.UnknownClass (codes "web")))
+unfolding class_tested title_checked class_found definition_of segments normal without_front_colons
+no_class = refl
+
+-- a define is no class
+define_named : class_tested vhost form.Plain (text (codes "web::vhost")) (body_with [])
+    ≡ Err (fault (place 7) (what.UnknownClass (codes "web::vhost")))
+unfolding class_tested title_checked class_found definition_of normal without_front_colons
+define_named = refl
+
+-- F10 at its line, also behind a name that stands twice
+no_parameter : class_tested vhost form.Plain (text (codes "web"))
+    (body_with (said (codes "port") a 5 ∷ said (codes "port") a 6 ∷ owners ∷ []))
+    ≡ Err (fault (place 8) (what.UnknownParameter (class_reference (codes "web")) (codes "owners")))
+unfolding class_tested title_checked class_found definition_of lines_checked names_known known_checked is_metaparameter normal without_front_colons
+no_parameter = refl
+
+-- ---- the tests of a title
+
+-- F8 at the body, before unknown attributes
+no_text : tested nothing (codes "file") (int 4) (body_with (owners ∷ []))
+    ≡ Err (fault (place 7) (what.TypeMismatch (codes "title")))
+unfolding tested kind_checked native_of title_checked
 no_text = refl
 
-empty_title : tested [] form.Plain (codes "file") (text []) (body_with [])
+empty_title : tested nothing (codes "file") (text []) (body_with [])
     ≡ Err (fault (place 7) (what.TypeMismatch (codes "title")))
-unfolding tested native_checked native_of title_checked
+unfolding tested kind_checked native_of title_checked
 empty_title = refl
 
 -- F10 at the first line whose name is unknown, also behind a name that stands twice
-unknown_name : tested [] form.Plain (codes "file") (text a)
+unknown_name : tested nothing (codes "file") (text a)
     (body_with (mode_line 5 ∷ mode_line 6 ∷ owners ∷ said b a 9 ∷ []))
     ≡ Err (fault (place 8) (what.UnknownParameter file_a (codes "owners")))
-unfolding tested native_checked native_of title_checked lines_checked names_known attributes_of known_checked is_metaparameter
+unfolding tested kind_checked native_of title_checked lines_checked names_known attributes_of known_checked is_metaparameter
 unknown_name = refl
 
 -- F15 at the later line
-twice : tested [] form.Plain (codes "file") (text a)
+twice : tested nothing (codes "file") (text a)
     (body_with (mode_line 5 ∷ said (codes "tag") a 6 ∷ mode_line 8 ∷ []))
     ≡ Err (fault (place 8) (what.AlreadySet (subject.Reference file_a) (codes "mode")))
-unfolding tested native_checked native_of title_checked lines_checked names_known names_apart attributes_of known_checked is_metaparameter
+unfolding tested kind_checked native_of title_checked lines_checked names_known names_apart attributes_of known_checked is_metaparameter
 twice = refl
 
 -- ---- attributes and tags
@@ -244,63 +298,63 @@ kind = codes "notify"
 
 -- body by body, title by title
 each_title : Declares
-    (declare_bodies form.Plain kind (titled (text a ∷ text b ∷ []) [] 2 ∷ titled (text c ∷ []) [] 3 ∷ []) here)
+    (declare_bodies sample form.Plain kind (titled (text a ∷ text b ∷ []) [] 2 ∷ titled (text c ∷ []) [] 3 ∷ []) here)
     (notify mode.Plain a 2 ∷ notify mode.Plain b 2 ∷ notify mode.Plain (codes "c") 3 ∷ [])
-unfolding declare_bodies titles_rule title_rule declare_rule tested native_checked native_of title_checked lines_checked names_known names_apart attributes_of set_from segments is_word_byte is_tag_byte line_tests owner_at
+unfolding declare_bodies titles_rule title_rule declared_rule declare_rule tested kind_checked native_of title_checked lines_checked names_known names_apart attributes_of set_from segments is_word_byte is_tag_byte line_tests owner_at
 each_title manifests = refl
 
 -- virtual and exported ones
-virtual : Declares (titles_rule form.Virtual kind (text a ∷ []) (body_with []) here) (notify mode.Virtual a 7 ∷ [])
-unfolding titles_rule title_rule declare_rule tested native_checked native_of title_checked lines_checked names_known names_apart attributes_of set_from segments is_word_byte is_tag_byte line_tests owner_at
+virtual : Declares (titles_rule sample form.Virtual kind (text a ∷ []) (body_with []) here) (notify mode.Virtual a 7 ∷ [])
+unfolding titles_rule title_rule declared_rule declare_rule tested kind_checked native_of title_checked lines_checked names_known names_apart attributes_of set_from segments is_word_byte is_tag_byte line_tests owner_at
 virtual manifests = refl
 
-exported : Declares (titles_rule form.Exported kind (text a ∷ []) (body_with []) here) (notify mode.Exported a 7 ∷ [])
-unfolding titles_rule title_rule declare_rule tested native_checked native_of title_checked lines_checked names_known names_apart attributes_of set_from segments is_word_byte is_tag_byte line_tests owner_at
+exported : Declares (titles_rule sample form.Exported kind (text a ∷ []) (body_with []) here) (notify mode.Exported a 7 ∷ [])
+unfolding titles_rule title_rule declared_rule declare_rule tested kind_checked native_of title_checked lines_checked names_known names_apart attributes_of set_from segments is_word_byte is_tag_byte line_tests owner_at
 exported manifests = refl
 
 -- without a title nothing is tested
-no_titles : Declares (titles_rule form.Plain (codes "nothing") [] (body_with (owners ∷ [])) here) []
+no_titles : Declares (titles_rule sample form.Plain (codes "nothing") [] (body_with (owners ∷ [])) here) []
 unfolding titles_rule
 no_titles manifests = refl
 
 -- F14 of the second title, with the place of the first
-duplicate : Fails (titles_rule form.Plain kind (text a ∷ text a ∷ []) (body_with []) here)
+duplicate : Fails (titles_rule sample form.Plain kind (text a ∷ text a ∷ []) (body_with []) here)
     7 (what.Duplicate (record { kind = kind; title = a }) (place 7))
-unfolding titles_rule title_rule declare_rule tested native_checked native_of title_checked lines_checked names_known names_apart attributes_of set_from segments is_word_byte is_tag_byte line_tests
+unfolding titles_rule title_rule declared_rule declare_rule tested kind_checked native_of title_checked lines_checked names_known names_apart attributes_of set_from segments is_word_byte is_tag_byte line_tests
 duplicate manifests = refl
 
 -- the first title's faults come before the second one's, and a body's before the next one's
 first_body : Fails
-    (declare_bodies form.Plain kind
+    (declare_bodies sample form.Plain kind
     (titled (text a ∷ int 4 ∷ []) (said (codes "mesage") a 3 ∷ []) 2 ∷ titled (int 4 ∷ []) [] 5 ∷ []) here)
     3 (what.UnknownParameter (record { kind = kind; title = a }) (codes "mesage"))
-unfolding declare_bodies titles_rule title_rule declare_rule tested native_checked native_of title_checked lines_checked names_known names_apart attributes_of known_checked is_metaparameter
+unfolding declare_bodies titles_rule title_rule declared_rule declare_rule tested kind_checked native_of title_checked lines_checked names_known names_apart attributes_of known_checked is_metaparameter
 first_body manifests = refl
 
 -- a relation is not built: F31 at its line, after all other tests of the title; one that is Undef is none
 abbrev before : Datum → Line
 before value = line (codes "before") false value (place 8)
 
-relation : Fails (titles_rule form.Plain kind (text a ∷ []) (body_with (before (text c) ∷ [])) here) 8 what.NotBuilt
-unfolding titles_rule title_rule declare_rule tested native_checked native_of title_checked lines_checked names_known names_apart attributes_of set_from segments is_word_byte is_tag_byte is_relation_name is_metaparameter known_checked line_tests
+relation : Fails (titles_rule sample form.Plain kind (text a ∷ []) (body_with (before (text c) ∷ [])) here) 8 what.NotBuilt
+unfolding titles_rule title_rule declared_rule declare_rule tested kind_checked native_of title_checked lines_checked names_known names_apart attributes_of set_from segments is_word_byte is_tag_byte is_relation_name is_metaparameter known_checked line_tests
 relation manifests = refl
 
-relation_of_second : Fails (titles_rule form.Plain kind (text a ∷ text a ∷ []) (body_with (before d.undef ∷ [])) here)
+relation_of_second : Fails (titles_rule sample form.Plain kind (text a ∷ text a ∷ []) (body_with (before d.undef ∷ [])) here)
     7 (what.Duplicate (record { kind = kind; title = a }) (place 7))
-unfolding titles_rule title_rule declare_rule tested native_checked native_of title_checked lines_checked names_known names_apart attributes_of set_from segments is_word_byte is_tag_byte is_relation_name is_metaparameter known_checked line_tests
+unfolding titles_rule title_rule declared_rule declare_rule tested kind_checked native_of title_checked lines_checked names_known names_apart attributes_of set_from segments is_word_byte is_tag_byte is_relation_name is_metaparameter known_checked line_tests
 relation_of_second manifests = refl
 
 -- an override line that came before it is tested then, and before relations: F10 at the line
 overridden_before : (manifests : Manifests)
     → book_by
-    (titles_rule form.Plain kind (text a ∷ []) (body_with (before (text c) ∷ [])) here (overridden manifests))
+    (titles_rule sample form.Plain kind (text a ∷ []) (body_with (before (text c) ∷ [])) here (overridden manifests))
     ≡ Err (fault (place 9) (what.UnknownParameter (record { kind = kind; title = a }) (codes "mesage")))
-unfolding titles_rule title_rule declare_rule tested native_checked native_of title_checked lines_checked names_known names_apart attributes_of set_from segments is_word_byte is_tag_byte known_checked line_tests is_metaparameter
+unfolding titles_rule title_rule declared_rule declare_rule tested kind_checked native_of title_checked lines_checked names_known names_apart attributes_of set_from segments is_word_byte is_tag_byte known_checked line_tests is_metaparameter
 overridden_before manifests = refl
 
 -- in a class: its resource contains what it declares, whose tags go on; scope and source are those of the class
 in_class : item_of owner (new_row main mode.Plain ∷ class_a mode.Plain ∷ [])
-    (record { native = native.Notify; title = b }) (body_with (said (codes "tag") (codes "Mine") 8 ∷ []))
+    (record { kind = kind; title = b; known = codes "name" ∷ codes "message" ∷ [] }) (body_with (said (codes "tag") (codes "Mine") 8 ∷ []))
     ≡ record {
       item = record {
         kind = kind;
@@ -330,7 +384,7 @@ no_container = refl
 whole : Declares (resource_rule sample
     (resource mark.Exported (codes "::nOtify") (titled_by (word a) [] 7 ∷ []) 6) here)
     (notify mode.Exported a 7 ∷ [])
-unfolding resource_rule bodies_rule defaults_from bodies_from body_rule lines_from declare_bodies titles_rule title_rule declare_rule tested native_checked native_of title_checked lines_checked names_known names_apart attributes_of set_from segments is_word_byte is_tag_byte line_tests owner_at out-Form denote.Hole.Carrier.out normal without_front_colons
+unfolding resource_rule bodies_rule defaults_from bodies_from body_rule lines_from declare_bodies titles_rule title_rule declared_rule declare_rule tested kind_checked native_of title_checked lines_checked names_known names_apart attributes_of set_from segments is_word_byte is_tag_byte line_tests owner_at out-Form denote.Hole.Carrier.out normal without_front_colons
 whole manifests = refl
 
 -- all bodies are evaluated before any test: the second one's F2 comes before the first one's F8, and before F5
@@ -341,7 +395,7 @@ unfolding resource_rule bodies_rule defaults_from bodies_from body_rule lines_fr
 evaluated_first manifests = refl
 
 -- of all other actions nothing is built
-defaults_action : Fails (act_rule (action.Defaults (codes "file") []) 5 here) 5 what.NotBuilt
+defaults_action : Fails (act_rule sample (action.Defaults (codes "file") []) 5 here) 5 what.NotBuilt
 unfolding act_rule owner_at
 defaults_action manifests = refl
 

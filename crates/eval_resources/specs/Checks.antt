@@ -1,17 +1,14 @@
 -- The tests of one title of a body, before the book is asked.
-use Rattle.std.specs.Prelude.{ℕ, ⊤, Bool, true, false, if◌then◌else◌, List, [], ◌∷◌, Option, None, Some}
-use Rattle.std.specs.Prelude.{Result, Ok, Err, codes}
-use Rattle.std.specs.Map.{lookup}
-use Rattle.std.specs.Str.{bytes_eq}
-use Rattle.pp_tree.specs.Names.{normal, same_name}
-use Rattle.pp_tree.specs.Tables.{Entries}
-use Rattle.pp_tree.specs.declared.definition.Definition.{Definition}
-use Rattle.pp_tree.specs.declared.definition.Definition.TheVariants as definition
-use Rattle.pp_tree.specs.declared.table.DefinitionName.TheVariants.{Code}
+use Rattle.std.specs.Prelude.{ℕ, ⊤, if◌then◌else◌, List, [], ◌∷◌, Option, None, Some, Result, Ok, Err, codes}
+use Rattle.pp_tree.specs.Names.{normal}
+use Rattle.pp_tree.specs.declared.definition.Class.{Class}
+use Rattle.pp_tree.specs.declared.expr.Expr.{Expr}
+use Rattle.pp_tree.specs.declared.param.Param.{Param}
 use Rattle.pp_values.specs.Answers.{and_then}
 use Rattle.pp_values.specs.Datum as d
 use Rattle.pp_values.specs.Datum.{Datum}
 use Rattle.pp_values.specs.Faults.{fault}
+use Rattle.pp_values.specs.Kinds.{is_kind}
 use Rattle.pp_values.specs.Rising.{has_text, with_texts}
 use Rattle.pp_values.specs.declared.fault.Fault.{Fault}
 use Rattle.pp_values.specs.declared.fault.Subject.{Subject}
@@ -24,51 +21,41 @@ use Rattle.res_core.specs.NativeTypes.{row, native_of, attributes_of}
 use Rattle.res_core.specs.declared.form.Form.{Form}
 use Rattle.res_core.specs.declared.form.Form.TheVariants as form
 use Rattle.res_core.specs.declared.native_type.NativeType.{NativeType}
+use Rattle.eval_classes.specs.Definitions.{class_found, class_name, define_found, param_names}
+use Rattle.eval_classes.specs.Listing.{class_reference}
 use Rattle.eval_resources.specs.Lines.{Line, Body}
+use Rattle.eval_resources.specs.declared.known_kind.KnownKind.{KnownKind}
 use Rattle.eval_resources.specs.declared.named.Named.{Named}
+use Rattle.eval_world.specs.Manifests.{Manifests}
 
 -- ---- the kind
 
-abbrev pub is_define : Definition → Bool
-is_define (definition.Class c) = false
-is_define (definition.Define f) = true
-is_define (definition.Node n) = false
-is_define (definition.SameNode first) = false
+-- a kind that may be declared, and what it takes besides the metaparameters
+abbrev pub known_kind : List ℕ → List (List ℕ) → KnownKind
+known_kind kind known = record { kind = kind; known = known }
 
-abbrev pub defines : Option Definition → Bool
-defines None = false
-defines (Some found) = is_define found
+abbrev pub native_kind : NativeType → KnownKind
+native_kind n = known_kind (row n).kind (attributes_of n)
 
--- some define of the site has this name
-abbrev pub is_defined : Entries → List ℕ → Bool
-is_defined definitions kind = defines (lookup (same_name (Code kind)) definitions)
+-- a define takes its parameters
+abbrev pub with_params : List ℕ → List (Param Expr) → KnownKind
+with_params kind params = known_kind kind (param_names params)
 
--- what F26 names: the class, where the title is a text
-abbrev pub class_named : Datum → Subject
-class_named (d.text t) = subject.Reference (record { kind = codes "class"; title = normal t })
-class_named _ = subject.Kind (codes "class")
+-- its name has to be one of a kind
+abbrev pub define_kind : List ℕ → Place → List (Param Expr) → Result KnownKind Fault
+define_kind kind at params =
+    if is_kind kind then Ok (with_params kind params) else Err (fault at (what.UnknownType kind))
 
--- no class is virtual or exported: F26; that a class is declared so is not built
-abbrev pub class_refused : Form → Datum → Place → Fault
-class_refused form.Plain title at = fault at what.NotBuilt
-class_refused form.Virtual title at = fault at (what.ClassVirtual (class_named title))
-class_refused form.Exported title at = fault at (what.ClassVirtual (class_named title))
+abbrev pub define_checked : Manifests → List ℕ → Place → Result KnownKind Fault
+define_checked m kind at = and_then (define_found m kind at) (λ f. define_kind kind at f.params)
 
--- of a kind that is not native: instances of defines are not built, and where there is no such define it is F5
-abbrev pub other_refused : Entries → Form → List ℕ → Datum → Place → Fault
-other_refused definitions written kind title at =
-    if bytes_eq kind (codes "class") then class_refused written title at
-    else if is_defined definitions kind then fault at what.NotBuilt
-    else fault at (what.UnknownType kind)
+abbrev pub kind_by : Option NativeType → Manifests → List ℕ → Place → Result KnownKind Fault
+kind_by (Some n) m kind at = Ok (native_kind n)
+kind_by None m kind at = define_checked m kind at
 
-abbrev pub native_or : Fault → Option NativeType → Result NativeType Fault
-native_or refused None = Err refused
-native_or refused (Some n) = Ok n
-
--- the native type of a kind, in lower case without a leading `::`
-unfoldable pub native_checked : Entries → Form → List ℕ → Datum → Place → Result NativeType Fault
-native_checked definitions written kind title at =
-    native_or (other_refused definitions written kind title at) (native_of kind)
+-- a native type or a define of the site, in lower case without a leading `::`; else F5
+unfoldable pub kind_checked : Manifests → List ℕ → Place → Result KnownKind Fault
+kind_checked m kind at = kind_by (native_of kind) m kind at
 
 -- ---- the title
 
@@ -85,9 +72,6 @@ title_checked (d.text t) at = filled_checked t at
 title_checked _ at = Err (no_title at)
 
 -- ---- the lines
-
-abbrev pub reference_of : NativeType → List ℕ → Reference
-reference_of n title = record { kind = (row n).kind; title = title }
 
 -- F10 at the first line whose name the resource does not take
 unfoldable pub names_known : Reference → List (List ℕ) → List Line → Result ⊤ Fault
@@ -109,10 +93,43 @@ lines_checked r known ls = and_then (names_known r known ls) (λ _. names_apart 
 
 -- ---- in their order
 
-abbrev pub title_tested : NativeType → Datum → Body → Result Named Fault
-title_tested n title b = and_then (title_checked title b.at) (λ t.
-    and_then (lines_checked (reference_of n t) (attributes_of n) b.lines) (λ _. Ok (record { native = n; title = t })))
+abbrev pub reference_to : KnownKind → List ℕ → Reference
+reference_to k title = record { kind = k.kind; title = title }
 
-unfoldable pub tested : Entries → Form → List ℕ → Datum → Body → Result Named Fault
-tested definitions written kind title b =
-    and_then (native_checked definitions written kind title b.at) (λ n. title_tested n title b)
+abbrev pub named_of : KnownKind → List ℕ → Named
+named_of k title = record { kind = k.kind; title = title; known = k.known }
+
+abbrev pub title_tested : KnownKind → Datum → Body → Result Named Fault
+title_tested k title b = and_then (title_checked title b.at) (λ t.
+    and_then (lines_checked (reference_to k t) k.known b.lines) (λ _. Ok (named_of k t)))
+
+unfoldable pub tested : Manifests → List ℕ → Datum → Body → Result Named Fault
+tested m kind title b = and_then (kind_checked m kind b.at) (λ k. title_tested k title b)
+
+-- ---- classes
+
+-- what F26 names: the class, where the title is a text
+abbrev pub class_named : Datum → Subject
+class_named (d.text t) = subject.Reference (class_reference (normal t))
+class_named _ = subject.Kind (codes "class")
+
+abbrev pub class_virtual : Datum → Place → Fault
+class_virtual title at = fault at (what.ClassVirtual (class_named title))
+
+-- no class is virtual or exported: F26
+abbrev pub class_form : Form → Datum → Place → Result ⊤ Fault
+class_form form.Plain title at = Ok tt
+class_form form.Virtual title at = Err (class_virtual title at)
+class_form form.Exported title at = Err (class_virtual title at)
+
+-- the class of this title, which is a text, else F8; and there is one, else F4
+abbrev pub class_titled : Manifests → Datum → Place → Result Class Fault
+class_titled m title at = and_then (title_checked title at) (λ t. class_found m (normal t) at)
+
+-- it takes its parameters
+abbrev pub class_lines : Class → List Line → Result ⊤ Fault
+class_lines c ls = lines_checked (class_reference (class_name c)) (param_names c.params) ls
+
+unfoldable pub class_tested : Manifests → Form → Datum → Body → Result Class Fault
+class_tested m written title b = and_then (class_form written title b.at) (λ _.
+    and_then (class_titled m title b.at) (λ c. and_then (class_lines c b.lines) (λ _. Ok c)))

@@ -1,26 +1,20 @@
 -- What a title of a body declares.
-use Rattle.std.specs.Prelude.{ℕ, Bool, true, false, if◌then◌else◌, List, [], ◌∷◌, map, Option, None, Some, Result}
-use Rattle.std.specs.Prelude.{Ok, Err, slice_get, codes}
+use Rattle.std.specs.Prelude.{ℕ, if◌then◌else◌, List, [], ◌∷◌, Option, None, Some, Result, Ok, Err}
 use Rattle.std.specs.BTreeMap.{insert_entry}
-use Rattle.pp_funcs.specs.Lists.{flat}
-use Rattle.pp_values.specs.Datum as d
-use Rattle.pp_values.specs.Datum.{Datum}
 use Rattle.pp_values.specs.Rising.{text_cmp}
 use Rattle.pp_values.specs.Settings.{Setting}
-use Rattle.pp_values.specs.TextOf.{text_of}
 use Rattle.pp_values.specs.declared.fault.Fault.{Fault}
 use Rattle.res_book.specs.Rows as rows
 use Rattle.res_book.specs.Rows.{is_live_at}
 use Rattle.res_book.specs.declared.mode.Mode.{Mode}
 use Rattle.res_book.specs.declared.mode.Mode.TheVariants as mode
 use Rattle.res_book.specs.declared.row.Row.{Row}
-use Rattle.res_core.specs.AttributeViews.{set_in}
-use Rattle.res_core.specs.NativeTypes.{row, attributes_of}
 use Rattle.res_core.specs.TagNames.{tags}
 use Rattle.res_core.specs.declared.declared.Declared.{Declared}
 use Rattle.res_core.specs.declared.resource.Resource.{Resource}
 use Rattle.res_core.specs.declared.form.Form.{Form}
 use Rattle.res_core.specs.declared.form.Form.TheVariants as form
+use Rattle.eval_classes.specs.Attributes.{given_tags, is_value, tags_in}
 use Rattle.eval_world.specs.Outcomes.{Step}
 use Rattle.eval_world.specs.Owners.{owner_at}
 use Rattle.eval_world.specs.declared.here.Here.{Here}
@@ -29,10 +23,6 @@ use Rattle.eval_resources.specs.declared.named.Named.{Named}
 use Rattle.eval_resources.specs.Lines.{Line, Body}
 
 -- ---- attributes
-
-abbrev pub is_value : Datum → Bool
-is_value d.undef = false
-is_value _ = true
 
 -- an attribute whose value is Undef is not set
 abbrev pub with_line : List Setting → Line → List Setting
@@ -43,28 +33,6 @@ unfoldable pub set_from : List Setting → List Line → List Setting
 set_from done [] = done
 set_from done (l ∷ ls) = set_from (with_line done l) ls
 
--- ---- tags
-
--- the texts in a value: lists are flattened, and what is no text counts by its text
-abbrev pub texts_in : Datum → List (List ℕ)
-texts_in value = map text_of (flat value)
-
-abbrev pub texts_where : Option Datum → List (List ℕ)
-texts_where None = []
-texts_where (Some value) = texts_in value
-
--- those of the attribute `tag`
-abbrev pub given_tags : List Setting → List (List ℕ)
-given_tags ss = texts_where (set_in ss (codes "tag"))
-
-abbrev pub row_tags : Option Row → List (List ℕ)
-row_tags None = []
-row_tags (Some r) = r.item.item.tags
-
-abbrev pub tags_in : Option ℕ → List Row → List (List ℕ)
-tags_in None book = []
-tags_in (Some n) book = row_tags (slice_get book n)
-
 -- ---- the declaration
 
 -- the resource of the owner contains it, as far as that is a live declaration
@@ -72,22 +40,22 @@ abbrev pub container_in : List Row → ℕ → Option ℕ
 container_in book resource = if is_live_at book resource then Some resource else None
 
 -- with these attributes, it has its own tags and those of what contains it
-abbrev pub resource_by : List Row → Option ℕ → Named → List Setting → Resource
-resource_by book container named set = record {
-  kind = (row named.native).kind;
-  title = named.title;
+abbrev pub resource_by : List Row → Option ℕ → List ℕ → List ℕ → List Setting → Resource
+resource_by book container kind title set = record {
+  kind = kind;
+  title = title;
   attributes = set;
-  tags = tags (row named.native).kind named.title (given_tags set) (tags_in container book);
+  tags = tags kind title (given_tags set) (tags_in container book);
 }
 
 abbrev pub item_by : Owner → List Row → Option ℕ → Named → Body → Declared
 item_by owner book container named b = record {
-  item = resource_by book container named (set_from [] b.lines);
+  item = resource_by book container named.kind named.title (set_from [] b.lines);
   at = b.at;
   scope = owner.scope;
   container = container;
   class = owner.source;
-  known = attributes_of named.native;
+  known = named.known;
 }
 
 abbrev pub item_of : Owner → List Row → Named → Body → Declared
@@ -103,6 +71,9 @@ with_book (Ok p) = λ w. Ok (p.0, record w { book = p.1 })
 with_book (Err f) = λ w. Err f
 
 -- it is put into the book: F14, F28; its number
+abbrev pub put : Declared → Mode → Step ℕ
+put item m = λ w. with_book (rows.declared item m w.book) w
+
 unfoldable pub declare_rule : Form → Named → Body → Here → Step ℕ
 declare_rule written named b here = λ w.
-    with_book (rows.declared (item_of (owner_at here.owner w.owners) w.book named b) (mode_of written) w.book) w
+    put (item_of (owner_at here.owner w.owners) w.book named b) (mode_of written) w

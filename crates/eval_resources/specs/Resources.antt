@@ -1,6 +1,7 @@
 -- What a resource expression does once its values are there, and the whole of it.
 use Rattle.std.specs.Prelude.{ℕ, Bool, ◌&&◌, List, [], ◌∷◌, Option, None, Some}
-use Rattle.std.specs.Prelude.{Result, Ok, Err, find}
+use Rattle.std.specs.Prelude.{if◌then◌else◌, Result, Ok, Err, find, codes}
+use Rattle.std.specs.Str.{bytes_eq}
 use Rattle.pp_tree.specs.Names.{normal}
 use Rattle.pp_tree.specs.declared.expr.Expr.{Expr}
 use Rattle.pp_tree.specs.declared.resource.Resource.{Resource}
@@ -21,8 +22,10 @@ use Rattle.eval_world.specs.Outcomes.{Step, ◌>>=◌, ◌>>◌, pure, answered}
 use Rattle.eval_world.specs.Worlds.{not_built}
 use Rattle.eval_world.specs.declared.here.Here.{Here}
 use Rattle.eval_resources.specs.Bodies.{bodies_rule}
-use Rattle.eval_resources.specs.Checks.{tested}
-use Rattle.eval_resources.specs.Declaring.{declare_rule, is_value}
+use Rattle.eval_classes.specs.Attributes.{is_value}
+use Rattle.eval_classes.specs.Listing.{class_declared}
+use Rattle.eval_resources.specs.Checks.{class_tested, tested}
+use Rattle.eval_resources.specs.Declaring.{declare_rule, set_from}
 use Rattle.eval_resources.specs.Lines.{Line, Body, bodies_of}
 
 -- ---- one title
@@ -39,35 +42,49 @@ unrelated (Some l) = Err (faults.fault l.at what.NotBuilt)
 abbrev pub relations_checked : List Line → Result (Unit {0}) Fault
 relations_checked ls = unrelated (find relates ls)
 
--- The tests, the declaration, the override lines that came before it, the relations.
-unfoldable pub title_rule : Form → List ℕ → Datum → Body → Here → Step (Unit {0})
-title_rule written kind title b here = do
-  named ← (λ w. answered (tested w.manifests.main.definitions written kind title b) w)
+-- The tests, the declaration, the override lines that came before it, the relations. An instance of a define is not
+-- evaluated here.
+unfoldable pub declared_rule : Form → List ℕ → Datum → Body → Here → Step (Unit {0})
+declared_rule written kind title b here = do
+  named ← (λ w. answered (tested w.manifests kind title b) w)
   number ← declare_rule written named b here
   (λ w. answered (stands w.overrides w.book number) w)
   answered (relations_checked b.lines)
 
+-- A class: the tests, then it is declared with what the body gives, and evaluated at once, then the relations.
+unfoldable pub class_title_rule : Inner → Form → Datum → Body → Here → Step (Unit {0})
+class_title_rule inner written title b here = do
+  c ← (λ w. answered (class_tested w.manifests written title b) w)
+  class_declared inner c (set_from [] b.lines) b.at here.owner
+  answered (relations_checked b.lines)
+
+unfoldable pub title_rule : Inner → Form → List ℕ → Datum → Body → Here → Step (Unit {0})
+title_rule inner written kind title b here =
+    if bytes_eq kind (codes "class") then class_title_rule inner written title b here
+    else declared_rule written kind title b here
+
 -- ---- all titles of all bodies, one after another
 
-unfoldable pub titles_rule : Form → List ℕ → List Datum → Body → Here → Step (Unit {0})
-titles_rule written kind [] b here = pure tt
-titles_rule written kind (t ∷ ts) b here = do
-  title_rule written kind t b here
-  titles_rule written kind ts b here
+unfoldable pub titles_rule : Inner → Form → List ℕ → List Datum → Body → Here → Step (Unit {0})
+titles_rule inner written kind [] b here = pure tt
+titles_rule inner written kind (t ∷ ts) b here = do
+  title_rule inner written kind t b here
+  titles_rule inner written kind ts b here
 
-unfoldable pub declare_bodies : Form → List ℕ → List Body → Here → Step (Unit {0})
-declare_bodies written kind [] here = pure tt
-declare_bodies written kind (b ∷ bs) here = do
-  titles_rule written kind b.titles b here
-  declare_bodies written kind bs here
+unfoldable pub declare_bodies : Inner → Form → List ℕ → List Body → Here → Step (Unit {0})
+declare_bodies inner written kind [] here = pure tt
+declare_bodies inner written kind (b ∷ bs) here = do
+  titles_rule inner written kind b.titles b here
+  declare_bodies inner written kind bs here
 
 -- what a statement asks for is done; of all but resources it is not built
-unfoldable pub act_rule : Action → ℕ → Here → Step (Unit {0})
-act_rule (action.Resource written kind bodies) at here = declare_bodies written kind (bodies_of bodies) here
-act_rule (action.Override target lines) at here = not_built here at
-act_rule (action.Defaults kind lines) at here = not_built here at
-act_rule (action.Collect exported kind query lines) at here = not_built here at
-act_rule (action.Relate left right signal) at here = not_built here at
+unfoldable pub act_rule : Inner → Action → ℕ → Here → Step (Unit {0})
+act_rule inner (action.Resource written kind bodies) at here =
+    declare_bodies inner written kind (bodies_of bodies) here
+act_rule inner (action.Override target lines) at here = not_built here at
+act_rule inner (action.Defaults kind lines) at here = not_built here at
+act_rule inner (action.Collect exported kind query lines) at here = not_built here at
+act_rule inner (action.Relate left right signal) at here = not_built here at
 
 -- ---- the expression
 
@@ -80,4 +97,4 @@ form_of mark.Exported = form.Exported
 unfoldable pub resource_rule : Inner → Resource Expr → Here → Step (Unit {0})
 resource_rule inner r here = do
   bodies ← bodies_rule inner r.bodies here
-  declare_bodies (form_of r.form) (normal r.kind) bodies here
+  declare_bodies inner (form_of r.form) (normal r.kind) bodies here

@@ -2,14 +2,17 @@
 ghost use Rattle.std.specs.Prelude.{◌≡◌, option_map, find};
 ghost use Rattle.eval_resources.specs.Lines.{bodies_of, body_of, line_of, lines_of};
 ghost use Rattle.eval_resources.specs.Resources as spec;
+ghost use Rattle.eval_world.specs.Nests.{Nests};
 ghost use Rattle.eval_world.specs.Outcomes.{Gives, nothing};
 ghost use Rattle.pp_values.specs.Answers.{Answers};
 ghost use Rattle.pp_values.specs.Views.{view, views};
 
-use crate::attributes::is_value;
+use crate::attributes::attributes;
 use crate::checks::tested;
+use crate::classes::class_tested;
 use crate::declaring::declare;
-use eval_world::{Here, World};
+use eval_classes::{declare_class, is_value};
+use eval_world::{Evaluated, Forms, Goal, Here, Meaning, World};
 use pp_values::{Fault, Stop, Text, Value, What};
 use res_core::{Action, Body, Form, Line, is_relation_name};
 use std::alloc::Global;
@@ -17,11 +20,19 @@ use std::alloc::Global;
 /// Does what a statement that begins at this line asks for. Of a resource each title of each body is declared, in
 /// order.
 #[tactic(auto, unfolding(crate::specs::Resources::act_rule))]
-pub fn act(world: &mut World<'_>, action: &Action, line: u32, here: Here) -> Result<(), Stop>
-    ensures { Gives nothing (spec.act_rule action.now line here world.old) result world.new }
+pub fn act<F: Fn(&mut World<'_>, Goal<'_>, Here, u32) -> Result<Evaluated, Stop>, M: Meaning>(
+    forms: &Forms<F, M>,
+    world: &mut World<'_>,
+    action: &Action,
+    line: u32,
+    here: Here,
+) -> Result<(), Stop>
+    requires { Nests (M.within forms.now.left) forms.now.left (F.pre forms.now.inner) (F.post forms.now.inner) }
+    ensures { Gives nothing (spec.act_rule (M.within forms.now.left) action.now line here world.old) result world.new }
 {
     match action {
         Action::Resource { form, kind, bodies } => declare_bodies(
+            forms,
             world,
             *form,
             kind,
@@ -52,26 +63,30 @@ pub fn act(world: &mut World<'_>, action: &Action, line: u32, here: Here) -> Res
 }
 
 #[tactic(auto, unfolding(crate::specs::Resources::declare_bodies))]
-fn declare_bodies(
+fn declare_bodies<F: Fn(&mut World<'_>, Goal<'_>, Here, u32) -> Result<Evaluated, Stop>, M: Meaning>(
+    forms: &Forms<F, M>,
     world: &mut World<'_>,
     form: Form,
     kind: &Text,
     bodies: &[Body],
     here: Here,
 ) -> Result<(), Stop>
+    requires { Nests (M.within forms.now.left) forms.now.left (F.pre forms.now.inner) (F.post forms.now.inner) }
     ensures { Gives nothing
-        (spec.declare_bodies form kind.now (bodies_of bodies.now) here world.old) result world.new }
+        (spec.declare_bodies (M.within forms.now.left) form kind.now (bodies_of bodies.now) here world.old) result
+        world.new }
 {
     let mut rest = bodies;
     while let Some((body, more)) = rest.split_first() {
-        declare_titles(world, form, kind, body.titles.as_slice(), body, here)?;
+        declare_titles(forms, world, form, kind, body.titles.as_slice(), body, here)?;
         rest = more;
     }
     Ok(())
 }
 
 #[tactic(auto, unfolding(crate::specs::Resources::titles_rule))]
-fn declare_titles(
+fn declare_titles<F: Fn(&mut World<'_>, Goal<'_>, Here, u32) -> Result<Evaluated, Stop>, M: Meaning>(
+    forms: &Forms<F, M>,
     world: &mut World<'_>,
     form: Form,
     kind: &Text,
@@ -79,20 +94,44 @@ fn declare_titles(
     body: &Body,
     here: Here,
 ) -> Result<(), Stop>
+    requires { Nests (M.within forms.now.left) forms.now.left (F.pre forms.now.inner) (F.post forms.now.inner) }
     ensures { Gives nothing
-        (spec.titles_rule form kind.now (views titles.now) (body_of body.now) here world.old) result world.new }
+        (spec.titles_rule (M.within forms.now.left) form kind.now (views titles.now) (body_of body.now) here world.old)
+        result world.new }
 {
     let mut rest = titles;
     while let Some((title, more)) = rest.split_first() {
-        declare_title(world, form, kind, title, body, here)?;
+        declare_title(forms, world, form, kind, title, body, here)?;
         rest = more;
     }
     Ok(())
 }
 
-/// The tests of one title, its declaration, the override lines that came before it, its relations.
 #[tactic(auto, unfolding(crate::specs::Resources::title_rule))]
-fn declare_title(
+fn declare_title<F: Fn(&mut World<'_>, Goal<'_>, Here, u32) -> Result<Evaluated, Stop>, M: Meaning>(
+    forms: &Forms<F, M>,
+    world: &mut World<'_>,
+    form: Form,
+    kind: &Text,
+    title: &Value,
+    body: &Body,
+    here: Here,
+) -> Result<(), Stop>
+    requires { Nests (M.within forms.now.left) forms.now.left (F.pre forms.now.inner) (F.post forms.now.inner) }
+    ensures { Gives nothing
+        (spec.title_rule (M.within forms.now.left) form kind.now (view title.now) (body_of body.now) here world.old)
+        result world.new }
+{
+    if kind.is("class") {
+        declare_class_title(forms, world, form, title, body, here)
+    } else {
+        declare_resource(world, form, kind, title, body, here)
+    }
+}
+
+/// The tests of one title, its declaration, the override lines that came before it, its relations.
+#[tactic(auto, unfolding(crate::specs::Resources::declared_rule))]
+fn declare_resource(
     world: &mut World<'_>,
     form: Form,
     kind: &Text,
@@ -101,19 +140,35 @@ fn declare_title(
     here: Here,
 ) -> Result<(), Stop>
     ensures { Gives nothing
-        (spec.title_rule form kind.now (view title.now) (body_of body.now) here world.old) result world.new }
+        (spec.declared_rule form kind.now (view title.now) (body_of body.now) here world.old) result world.new }
 {
-    let named = tested(
-        world.heap.alloc(),
-        &world.manifests.main().definitions,
-        form,
-        kind,
-        title,
-        body,
-    )?;
+    let alloc = world.heap.alloc();
+    let named = tested(alloc, &world.manifests, kind, title, body)?;
     let number = declare(world, form, named, body, here)?;
-    world.overrides.stand(world.heap.alloc(), &world.book, number)?;
-    check_relations(world.heap.alloc(), body.lines.as_slice())
+    world.overrides.stand(alloc, &world.book, number)?;
+    check_relations(alloc, body.lines.as_slice())
+}
+
+/// The tests of a class, its declaration and evaluation, its relations.
+#[tactic(auto, unfolding(crate::specs::Resources::class_title_rule))]
+fn declare_class_title<F: Fn(&mut World<'_>, Goal<'_>, Here, u32) -> Result<Evaluated, Stop>, M: Meaning>(
+    forms: &Forms<F, M>,
+    world: &mut World<'_>,
+    form: Form,
+    title: &Value,
+    body: &Body,
+    here: Here,
+) -> Result<(), Stop>
+    requires { Nests (M.within forms.now.left) forms.now.left (F.pre forms.now.inner) (F.post forms.now.inner) }
+    ensures { Gives nothing
+        (spec.class_title_rule (M.within forms.now.left) form (view title.now) (body_of body.now) here world.old)
+        result world.new }
+{
+    let alloc = world.heap.alloc();
+    let class = class_tested(alloc, &world.manifests, form, title, body)?;
+    let given = attributes(alloc, body.lines.as_slice())?;
+    declare_class(forms, world, class, &given, &body.at, here.owner)?;
+    check_relations(alloc, body.lines.as_slice())
 }
 
 /// Relations by attributes are not built.

@@ -1,15 +1,12 @@
 //! The attributes that lines set.
-ghost use Rattle.std.specs.Prelude.{◌≡◌, [], IfOk, OnOk, IsTrue};
+ghost use Rattle.std.specs.Prelude.{◌≡◌, [], IfOk, OnOk};
 ghost use Rattle.eval_resources.specs.Declaring as spec;
 ghost use Rattle.eval_resources.specs.Lines.{line_of, lines_of};
-ghost use Rattle.pp_values.specs.Rising.{is_rising};
-ghost use Rattle.pp_values.specs.Settings.{setting_names};
-ghost use Rattle.pp_values.specs.Views.{view};
-ghost use Rattle.res_core.specs.AttributeViews.{setting};
 
+use eval_classes::{attributes_from, is_value};
 use eval_world::Evaluated;
-use pp_values::{Memory, Text, Value};
-use res_core::{Attribute, Attributes, Line};
+use pp_values::{Memory, Text};
+use res_core::{Attributes, Line};
 use std::alloc::Global;
 use std::collections::BTreeMap;
 
@@ -19,7 +16,7 @@ pub fn attributes(alloc: Global, lines: &[Line]) -> Result<Attributes, Memory>
     ensures { IfOk result (λ a. a ≡ spec.set_from [] (lines_of lines.now)) }
 {
     let set = gathered(alloc, lines)?;
-    from_map(alloc, set)
+    attributes_from(alloc, set)
 }
 
 #[tactic(auto, unfolding(crate::specs::Declaring::set_from))]
@@ -44,35 +41,4 @@ fn put(alloc: Global, set: &mut BTreeMap<Text, Evaluated>, line: &Line) -> Resul
         set.insert(name, value)?;
     }
     Ok(())
-}
-
-/// Whether a value is not Undef.
-pub fn is_value(value: &Value) -> bool
-    ensures { result ≡ spec.is_value (view value.now) }
-{
-    match value {
-        Value::Undef => false,
-        _ => true,
-    }
-}
-
-fn from_map(alloc: Global, set: BTreeMap<Text, Evaluated>) -> Result<Attributes, Memory>
-    requires { IsTrue (is_rising (setting_names set.entries)) }
-    ensures { IfOk result (λ a. a ≡ set.entries) }
-{
-    let mut items = Vec::new(alloc);
-    for entry in set {
-        items.push(attribute_of(entry))?;
-    }
-    Ok(Attributes::from_vec(items))
-}
-
-fn attribute_of(entry: (Text, Evaluated)) -> Attribute
-    ensures { setting result ≡ entry }
-{
-    let (name, value) = entry;
-    Attribute {
-        name,
-        value: value.into_value(),
-    }
 }

@@ -6,8 +6,8 @@ ghost use Rattle.eval_world.specs.Nests.{Nests};
 ghost use Rattle.eval_world.specs.Outcomes.{Gives};
 
 use crate::filling::filled;
-use crate::flat::flat;
 use crate::reading::lines;
+use eval_classes::flat;
 use eval_world::{Evaluated, Forms, Goal, Here, Meaning, World};
 use pp_tree::expr::{Expr, Form};
 use pp_tree::resource::Body as Written;

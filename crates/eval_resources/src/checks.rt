@@ -6,11 +6,12 @@ ghost use Rattle.pp_values.specs.Answers.{Answers};
 ghost use Rattle.pp_values.specs.Views.{view};
 
 use crate::filling::has_name;
-use crate::kinds::{check_kind, kind_of};
+use crate::kinds::check_kind;
+use crate::known_kind::KnownKind;
 use crate::named::Named;
-use pp_tree::table::Table;
+use eval_world::Manifests;
 use pp_values::{Fault, Memory, Place, Reference, Stop, Subject, Text, Texts, Value, What};
-use res_core::{Body, Form, Line, NativeType, check_known, known_attributes};
+use res_core::{Body, Line, check_known};
 use std::alloc::Global;
 use std::collections::BTreeSet;
 
@@ -18,43 +19,43 @@ use std::collections::BTreeSet;
 #[tactic(auto, unfolding(crate::specs::Checks::tested))]
 pub fn tested(
     alloc: Global,
-    definitions: &Table,
-    form: Form,
+    manifests: &Manifests<'_>,
     kind: &Text,
     title: &Value,
     body: &Body,
 ) -> Result<Named, Stop>
-    ensures { Answers result (spec.tested definitions.now form kind.now (view title.now) (body_of body.now)) }
+    ensures { Answers result (spec.tested manifests.now kind.now (view title.now) (body_of body.now)) }
 {
-    let native = check_kind(alloc, definitions, form, kind, title, &body.at)?;
-    title_tested(alloc, native, title, body)
+    let known = check_kind(alloc, manifests, kind, &body.at)?;
+    title_tested(alloc, known, title, body)
 }
 
-fn title_tested(
-    alloc: Global,
-    native: NativeType,
-    title: &Value,
-    body: &Body,
-) -> Result<Named, Stop>
-    ensures { Answers result (spec.title_tested native (view title.now) (body_of body.now)) }
+fn title_tested(alloc: Global, known: KnownKind, title: &Value, body: &Body) -> Result<Named, Stop>
+    ensures { Answers result (spec.title_tested known (view title.now) (body_of body.now)) }
 {
     let title = check_title(alloc, title, &body.at)?;
-    let what = reference_of(alloc, native, &title)?;
-    let known = known_attributes(alloc, native)?;
-    check_lines(alloc, &what, &known, body.lines.as_slice())?;
-    Ok(Named { native, title })
+    let what = reference_to(alloc, &known, &title)?;
+    check_lines(alloc, &what, &known.known, body.lines.as_slice())?;
+    Ok(named_of(known, title))
 }
 
-fn reference_of(alloc: Global, native: NativeType, title: &Text) -> Result<Reference, Memory>
-    ensures { IfOk result (λ r. r ≡ spec.reference_of native title.now) }
+fn named_of(known: KnownKind, title: Text) -> Named
+    ensures { result ≡ spec.named_of known title }
 {
-    let kind = kind_of(alloc, native)?;
+    let KnownKind { kind, known } = known;
+    Named { kind, title, known }
+}
+
+fn reference_to(alloc: Global, known: &KnownKind, title: &Text) -> Result<Reference, Memory>
+    ensures { IfOk result (λ r. r ≡ spec.reference_to known.now title.now) }
+{
+    let kind = known.kind.copy(alloc)?;
     let title = title.copy(alloc)?;
     Ok(Reference { kind, title })
 }
 
 #[tactic(auto, unfolding(crate::specs::Checks::title_checked))]
-fn check_title(alloc: Global, title: &Value, at: &Place) -> Result<Text, Stop>
+pub fn check_title(alloc: Global, title: &Value, at: &Place) -> Result<Text, Stop>
     ensures { Answers result (spec.title_checked (view title.now) at.now) }
 {
     match title {
@@ -81,7 +82,7 @@ fn no_title(alloc: Global, at: &Place) -> Result<Fault, Memory>
 }
 
 #[tactic(auto, unfolding(crate::specs::Checks::lines_checked))]
-fn check_lines(alloc: Global, what: &Reference, known: &Texts, lines: &[Line]) -> Result<(), Stop>
+pub fn check_lines(alloc: Global, what: &Reference, known: &Texts, lines: &[Line]) -> Result<(), Stop>
     ensures { Answers result (spec.lines_checked what.now known.now (lines_of lines.now)) }
 {
     check_names(alloc, what, known, lines)?;

@@ -4,7 +4,8 @@ ghost use Rattle.eval_resources.specs.Collectors as spec;
 ghost use Rattle.eval_world.specs.Nests.{Nests};
 ghost use Rattle.eval_world.specs.Outcomes.{Gives, nothing, same};
 
-use crate::kinds::{kind_of, normal_name};
+use crate::kinds::kind_of;
+use eval_classes::normal_name;
 use eval_world::{Evaluated, Forms, Goal, Here, Meaning, World};
 use pp_tree::collector::{
     Collector as Written, Comparison, Conjunction, Query as WrittenQuery, Test,

@@ -1,109 +1,77 @@
 //! Which kinds may be declared.
 ghost use Rattle.std.specs.Prelude.{◌≡◌, IfOk};
 ghost use Rattle.eval_resources.specs.Checks as spec;
-ghost use Rattle.pp_tree.specs.Names.{normal};
 ghost use Rattle.pp_values.specs.Answers.{Answers};
-ghost use Rattle.pp_values.specs.Views.{view};
+ghost use Rattle.pp_values.specs.Faults.{fault};
+ghost use Rattle.pp_values.specs.declared.fault.What.TheVariants as what;
 ghost use Rattle.res_core.specs.NativeTypes.{row};
 
-use pp_tree::definition::Definition;
-use pp_tree::table::{DefinitionName, Table};
-use pp_values::{Fault, Kind, Memory, Place, Reference, Stop, Subject, Text, Value, What};
-use res_core::{Form, NativeType, native};
+use crate::known_kind::KnownKind;
+use eval_classes::{define_found, param_names};
+use eval_world::Manifests;
+use pp_tree::Param;
+use pp_values::{Fault, Kind, Memory, Place, Stop, Text, What};
+use res_core::{NativeType, known_attributes, native};
 use std::alloc::Global;
 
-/// The native type of a kind. Of another kind nothing is declared yet.
-#[tactic(auto, unfolding(crate::specs::Checks::native_checked))]
+/// A native type or a define of the site, by its name in lower case without a leading `::`. Else it is F5.
+#[tactic(auto, unfolding(crate::specs::Checks::kind_checked))]
 pub fn check_kind(
     alloc: Global,
-    definitions: &Table,
-    form: Form,
+    manifests: &Manifests<'_>,
     kind: &Text,
-    title: &Value,
     at: &Place,
-) -> Result<NativeType, Stop>
-    ensures { Answers result (spec.native_checked definitions.now form kind.now (view title.now) at.now) }
+) -> Result<KnownKind, Stop>
+    ensures { Answers result (spec.kind_checked manifests.now kind.now at.now) }
 {
     match native(kind) {
-        Some(native) => Ok(native),
-        None => Err(Stop::Fault(other_refused(alloc, definitions, form, kind, title, at)?)),
+        Some(native) => Ok(native_kind(alloc, native)?),
+        None => check_define(alloc, manifests, kind, at),
     }
 }
 
-fn other_refused(
-    alloc: Global,
-    definitions: &Table,
-    form: Form,
-    kind: &Text,
-    title: &Value,
-    at: &Place,
-) -> Result<Fault, Memory>
-    ensures { IfOk result (λ f. f ≡ spec.other_refused definitions.now form kind.now (view title.now) at.now) }
+fn native_kind(alloc: Global, native: NativeType) -> Result<KnownKind, Memory>
+    ensures { IfOk result (λ k. k ≡ spec.native_kind native) }
 {
-    if kind.is("class") {
-        return class_refused(alloc, form, title, at);
+    let kind = kind_of(alloc, native)?;
+    let known = known_attributes(alloc, native)?;
+    Ok(KnownKind { kind, known })
+}
+
+fn check_define(
+    alloc: Global,
+    manifests: &Manifests<'_>,
+    kind: &Text,
+    at: &Place,
+) -> Result<KnownKind, Stop>
+    ensures { Answers result (spec.define_checked manifests.now kind.now at.now) }
+{
+    let define = define_found(alloc, manifests, kind, at)?;
+    define_kind(alloc, kind, at, define.params.as_slice())
+}
+
+fn define_kind(alloc: Global, kind: &Text, at: &Place, params: &[Param]) -> Result<KnownKind, Stop>
+    ensures { Answers result (spec.define_kind kind.now at.now params.now) }
+{
+    match Kind::from_text(kind.copy(alloc)?) {
+        Some(kind) => Ok(with_params(alloc, kind, params)?),
+        None => Err(Stop::Fault(unknown_type(alloc, kind, at)?)),
     }
+}
+
+fn with_params(alloc: Global, kind: Kind, params: &[Param]) -> Result<KnownKind, Memory>
+    ensures { IfOk result (λ k. k ≡ spec.with_params kind params.now) }
+{
+    let known = param_names(alloc, params)?;
+    Ok(KnownKind { kind, known })
+}
+
+fn unknown_type(alloc: Global, kind: &Text, at: &Place) -> Result<Fault, Memory>
+    ensures { IfOk result (λ f. f ≡ fault at.now (what.UnknownType kind.now)) }
+{
     let at = at.copy(alloc)?;
-    if is_defined(alloc, definitions, kind)? {
-        return Fault::new(alloc, at, What::NotBuilt);
-    }
     let kind = kind.copy(alloc)?;
     Fault::new(alloc, at, What::UnknownType(kind))
-}
-
-fn is_defined(alloc: Global, definitions: &Table, kind: &Text) -> Result<bool, Memory>
-    ensures { IfOk result (λ b. b ≡ spec.is_defined definitions.now kind.now) }
-{
-    let name = DefinitionName::Code(kind.copy(alloc)?);
-    match definitions.get(&name) {
-        Some(definition) => Ok(is_define(definition)),
-        None => Ok(false),
-    }
-}
-
-fn is_define(definition: &Definition) -> bool
-    ensures { result ≡ spec.is_define definition.now }
-{
-    match definition {
-        Definition::Define(_) => true,
-        Definition::Class(_) | Definition::Node(_) | Definition::SameNode(_) => false,
-    }
-}
-
-fn class_refused(alloc: Global, form: Form, title: &Value, at: &Place) -> Result<Fault, Memory>
-    ensures { IfOk result (λ f. f ≡ spec.class_refused form (view title.now) at.now) }
-{
-    let at = at.copy(alloc)?;
-    match form {
-        Form::Plain => Fault::new(alloc, at, What::NotBuilt),
-        Form::Virtual | Form::Exported => {
-            let subject = class_named(alloc, title)?;
-            Fault::new(alloc, at, What::ClassVirtual(subject))
-        }
-    }
-}
-
-fn class_named(alloc: Global, title: &Value) -> Result<Subject, Memory>
-    ensures { IfOk result (λ s. s ≡ spec.class_named (view title.now)) }
-{
-    let kind = Kind::from_str(alloc, "class")?;
-    match title {
-        Value::Text(title) => {
-            let title = normal_name(alloc, title)?;
-            Ok(Subject::Reference(Reference { kind, title }))
-        }
-        _ => Ok(Subject::Kind(kind)),
-    }
-}
-
-/// The name of a class, a define or a kind: without a leading `::`, its ASCII letters in lower case.
-pub fn normal_name(alloc: Global, written: &Text) -> Result<Text, Memory>
-    ensures { IfOk result (λ name. name ≡ normal written.now) }
-{
-    match DefinitionName::code(alloc, written)? {
-        DefinitionName::Code(name) => Ok(name),
-        DefinitionName::Node(_) => written.copy(alloc),
-    }
 }
 
 /// The kind of a native type.

@@ -1,9 +1,10 @@
-use pp_values::Text;
-use res_core::NativeType;
+use pp_values::{Kind, Text, Texts};
 
-/// A resource that passed the tests of its title and lines: of which type it is, and its title.
+/// A resource that passed the tests of its title and lines.
 #[derive(Drop)]
 pub struct Named {
-    pub native: NativeType,
+    pub kind: Kind,
     pub title: Text,
+    /// The attributes that its kind takes besides the metaparameters.
+    pub known: Texts,
 }

@@ -6,7 +6,7 @@ ghost use Rattle.eval_world.specs.Outcomes.{Gives, nothing};
 
 use crate::acting::act;
 use crate::bodies::bodies;
-use crate::kinds::normal_name;
+use eval_classes::normal_name;
 use eval_world::{Evaluated, Forms, Goal, Here, Meaning, World};
 use pp_tree::resource::{Resource, ResourceForm};
 use pp_values::Stop;
@@ -30,7 +30,7 @@ pub fn resource<F: Fn(&mut World<'_>, Goal<'_>, Here, u32) -> Result<Evaluated, 
         kind,
         bodies,
     };
-    act(world, &action, written.at, here)
+    act(forms, world, &action, written.at, here)
 }
 
 fn form_of(written: ResourceForm) -> Form

@@ -20,9 +20,9 @@ returns-in-Words t c =
 pub returns-in-Class : goal.returns-in-Class
 returns-in-Class t c =
     rw (one_level c.args.left c.args.goal c.args.here c.args.world.now c.if-left-eq0.false, c.in-Class.is)
-    c.not_built.ensures
+    c.class_body.ensures
 
 pub returns-in-Instance : goal.returns-in-Instance
 returns-in-Instance t c =
     rw (one_level c.args.left c.args.goal c.args.here c.args.world.now c.if-left-eq0.false, c.in-Instance.is)
-    c.not_built-in-Instance.ensures
+    c.instance_body.ensures

@@ -6,9 +6,9 @@ use Rattle.eval_resources.specs.Resources.{titles_rule}
 use Rattle.eval_resources.proofs.acting.declare_titles.Given as goal
 
 abbrev pub invariant-loop-title : goal.invariant-loop-title
-invariant-loop-title l =
-    titles_rule l.form l.kind (views l.titles) (body_of l.body) l.here l.fn.world
-    ≡ titles_rule l.form l.kind (views l.rest) (body_of l.body) l.here l.world
+invariant-loop-title g l =
+    titles_rule (g.M.Meaning.within l.forms.left) l.form l.kind (views l.titles) (body_of l.body) l.here l.fn.world
+    ≡ titles_rule (g.M.Meaning.within l.forms.left) l.form l.kind (views l.rest) (body_of l.body) l.here l.world
 
 abbrev pub decreases-loop-title : goal.decreases-loop-title
-decreases-loop-title l = length l.rest
+decreases-loop-title g l = length l.rest

@@ -1,0 +1,9 @@
+pub mod Answers
+pub mod Attributes
+pub mod Bodies
+pub mod Definitions
+pub mod Entering
+pub mod Included
+pub mod Listing
+pub mod Parameters
+pub mod Stacks

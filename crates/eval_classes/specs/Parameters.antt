@@ -1,0 +1,64 @@
+-- The parameters of a class or of an instance.
+use Rattle.std.specs.Prelude.{ℕ, if◌then◌else◌, List, [], ◌∷◌, Option, None, Some, Err}
+use Rattle.std.specs.BTreeMap.{insert_entry}
+use Rattle.pp_tree.specs.Building.{line_of}
+use Rattle.pp_tree.specs.declared.expr.Expr.{Expr}
+use Rattle.pp_tree.specs.declared.param.Param.{Param}
+use Rattle.pp_values.specs.Datum.{Datum}
+use Rattle.pp_values.specs.Faults as faults
+use Rattle.pp_values.specs.Rising.{text_cmp}
+use Rattle.pp_values.specs.Settings.{Setting}
+use Rattle.pp_values.specs.declared.fault.What.TheVariants as what
+use Rattle.pp_values.specs.declared.place.Place.{Place}
+use Rattle.pp_values.specs.declared.reference.Reference.{Reference}
+use Rattle.eval_world.specs.Inner.{Inner}
+use Rattle.eval_world.specs.Outcomes.{Step, ◌>>=◌, ◌>>◌, pure}
+use Rattle.eval_world.specs.Worlds.{assign, not_built}
+use Rattle.eval_world.specs.declared.here.Here.{Here}
+use Rattle.eval_classes.specs.Attributes.{is_value}
+
+-- what was given for each name
+abbrev pub Given : Type 0
+Given = List ℕ → Option Datum
+
+-- a class or an instance was declared, at this place, with no value for a parameter
+abbrev pub missing : {A : Type 0} → Reference → List ℕ → Place → Step A
+missing of x at = λ w. Err (faults.fault at (what.MissingParameter of x))
+
+-- the default, which is evaluated in the new scope, one level further in; else F9 where it was declared
+abbrev pub default_rule : Inner → Option Expr → Reference → List ℕ → Place → Here → Step Datum
+default_rule inner None of x at own = missing of x at
+default_rule inner (Some e) of x at own = inner.value e own
+
+-- what is given as Undef counts as not given
+abbrev pub given_or_default : Inner → Datum → Param Expr → Reference → Place → Here → Step Datum
+given_or_default inner v p of at own =
+    if is_value v then pure v else default_rule inner p.default of p.name at own
+
+abbrev pub value_by : Inner → Option Datum → Param Expr → Reference → Place → Here → Step Datum
+value_by inner None p of at own = default_rule inner p.default of p.name at own
+value_by inner (Some v) p of at own = given_or_default inner v p of at own
+
+unfoldable pub value_rule : Inner → Given → Param Expr → Reference → Place → Here → Step Datum
+value_rule inner given p of at own = value_by inner (given p.name) p of at own
+
+-- a parameter with a type is not built, at the line of the type
+abbrev pub typed : Option Expr → Here → Step (Unit {0})
+typed None own = pure tt
+typed (Some kind) own = not_built own (line_of kind)
+
+-- The value is found first, then comes its type, then the name is set: F3 at the line of the variable.
+unfoldable pub bind_rule : Inner → Given → List Setting → Param Expr → Reference → Place → Here → Step (List Setting)
+bind_rule inner given done p of at own = do
+  v ← value_rule inner given p of at own
+  typed p.kind own
+  assign own p.name v p.at
+  pure (insert_entry text_cmp done p.name v)
+
+-- the parameters in order, and their values by the order of their names
+unfoldable pub bind_from : Inner → Given → List Setting → List (Param Expr) → Reference → Place → Here →
+    Step (List Setting)
+bind_from inner given done [] of at own = pure done
+bind_from inner given done (p ∷ ps) of at own = do
+  more ← bind_rule inner given done p of at own
+  bind_from inner given more ps of at own

@@ -1,0 +1,10 @@
+use pp_tree::definition::Class;
+
+/// Classes that are declared together: a class and its parents. Contracts see what they say by `chain_seen`.
+#[derive(Drop)]
+pub struct Chain<'a> {
+    /// The last parent, or the class where it is alone.
+    pub last: &'a Class,
+    /// The class, and then those of its parents that stand before the last.
+    pub before: Vec<&'a Class>,
+}

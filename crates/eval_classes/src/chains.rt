@@ -1,0 +1,91 @@
+//! Which classes are declared together.
+ghost use Rattle.std.specs.Prelude.{◌≡◌, [], IfOk};
+ghost use Rattle.std.specs.Option.{option_copied};
+ghost use Rattle.eval_classes.specs.Definitions.{longest_way};
+ghost use Rattle.eval_classes.specs.Listing as spec;
+ghost use Rattle.eval_classes.specs.Stacks.{chain_seen};
+
+use crate::chain::Chain;
+use crate::declaring::is_declared;
+use crate::definitions::find;
+use crate::parents::{class_in, parent_of};
+use eval_world::Manifests;
+use pp_tree::definition::Class;
+use pp_values::{Memory, Text};
+use res_book::{Book, DECLARATION_LIMIT};
+use std::alloc::Global;
+
+/// A class, and its parents up to the last one, or to one that is declared already.
+#[tactic(auto, using(crate::proofs::Links::further, crate::proofs::Links::too_long))]
+pub fn chain_of<'a>(
+    alloc: Global,
+    manifests: &Manifests<'a>,
+    book: &Book,
+    class: &'a Class,
+) -> Result<Chain<'a>, Memory>
+    ensures { IfOk result (λ c. chain_seen c ≡ spec.chain_from longest_way [] class.now manifests.now book.now) }
+{
+    let mut before = Vec::new(alloc);
+    let mut last = class;
+    for _turn in 0..DECLARATION_LIMIT {
+        let Some(parent) = next_class(alloc, manifests, book, last)? else {
+            return Ok(Chain { last, before });
+        };
+        before.push(last)?;
+        last = parent;
+    }
+    Ok(Chain { last, before })
+}
+
+/// The parent, where it is a class of the site that is not declared yet.
+fn next_class<'a>(
+    alloc: Global,
+    manifests: &Manifests<'a>,
+    book: &Book,
+    class: &Class,
+) -> Result<Option<&'a Class>, Memory>
+    ensures { IfOk result (λ o. option_copied o ≡ spec.next_class manifests.now book.now class.now) }
+{
+    let parent = parent_of(alloc, manifests, class)?;
+    let class = class_at(alloc, manifests, &parent)?;
+    unless_declared(alloc, book, class)
+}
+
+fn class_at<'a>(
+    alloc: Global,
+    manifests: &Manifests<'a>,
+    name: &Option<Text>,
+) -> Result<Option<&'a Class>, Memory>
+    ensures { IfOk result (λ o. option_copied o ≡ spec.class_at manifests.now name.now) }
+{
+    match name {
+        Some(name) => Ok(class_in(find(alloc, manifests, name)?)),
+        None => Ok(None),
+    }
+}
+
+fn unless_declared<'a>(
+    alloc: Global,
+    book: &Book,
+    class: Option<&'a Class>,
+) -> Result<Option<&'a Class>, Memory>
+    ensures { IfOk result (λ o. option_copied o ≡ spec.unless_declared book.now (option_copied class.entry)) }
+{
+    match class {
+        Some(class) => unless_there(alloc, book, class),
+        None => Ok(None),
+    }
+}
+
+fn unless_there<'a>(
+    alloc: Global,
+    book: &Book,
+    class: &'a Class,
+) -> Result<Option<&'a Class>, Memory>
+    ensures { IfOk result (λ o. option_copied o ≡ spec.unless_there book.now class.now) }
+{
+    if is_declared(alloc, book, class)? {
+        return Ok(None);
+    }
+    Ok(Some(class))
+}

@@ -1,0 +1,39 @@
+//! Classes and defines: where their definitions are found, how a class is declared, and what their bodies mean.
+#![tactic(auto)]
+
+mod asked;
+mod attributes;
+mod binding;
+mod bodies;
+mod body_owner;
+mod chain;
+mod chains;
+mod declaring;
+mod definitions;
+mod entered;
+mod entering;
+mod flattening;
+mod found;
+mod homes;
+mod included;
+mod including;
+mod instances;
+mod listed;
+mod listing;
+mod names;
+mod parameters;
+mod parents;
+mod paths;
+mod tagging;
+
+pub use attributes::{attributes_from, is_value};
+pub use bodies::{class_body, instance_body};
+pub use body_owner::BodyOwner;
+pub use definitions::{class_found, define_found};
+pub use entering::enter_body;
+pub use flattening::{flat, flattened};
+pub use included::{declare_class, declare_once, include};
+pub use including::Including;
+pub use instances::run_instance;
+pub use names::{class_reference, normal_name, param_names};
+pub use tagging::{given_tags, tags_within};

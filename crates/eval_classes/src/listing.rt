@@ -1,0 +1,205 @@
+//! The classes of a chain, as their scopes are entered and as they are listed.
+ghost use Rattle.std.specs.Prelude.{◌≡◌, ◌+◌, [], IfOk};
+ghost use Rattle.eval_classes.specs.Listing as spec;
+ghost use Rattle.eval_classes.specs.Stacks.{chain_seen, class_seen, entered_seen, stack_of};
+ghost use Rattle.eval_world.specs.Outcomes.{Gives, nothing, same};
+
+use crate::chain::Chain;
+use crate::declaring::{declare, number_of};
+use crate::definitions::class_found;
+use crate::entered::Entered;
+use crate::homes::file_of;
+use crate::listed::Listed;
+use crate::names::class_name;
+use crate::parents::parent_of;
+use eval_world::{Here, Manifests, Owner, Owners, World};
+use pp_tree::definition::Class;
+use pp_values::{Memory, Place, Stop, Text};
+use res_core::Attributes;
+use scope_core::{ScopeId, ScopeKind};
+use std::alloc::Global;
+
+/// Enters the scopes of these classes, the last parent's first.
+#[tactic(auto, unfolding(crate::specs::Listing::enter_chain))]
+pub fn enter_chain<'a>(world: &mut World<'a>, chain: Chain<'a>) -> Result<Vec<Entered<'a>>, Stop>
+    ensures { Gives (λ v. stack_of entered_seen v.items) (spec.enter_chain (chain_seen chain.entry) world.old) result
+        world.new }
+{
+    let Chain { last, before } = chain;
+    let outer = outer_scope(world, last)?;
+    let scope = enter_scope(world, last, outer)?;
+    let mut first = Vec::new(world.heap.alloc());
+    first.push(Entered { class: last, scope })?;
+    enter_all(world, before, scope, first)
+}
+
+#[tactic(auto, unfolding(crate::specs::Listing::enter_all), using(crate::proofs::Stacks::put_on))]
+fn enter_all<'a>(
+    world: &mut World<'a>,
+    classes: Vec<&'a Class>,
+    parent: ScopeId,
+    done: Vec<Entered<'a>>,
+) -> Result<Vec<Entered<'a>>, Stop>
+    ensures { Gives (λ v. stack_of entered_seen v.items) (spec.enter_all (stack_of class_seen classes.entry.items)
+        parent.number (stack_of entered_seen done.entry.items) world.old) result world.new }
+{
+    let mut left = classes;
+    let mut parent = parent;
+    let mut all = done;
+    while let Some(class) = left.pop() {
+        let scope = enter_scope(world, class, parent.number)?;
+        all.push(Entered { class, scope })?;
+        parent = scope;
+    }
+    Ok(all)
+}
+
+#[tactic(auto, unfolding(crate::specs::Listing::enter_scope))]
+fn enter_scope(world: &mut World<'_>, class: &Class, parent: u32) -> Result<ScopeId, Stop>
+    ensures { Gives (λ s. s.number) (spec.enter_scope class.now parent world.old) result world.new }
+{
+    let name = class_name(world.heap.alloc(), class)?;
+    let parent = ScopeId { number: parent };
+    Ok(
+        world
+            .scopes
+            .enter(world.heap.alloc(), ScopeKind::Class(name), parent)?,
+    )
+}
+
+/// The scope that a class is entered from: that of its parent, which is declared already, or else top scope.
+fn outer_scope(world: &World<'_>, class: &Class) -> Result<u32, Memory>
+    ensures { IfOk result (λ n. n ≡ spec.outer_scope class.now world.now) }
+{
+    match parent_of(world.heap.alloc(), &world.manifests, class)? {
+        Some(parent) => scope_of_class(world, &parent),
+        None => Ok(0),
+    }
+}
+
+fn scope_of_class(world: &World<'_>, name: &Text) -> Result<u32, Memory>
+    ensures { IfOk result (λ n. n ≡ spec.scope_of_name name.now world.now) }
+{
+    match number_of(world.heap.alloc(), &world.book, name)? {
+        Some(number) => Ok(scope_among(&world.owners, number, world.book.count())),
+        None => Ok(0),
+    }
+}
+
+/// The scope of the first owner that has this declaration as its resource.
+#[tactic(auto, using(crate::proofs::Scopes::further, crate::proofs::Scopes::at_end))]
+fn scope_among(owners: &Owners, resource: u32, count: u32) -> u32
+    ensures { result ≡ spec.scope_among (count + 1) 0 resource owners.now }
+{
+    for number in 0..=count {
+        let owner = owners.get(number);
+        if owner.resource == resource {
+            return owner.scope;
+        }
+    }
+    0
+}
+
+/// Lists these classes, the first of them with what was given. The last one stands first in the answer.
+#[tactic(auto, unfolding(crate::specs::Listing::list_all), using(crate::proofs::Stacks::put_on))]
+pub fn list_all<'a>(
+    world: &mut World<'a>,
+    classes: Vec<Entered<'a>>,
+    given: &Attributes,
+    at: &Place,
+    from: u32,
+) -> Result<Vec<Listed>, Stop>
+    ensures { Gives (λ v. stack_of same v.items) (spec.list_all (stack_of entered_seen classes.entry.items) given.now
+        at.now from [] world.old) result world.new }
+{
+    let none = Attributes::new(world.heap.alloc());
+    let mut left = classes;
+    let mut given = given;
+    let mut from = from;
+    let mut done = Vec::new(world.heap.alloc());
+    while let Some(class) = left.pop() {
+        let listed = list_class(world, class, given, at, from)?;
+        done.push(listed)?;
+        given = &none;
+        from = listed.here.owner;
+    }
+    Ok(done)
+}
+
+#[tactic(auto, unfolding(crate::specs::Listing::list_rule))]
+fn list_class(
+    world: &mut World<'_>,
+    entered: Entered<'_>,
+    given: &Attributes,
+    at: &Place,
+    from: u32,
+) -> Result<Listed, Stop>
+    ensures { Gives same (spec.list_rule (entered_seen entered.entry) given.now at.now from world.old) result
+        world.new }
+{
+    let number = declare(world, entered.class, given, at, from)?;
+    own(world, entered.class, entered.scope, number, from)
+}
+
+/// What the class declares belongs to a new owner.
+#[tactic(auto, unfolding(crate::specs::Listing::own_rule))]
+fn own(
+    world: &mut World<'_>,
+    class: &Class,
+    scope: ScopeId,
+    number: u32,
+    from: u32,
+) -> Result<Listed, Stop>
+    ensures { Gives same (spec.own_rule class.now scope.number number from world.old) result world.new }
+{
+    let outer = world.owners.get(from).scope;
+    let owner = class_owner(
+        world.heap.alloc(),
+        &world.manifests,
+        class,
+        number,
+        scope.number,
+    )?;
+    world.overrides.open_scope(scope.number, Some(outer))?;
+    let owner = world.owners.add(owner)?;
+    Ok(Listed {
+        number,
+        line: class.at,
+        here: Here { scope, owner },
+    })
+}
+
+fn class_owner(
+    alloc: Global,
+    manifests: &Manifests<'_>,
+    class: &Class,
+    number: u32,
+    scope: u32,
+) -> Result<Owner, Memory>
+    ensures { IfOk result (λ o. o ≡ spec.class_owner manifests.now class.now number scope) }
+{
+    let name = class_name(alloc, class)?;
+    let file = file_of(alloc, manifests, &name)?;
+    let mut source = String::from_str(alloc, "class ")?;
+    source.push_str(name.as_str())?;
+    Ok(Owner {
+        file,
+        source: Text::new(source),
+        resource: number,
+        scope,
+    })
+}
+
+/// The parent of the last one has to be a class of the site.
+#[tactic(auto, unfolding(crate::specs::Listing::last_checked))]
+pub fn check_last(world: &World<'_>, class: &Class, at: &Place) -> Result<(), Stop>
+    ensures { Gives nothing (spec.last_checked class.now at.now world.now) result world.now }
+{
+    match parent_of(world.heap.alloc(), &world.manifests, class)? {
+        Some(parent) => {
+            let _class = class_found(world.heap.alloc(), &world.manifests, &parent, at)?;
+            Ok(())
+        }
+        None => Ok(()),
+    }
+}

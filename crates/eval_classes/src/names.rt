@@ -1,0 +1,48 @@
+//! Names of classes and defines, and of their parameters.
+ghost use Rattle.std.specs.Prelude.{◌≡◌, map, IfOk};
+ghost use Rattle.eval_classes.specs.Definitions as spec;
+ghost use Rattle.eval_classes.specs.Listing as listing;
+ghost use Rattle.pp_tree.specs.Names.{normal};
+
+use pp_tree::Param;
+use pp_tree::definition::Class;
+use pp_tree::table::DefinitionName;
+use pp_values::{Kind, Memory, Reference, Text, Texts};
+use std::alloc::Global;
+
+/// The name of a class, a define or a kind: without a leading `::`, its ASCII letters in lower case.
+pub fn normal_name(alloc: Global, written: &Text) -> Result<Text, Memory>
+    ensures { IfOk result (λ name. name ≡ normal written.now) }
+{
+    match DefinitionName::code(alloc, written)? {
+        DefinitionName::Code(name) => Ok(name),
+        DefinitionName::Node(_) => written.copy(alloc),
+    }
+}
+
+pub fn class_name(alloc: Global, class: &Class) -> Result<Text, Memory>
+    ensures { IfOk result (λ name. name ≡ spec.class_name class.now) }
+{
+    normal_name(alloc, &class.name.text)
+}
+
+/// The reference to the class of this name.
+pub fn class_reference(alloc: Global, name: &Text) -> Result<Reference, Memory>
+    ensures { IfOk result (λ r. r ≡ listing.class_reference name.now) }
+{
+    Ok(Reference {
+        kind: Kind::from_str(alloc, "class")?,
+        title: name.copy(alloc)?,
+    })
+}
+
+/// The names of parameters, in their order.
+pub fn param_names(alloc: Global, params: &[Param]) -> Result<Texts, Memory>
+    ensures { IfOk result (λ names. names ≡ spec.param_names params.now) }
+{
+    let mut names = Texts::new(alloc);
+    for param in params {
+        names.push(param.name.copy(alloc)?)?;
+    }
+    Ok(names)
+}

@@ -1,0 +1,175 @@
+//! The parameters of a class or of an instance.
+ghost use Rattle.std.specs.Prelude.{◌≡◌, [], IfOk, IsTrue};
+ghost use Rattle.std.specs.BTreeMap.{insert_entry};
+ghost use Rattle.eval_classes.specs.Parameters as spec;
+ghost use Rattle.eval_world.specs.Nests.{Nests};
+ghost use Rattle.eval_world.specs.Outcomes.{Gives, nothing, same};
+ghost use Rattle.pp_values.specs.Faults.{fault};
+ghost use Rattle.pp_values.specs.Rising.{is_rising, text_cmp};
+ghost use Rattle.pp_values.specs.Settings.{setting_names};
+ghost use Rattle.pp_values.specs.Views.{view};
+ghost use Rattle.pp_values.specs.declared.fault.What.TheVariants as what;
+ghost use Rattle.res_core.specs.AttributeViews.{set_in};
+
+use crate::attributes::{attributes_from, is_value};
+use crate::binding::Binding;
+use eval_world::{Evaluated, Forms, Goal, Here, Meaning, World};
+use pp_tree::Param;
+use pp_tree::expr::Expr;
+use pp_values::{Fault, Memory, Stop, Text, Value, What};
+use res_core::Attributes;
+use std::alloc::Global;
+use std::collections::BTreeMap;
+
+/// Binds the parameters in order. The answer is their values by the order of their names.
+pub fn bind<F: Fn(&mut World<'_>, Goal<'_>, Here, u32) -> Result<Evaluated, Stop>, M: Meaning>(
+    forms: &Forms<F, M>,
+    world: &mut World<'_>,
+    binding: &Binding,
+    params: &[Param],
+    own: Here,
+) -> Result<Attributes, Stop>
+    requires { Nests (M.within forms.now.left) forms.now.left (F.pre forms.now.inner) (F.post forms.now.inner) }
+    ensures { Gives same (spec.bind_from (M.within forms.now.left) (set_in binding.now.given) [] params.now
+        binding.now.of binding.now.at own world.old) result world.new }
+{
+    let set = bind_all(forms, world, binding, params, own)?;
+    Ok(attributes_from(world.heap.alloc(), set)?)
+}
+
+#[tactic(auto, unfolding(crate::specs::Parameters::bind_from))]
+fn bind_all<F: Fn(&mut World<'_>, Goal<'_>, Here, u32) -> Result<Evaluated, Stop>, M: Meaning>(
+    forms: &Forms<F, M>,
+    world: &mut World<'_>,
+    binding: &Binding,
+    params: &[Param],
+    own: Here,
+) -> Result<BTreeMap<Text, Evaluated>, Stop>
+    requires { Nests (M.within forms.now.left) forms.now.left (F.pre forms.now.inner) (F.post forms.now.inner) }
+    ensures values { Gives (λ m. m.entries) (spec.bind_from (M.within forms.now.left) (set_in binding.now.given) []
+        params.now binding.now.of binding.now.at own world.old) result world.new }
+    ensures rising { IfOk result (λ m. IsTrue (is_rising (setting_names m.entries))) }
+{
+    let mut done = BTreeMap::new(world.heap.alloc());
+    let mut rest = params;
+    while let Some((param, more)) = rest.split_first() {
+        done = with_param(forms, world, done, binding, param, own)?;
+        rest = more;
+    }
+    Ok(done)
+}
+
+/// One parameter: its value, its type, its name in the scope.
+#[tactic(auto, unfolding(crate::specs::Parameters::bind_rule))]
+fn with_param<F: Fn(&mut World<'_>, Goal<'_>, Here, u32) -> Result<Evaluated, Stop>, M: Meaning>(
+    forms: &Forms<F, M>,
+    world: &mut World<'_>,
+    done: BTreeMap<Text, Evaluated>,
+    binding: &Binding,
+    param: &Param,
+    own: Here,
+) -> Result<BTreeMap<Text, Evaluated>, Stop>
+    requires nests { Nests (M.within forms.now.left) forms.now.left (F.pre forms.now.inner) (F.post forms.now.inner) }
+    requires rising { IsTrue (is_rising (setting_names done.entries)) }
+    ensures values { Gives (λ m. m.entries) (spec.bind_rule (M.within forms.now.left) (set_in binding.now.given)
+        done.entries param.now binding.now.of binding.now.at own world.old) result world.new }
+    ensures rising { IfOk result (λ m. IsTrue (is_rising (setting_names m.entries))) }
+{
+    let value = value(forms, world, binding, param, own)?;
+    check_type(world, &param.kind, own)?;
+    let kept = Evaluated::copy_of(world.heap.alloc(), value.as_value())?;
+    world.assign(own, &param.name, value, param.at)?;
+    Ok(with_value(world.heap.alloc(), done, &param.name, kept)?)
+}
+
+#[tactic(auto, using(crate::proofs::Rising::rising_more))]
+fn with_value(
+    alloc: Global,
+    mut done: BTreeMap<Text, Evaluated>,
+    name: &Text,
+    value: Evaluated,
+) -> Result<BTreeMap<Text, Evaluated>, Memory>
+    requires { IsTrue (is_rising (setting_names done.entries)) }
+    ensures values { IfOk result (λ m. m.entries ≡ insert_entry text_cmp done.entries name.now value) }
+    ensures rising { IfOk result (λ m. IsTrue (is_rising (setting_names m.entries))) }
+{
+    drop(done.insert(name.copy(alloc)?, value)?);
+    Ok(done)
+}
+
+/// A parameter with a type is not built.
+fn check_type(world: &World<'_>, kind: &Option<Expr>, own: Here) -> Result<(), Stop>
+    ensures { Gives nothing (spec.typed kind.now own world.now) result world.now }
+{
+    match kind {
+        None => Ok(()),
+        Some(kind) => Err(Stop::Fault(world.fault(own, kind.at, What::NotBuilt)?)),
+    }
+}
+
+/// What was given, and else the default.
+#[tactic(auto, unfolding(crate::specs::Parameters::value_rule))]
+fn value<F: Fn(&mut World<'_>, Goal<'_>, Here, u32) -> Result<Evaluated, Stop>, M: Meaning>(
+    forms: &Forms<F, M>,
+    world: &mut World<'_>,
+    binding: &Binding,
+    param: &Param,
+    own: Here,
+) -> Result<Evaluated, Stop>
+    requires { Nests (M.within forms.now.left) forms.now.left (F.pre forms.now.inner) (F.post forms.now.inner) }
+    ensures { Gives same (spec.value_rule (M.within forms.now.left) (set_in binding.now.given) param.now binding.now.of
+        binding.now.at own world.old) result world.new }
+{
+    match binding.given.get(&param.name) {
+        Some(value) => given_or_default(forms, world, value, binding, param, own),
+        None => default_of(forms, world, binding, param, own),
+    }
+}
+
+fn given_or_default<
+    F: Fn(&mut World<'_>, Goal<'_>, Here, u32) -> Result<Evaluated, Stop>,
+    M: Meaning,
+>(
+    forms: &Forms<F, M>,
+    world: &mut World<'_>,
+    value: &Value,
+    binding: &Binding,
+    param: &Param,
+    own: Here,
+) -> Result<Evaluated, Stop>
+    requires { Nests (M.within forms.now.left) forms.now.left (F.pre forms.now.inner) (F.post forms.now.inner) }
+    ensures { Gives same (spec.given_or_default (M.within forms.now.left) (view value.now) param.now binding.now.of
+        binding.now.at own world.old) result world.new }
+{
+    if is_value(value) {
+        return Ok(Evaluated::copy_of(world.heap.alloc(), value)?);
+    }
+    default_of(forms, world, binding, param, own)
+}
+
+/// The default, or F9.
+fn default_of<F: Fn(&mut World<'_>, Goal<'_>, Here, u32) -> Result<Evaluated, Stop>, M: Meaning>(
+    forms: &Forms<F, M>,
+    world: &mut World<'_>,
+    binding: &Binding,
+    param: &Param,
+    own: Here,
+) -> Result<Evaluated, Stop>
+    requires { Nests (M.within forms.now.left) forms.now.left (F.pre forms.now.inner) (F.post forms.now.inner) }
+    ensures { Gives same (spec.default_rule (M.within forms.now.left) param.now.default binding.now.of param.now.name
+        binding.now.at own world.old) result world.new }
+{
+    match &param.default {
+        Some(default) => forms.value(world, default, own),
+        None => Err(Stop::Fault(missing(world.heap.alloc(), binding, &param.name)?)),
+    }
+}
+
+fn missing(alloc: Global, binding: &Binding, name: &Text) -> Result<Fault, Memory>
+    ensures { IfOk result (λ f. f ≡ fault binding.now.at (what.MissingParameter binding.now.of name.now)) }
+{
+    let at = binding.at.copy(alloc)?;
+    let reference = binding.of.copy(alloc)?;
+    let name = name.copy(alloc)?;
+    Fault::new(alloc, at, What::MissingParameter { reference, name })
+}

@@ -1,0 +1,88 @@
+//! The parents of classes.
+ghost use Rattle.std.specs.Prelude.{◌≡◌, IfOk};
+ghost use Rattle.std.specs.Option.{option_copied};
+ghost use Rattle.eval_classes.specs.Definitions as spec;
+
+use crate::definitions::find;
+use crate::found::Found;
+use crate::names::{class_name, normal_name};
+use eval_world::Manifests;
+use pp_tree::definition::{Class, Definition, Name};
+use pp_values::{Memory, Text};
+use res_book::DECLARATION_LIMIT;
+use std::alloc::Global;
+
+/// The parent of a class. One that inherits from itself, in any number of steps, counts as one without a parent.
+#[tactic(auto, unfolding(crate::specs::Definitions::parent_of))]
+pub fn parent_of(
+    alloc: Global,
+    manifests: &Manifests<'_>,
+    class: &Class,
+) -> Result<Option<Text>, Memory>
+    ensures { IfOk result (λ p. p ≡ spec.parent_of manifests.now class.now) }
+{
+    if inherits_itself(alloc, manifests, class)? {
+        return Ok(None);
+    }
+    written_parent(alloc, class)
+}
+
+fn inherits_itself(alloc: Global, manifests: &Manifests<'_>, class: &Class) -> Result<bool, Memory>
+    ensures { IfOk result (λ b. b ≡ spec.inherits_itself manifests.now class.now) }
+{
+    let name = class_name(alloc, class)?;
+    let parent = written_parent(alloc, class)?;
+    comes_to(alloc, manifests, &name, parent)
+}
+
+/// Whether one of these classes has this name: the first, its parent, and so on.
+#[tactic(auto, using(crate::proofs::Ways::further, crate::proofs::Ways::at_end, crate::proofs::Ways::too_long))]
+fn comes_to(
+    alloc: Global,
+    manifests: &Manifests<'_>,
+    name: &Text,
+    first: Option<Text>,
+) -> Result<bool, Memory>
+    ensures { IfOk result (λ b. b ≡ spec.comes_to spec.longest_way manifests.now name.now first) }
+{
+    let mut at = first;
+    for _turn in 0..DECLARATION_LIMIT {
+        let Some(here) = at else {
+            return Ok(false);
+        };
+        if here == *name {
+            return Ok(true);
+        }
+        at = parent_at(alloc, manifests, &here)?;
+    }
+    Ok(false)
+}
+
+fn parent_at(alloc: Global, manifests: &Manifests<'_>, name: &Text) -> Result<Option<Text>, Memory>
+    ensures { IfOk result (λ p. p ≡ spec.parent_at manifests.now name.now) }
+{
+    match class_in(find(alloc, manifests, name)?) {
+        Some(class) => written_parent(alloc, class),
+        None => Ok(None),
+    }
+}
+
+/// The class that was found, where it is one.
+pub fn class_in(found: Found<'_>) -> Option<&Class>
+    ensures { option_copied result ≡ spec.class_told (spec.told found.entry) }
+{
+    match found {
+        Found::Definition(Definition::Class(class)) => Some(class),
+        Found::Definition(_) | Found::Nothing | Found::Fault(_) => None,
+    }
+}
+
+/// The name behind `inherits`.
+fn written_parent(alloc: Global, class: &Class) -> Result<Option<Text>, Memory>
+    ensures { IfOk result (λ p. p ≡ spec.written_parent class.now) }
+{
+    match &class.inherits {
+        Some(Name { text, at: _ }) => Ok(Some(normal_name(alloc, text)?)),
+        None => Ok(None),
+    }
+}

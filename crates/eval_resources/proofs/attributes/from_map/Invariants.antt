@@ -1,7 +1,0 @@
--- What is there, and what is left of the map, is all of it.
-use Rattle.std.proofs.Common.{◌≡◌, ◌++◌}
-use Rattle.res_core.specs.AttributeViews.{settings}
-use Rattle.eval_resources.proofs.attributes.from_map.Given as goal
-
-abbrev pub invariant-loop-entry : goal.invariant-loop-entry
-invariant-loop-entry l = settings l.items.items ++ l.entry-iterator ≡ l.fn.set.entries

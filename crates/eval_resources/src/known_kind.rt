@@ -1,0 +1,9 @@
+use pp_values::{Kind, Texts};
+
+/// A kind of resource that may be declared.
+#[derive(Drop)]
+pub struct KnownKind {
+    pub kind: Kind,
+    /// The attributes that it takes besides the metaparameters.
+    pub known: Texts,
+}

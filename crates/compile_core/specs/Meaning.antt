@@ -31,10 +31,10 @@ manifests_of site main = record { main = main; files = map read_file site.files 
 
 -- ---- evaluation and finishing
 
--- The main manifest, and then rounds, which see one version of the sets.
+-- The main manifest with the node's definition, and then rounds, which see one version of the sets.
 abbrev pub evaluated : Manifests → List ℕ → Sets → Step (Unit {0})
 evaluated m node sets = do
-  main_rule m.main.statements m.main.definitions
+  main_rule m.main node
   rounds node sets
 
 abbrev pub with_log : List LogLine → Catalog × ExportSet → Catalog × ExportSet

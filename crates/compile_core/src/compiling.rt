@@ -46,7 +46,7 @@ fn compile_manifests(
 {
     let mut evaluator = Evaluator::start(alloc, manifests, node, facts)?;
     evaluator.run_main()?;
-    run_rounds(&mut evaluator.world, sets, node)?;
+    run_rounds(&mut evaluator, sets, node)?;
     finish_world(alloc, evaluator, node)
 }
 

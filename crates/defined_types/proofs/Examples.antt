@@ -25,7 +25,7 @@ use Rattle.eval_world.specs.Outcomes.{Outcome}
 use Rattle.eval_world.specs.Owners.{owner_at}
 use Rattle.eval_world.specs.Worlds.{empty}
 use Rattle.eval_world.specs.declared.world.World.{World}
-use Rattle.defined_types.specs.Rounds.{take_from, take_imports, imports, collector_turn, turns_from, rounds_left}
+use Rattle.defined_types.specs.Rounds.{take_from, take_imports, imports, collector_turn, turns_from, round, run_instances, rounds_left}
 
 abbrev place : ℕ → Place
 place line = record { file = codes "manifests/site.pp"; line = line }
@@ -110,17 +110,17 @@ exported_collector m = refl
 two_rounds : (m : Manifests)
     → shown (rounds_left 2 (codes "n") nothing (with_two (asks_for (codes "u") ∷ asks_for (codes "t") ∷ []) m))
     ≡ Ok (tt, both true true)
-unfolding rounds_left turns_from collector_turn take_from local_match takes
+unfolding rounds_left round run_instances turns_from collector_turn take_from local_match takes
 two_rounds m = refl
 
 -- F27 where the last round still adds something
 one_round_alone : (m : Manifests)
     → shown (rounds_left 1 (codes "n") nothing (with_two (asks_for (codes "u") ∷ []) m))
     ≡ Err (faults.fault (place 1) what.RoundLimit)
-unfolding rounds_left turns_from collector_turn take_from local_match takes owner_at
+unfolding rounds_left round run_instances turns_from collector_turn take_from local_match takes owner_at
 one_round_alone m = refl
 
 nothing_to_take : (m : Manifests)
     → shown (rounds_left 1 (codes "n") nothing (with_two (asks_for (codes "v") ∷ []) m)) ≡ Ok (tt, both false false)
-unfolding rounds_left turns_from collector_turn take_from local_match takes
+unfolding rounds_left round run_instances turns_from collector_turn take_from local_match takes
 nothing_to_take m = refl

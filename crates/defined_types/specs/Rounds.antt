@@ -1,13 +1,17 @@
--- Rounds: what collectors take, again and again, until a round adds nothing.
+-- Rounds: what collectors take, and the instances of defines, again and again, until a round adds nothing.
 use Rattle.std.specs.Prelude.{ℕ, zero, suc, ◌+◌, Bool, true, false, ◌||◌, if◌then◌else◌, List, [], ◌∷◌, length, filter}
 use Rattle.std.specs.Prelude.{Option, None, Some, slice_get}
+use Rattle.std.specs.List.{range_with_len}
 use Rattle.export_store.specs.ExportQueries.{Placed, exports_of, is_found}
 use Rattle.export_store.specs.Sets.{Sets}
 use Rattle.pp_values.specs.declared.fault.What.TheVariants as what
+use Rattle.res_book.specs.Rows.{is_pending_at}
 use Rattle.res_book.specs.declared.collector.Collector.{Collector}
+use Rattle.res_book.specs.declared.row.Row.{Row}
+use Rattle.class_eval.specs.Evaluating.{instance_at}
 use Rattle.eval_collecting.specs.Importing.{import_match}
 use Rattle.eval_collecting.specs.Matching.{local_match}
-use Rattle.eval_world.specs.Outcomes.{Step, ◌>>=◌, pure}
+use Rattle.eval_world.specs.Outcomes.{Step, ◌>>=◌, ◌>>◌, pure}
 use Rattle.eval_world.specs.Worlds.{fault, top}
 use Rattle.eval_world.specs.declared.world.World.{World}
 use Rattle.defined_types.specs.declared.rounds.TheConstants.{ROUND_LIMIT}
@@ -60,7 +64,7 @@ collector_turn c node sets = do
   added ← take_locals c
   import_all c added node sets
 
--- ---- one round: the collectors that are there, in the order of their registration
+-- ---- all collectors that are there, in the order of their registration
 
 unfoldable pub turns_from : Bool → ℕ → ℕ → List ℕ → Sets → Step Bool
 turns_from added c zero node sets = pure added
@@ -68,8 +72,27 @@ turns_from added c (suc left) node sets = do
   more ← collector_turn c node sets
   turns_from (more || added) (c + 1) left node sets
 
-abbrev pub round : List ℕ → Sets → Step Bool
-round node sets = λ w. turns_from false 0 (length w.relations.collectors) node sets w
+abbrev pub all_turns : List ℕ → Sets → Step Bool
+all_turns node sets = λ w. turns_from false 0 (length w.relations.collectors) node sets w
+
+-- ---- instances of defines: those that are live and were not evaluated, by number
+
+abbrev pub pending : List Row → List ℕ
+pending rows = filter (is_pending_at rows) (range_with_len 0 (length rows))
+
+-- each is evaluated at depth 1, which is something that was added
+unfoldable pub run_instances : Bool → List ℕ → Step Bool
+run_instances added [] = pure added
+run_instances added (n ∷ ns) = do
+  instance_at n 1
+  run_instances true ns
+
+-- ---- one round: the collectors, and then the instances that are pending by then
+
+unfoldable pub round : List ℕ → Sets → Step Bool
+round node sets = do
+  added ← all_turns node sets
+  (λ w. run_instances added (pending w.book) w)
 
 -- ---- rounds
 

@@ -1,7 +1,8 @@
-//! Rounds: what collectors take, until a round adds nothing.
+//! Rounds: what collectors take, and the instances of defines, until a round adds nothing.
 #![tactic(auto)]
 
 mod imports;
+mod instances;
 mod rounds;
 
 pub use rounds::{ROUND_LIMIT, run_rounds};

@@ -4,6 +4,8 @@ ghost use Rattle.defined_types.specs.Rounds as spec;
 ghost use Rattle.eval_world.specs.Outcomes.{Gives, nothing, same};
 
 use crate::imports::import_all;
+use crate::instances::run_pending;
+use class_eval::Evaluator;
 use eval_collecting::local_match;
 use eval_world::{Here, World};
 use export_store::Version;
@@ -12,26 +14,43 @@ use pp_values::{Stop, Text, What};
 /// How many rounds a compile may have.
 pub const ROUND_LIMIT: u32 = 1_000;
 
-/// Has the collectors take what is declared and what the other nodes export, until a round adds nothing. Where the last
-/// round that is allowed still adds something it is F27.
+/// Has the collectors take what is declared and what the other nodes export, and evaluates instances of defines, until a
+/// round adds nothing. Where the last round that is allowed still adds something it is F27.
 #[tactic(auto, using(crate::proofs::Counts::one_round, crate::proofs::Counts::no_round))]
-pub fn run_rounds(world: &mut World<'_>, sets: &Version, node: &Text) -> Result<(), Stop>
-    ensures { Gives nothing (spec.rounds node.now sets.now world.old) result world.new }
+pub fn run_rounds(
+    evaluator: &mut Evaluator<'_>,
+    sets: &Version,
+    node: &Text,
+) -> Result<(), Stop>
+    ensures { Gives nothing (spec.rounds node.now sets.now evaluator.old.world) result evaluator.new.world }
 {
     let mut left = ROUND_LIMIT;
     while left > 0 {
-        if !round(world, sets, node)? {
+        if !round(evaluator, sets, node)? {
             return Ok(());
         }
         left -= 1;
     }
-    Err(Stop::Fault(world.fault(Here::top(), 1, What::RoundLimit)?))
+    Err(Stop::Fault(evaluator.world.fault(
+        Here::top(),
+        1,
+        What::RoundLimit,
+    )?))
 }
 
-/// One round of all collectors: whether it added something.
+/// One round: whether it added something.
+#[tactic(auto, unfolding(crate::specs::Rounds::round))]
+fn round(evaluator: &mut Evaluator<'_>, sets: &Version, node: &Text) -> Result<bool, Stop>
+    ensures { Gives same (spec.round node.now sets.now evaluator.old.world) result evaluator.new.world }
+{
+    let added = all_turns(&mut evaluator.world, sets, node)?;
+    run_pending(evaluator, added)
+}
+
+/// All collectors, one after another.
 #[tactic(auto, using(crate::proofs::Counts::one_turn, crate::proofs::Counts::no_turn))]
-fn round(world: &mut World<'_>, sets: &Version, node: &Text) -> Result<bool, Stop>
-    ensures { Gives same (spec.round node.now sets.now world.old) result world.new }
+fn all_turns(world: &mut World<'_>, sets: &Version, node: &Text) -> Result<bool, Stop>
+    ensures { Gives same (spec.all_turns node.now sets.now world.old) result world.new }
 {
     let count = world.relations.collector_count();
     let mut added = false;

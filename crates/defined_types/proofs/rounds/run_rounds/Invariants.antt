@@ -4,7 +4,7 @@ use Rattle.defined_types.specs.Rounds.{rounds, rounds_left}
 use Rattle.defined_types.proofs.rounds.run_rounds.Given as goal
 
 abbrev pub invariant-loop-left : goal.invariant-loop-left
-invariant-loop-left l = rounds l.node l.sets l.fn.world ≡ rounds_left l.left l.node l.sets l.world
+invariant-loop-left l = rounds l.node l.sets l.fn.evaluator.world ≡ rounds_left l.left l.node l.sets l.evaluator.world
 
 abbrev pub decreases-loop-left : goal.decreases-loop-left
 decreases-loop-left l = l.left

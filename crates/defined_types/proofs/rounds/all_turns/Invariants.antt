@@ -1,11 +1,11 @@
 -- What the collectors that are left do is what all of them do.
 use Rattle.std.proofs.Common.{◌≡◌, ◌-◌}
-use Rattle.defined_types.specs.Rounds.{round, turns_from}
-use Rattle.defined_types.proofs.rounds.round.Given as goal
+use Rattle.defined_types.specs.Rounds.{all_turns, turns_from}
+use Rattle.defined_types.proofs.rounds.all_turns.Given as goal
 
 abbrev pub invariant-loop-collector : goal.invariant-loop-collector
 invariant-loop-collector l =
-    round l.node l.sets l.fn.world ≡ turns_from l.added l.collector (l.count - l.collector) l.node l.sets l.world
+    all_turns l.node l.sets l.fn.world ≡ turns_from l.added l.collector (l.count - l.collector) l.node l.sets l.world
 
 abbrev pub decreases-loop-collector : goal.decreases-loop-collector
 decreases-loop-collector l = l.count - l.collector

@@ -54,10 +54,10 @@ impl<'a> Evaluator<'a> {
 
     /// The tables that finishing reads, and the lines of the log.
     pub fn into_parts(self) -> (Book, Overrides, Relations, LogLines)
-        ensures book { result.0 ≡ self.world.book }
-        ensures overrides { result.1 ≡ self.world.overrides }
-        ensures relations { result.2 ≡ self.world.relations }
-        ensures log { result.3 ≡ self.world.log }
+        ensures book { result.0 ≡ self.entry.world.book }
+        ensures overrides { result.1 ≡ self.entry.world.overrides }
+        ensures relations { result.2 ≡ self.entry.world.relations }
+        ensures log { result.3 ≡ self.entry.world.log }
     {
         let Evaluator { world, node: _node } = self;
         world.into_parts()

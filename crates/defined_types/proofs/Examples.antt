@@ -110,17 +110,17 @@ exported_collector m = refl
 two_rounds : (m : Manifests)
     → shown (rounds_left 2 (codes "n") nothing (with_two (asks_for (codes "u") ∷ asks_for (codes "t") ∷ []) m))
     ≡ Ok (tt, both true true)
-unfolding rounds_left round run_instances turns_from collector_turn take_from local_match takes
+unfolding rounds_left round run_instances turns_from collector_turn take_from local_match takes native_of
 two_rounds m = refl
 
 -- F27 where the last round still adds something
 one_round_alone : (m : Manifests)
     → shown (rounds_left 1 (codes "n") nothing (with_two (asks_for (codes "u") ∷ []) m))
     ≡ Err (faults.fault (place 1) what.RoundLimit)
-unfolding rounds_left round run_instances turns_from collector_turn take_from local_match takes owner_at
+unfolding rounds_left round run_instances turns_from collector_turn take_from local_match takes owner_at native_of
 one_round_alone m = refl
 
 nothing_to_take : (m : Manifests)
     → shown (rounds_left 1 (codes "n") nothing (with_two (asks_for (codes "v") ∷ []) m)) ≡ Ok (tt, both false false)
-unfolding rounds_left round run_instances turns_from collector_turn take_from local_match takes
+unfolding rounds_left round run_instances turns_from collector_turn take_from local_match takes native_of
 nothing_to_take m = refl

@@ -14,7 +14,6 @@ use Rattle.eval_collecting.specs.Matching.{local_match}
 use Rattle.eval_world.specs.Outcomes.{Step, ◌>>=◌, ◌>>◌, pure}
 use Rattle.eval_world.specs.Worlds.{fault, top}
 use Rattle.eval_world.specs.declared.world.World.{World}
-use Rattle.defined_types.specs.declared.rounds.TheConstants.{ROUND_LIMIT}
 
 -- ---- one collector: first the local declarations, by number
 
@@ -110,6 +109,10 @@ rounds_left (suc left) node sets = do
   added ← round node sets
   again added (rounds_left left node sets)
 
+-- how many rounds there may be
+abbrev pub limit : ℕ
+limit = 1000
+
 -- all collectors and all rounds see one version of the sets
 abbrev pub rounds : List ℕ → Sets → Step (Unit {0})
-rounds = rounds_left ROUND_LIMIT
+rounds = rounds_left limit

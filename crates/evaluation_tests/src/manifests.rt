@@ -251,7 +251,7 @@ const CALLS: [Row; 30] = [
         "$y = 1\nnotice([1, 2].map |$x| { [3].map |$z| { $x + $y + $z } })",
         "notice [[5], [6]]; ",
     ),
-    ("include a", "F31 manifests/site.pp:1 NotBuilt; "),
+    ("require a", "F31 manifests/site.pp:1 NotBuilt; "),
     (
         "[1, 2].each |$x| { $y = $x notice($y) }",
         "notice 1; notice 2; ",
@@ -343,11 +343,8 @@ const RESOURCES: [Row; 28] = [
         "notify { 'a': require => Notify['b'] }",
         "notify[a] require=Notify['b']; F31 manifests/site.pp:1 NotBuilt; ",
     ),
-    ("class { 'a': }", "F31 manifests/site.pp:1 NotBuilt; "),
-    (
-        "define d { }\nd { 'a': }",
-        "F31 manifests/site.pp:2 NotBuilt; ",
-    ),
+    ("class { 'a': }", "F4 manifests/site.pp:1 UnknownClass a; "),
+    ("define d { }\nd { 'a': }", "d[a]; "),
     (
         "[1, 2].each |$n| { notify { \"n$n\": } }",
         "notify[n1]; notify[n2]; ",
@@ -374,10 +371,7 @@ const STATEMENTS: [Row; 8] = [
         "Notify <<| title == 'a' |>>",
         "F31 manifests/site.pp:1 NotBuilt; ",
     ),
-    (
-        "notice('a')\nnode default { }",
-        "notice a; F31 manifests/site.pp:2 NotBuilt; ",
-    ),
+    ("notice('a')\nnode default { }", "notice a; "),
     ("class a { notice('a') }\nnotice('b')", "notice b; "),
 ];
 

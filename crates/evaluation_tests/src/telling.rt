@@ -3,7 +3,8 @@ use class_eval::Evaluator;
 use eval_world::Manifests;
 use pp_parser::manifest::parse;
 use pp_tree::file::File;
-use pp_values::{MAIN_MANIFEST, Memory, Pairs, Stop, Text, Value, write_value};
+use pp_tree::manifest_file::ManifestFile;
+use pp_values::{Fault, MAIN_MANIFEST, Memory, Pairs, Stop, Text, Value, write_value};
 use res_core::Resource;
 use site_docs::fault_text;
 use std::alloc::Global;
@@ -13,7 +14,7 @@ use std::collections::BTreeMap;
 pub type Row = (&'static str, &'static str);
 
 /// What is told of a manifest for the node `web1.example.com`: each line of the log, each resource but `Class[main]`,
-/// and the fault, with `; ` behind each of them.
+/// each pair of `contain` by numbers, and the fault, with `; ` behind each of them.
 fn told(alloc: Global, manifest: &str) -> Result<String, Memory> {
     match parsed(alloc, manifest) {
         Ok(main) => told_of_main(alloc, &main),
@@ -37,11 +38,51 @@ fn told_of_main(alloc: Global, main: &File) -> Result<String, Memory> {
     told_of(alloc, Manifests::new(main, &files))
 }
 
+/// A main manifest, the path and the text of one more file, and what is told of them.
+pub type Site = (&'static str, &'static str, &'static str, &'static str);
+
+/// The same of a site with one more file.
+fn site_told(alloc: Global, site: &Site) -> Result<String, Memory> {
+    let mut files = BTreeMap::new(alloc);
+    let path = Text::from_str(alloc, site.1)?;
+    let text = Text::from_str(alloc, site.2)?;
+    let read = read_file(alloc, &path, &text)?;
+    drop(files.insert(path, ManifestFile { text, read })?);
+    match parsed(alloc, site.0) {
+        Ok(main) => told_of(alloc, Manifests::new(&main, &files)),
+        Err(stop) => stop_told(alloc, &stop),
+    }
+}
+
+/// The tree or the fault of a file, which is not long.
+fn read_file(alloc: Global, path: &Text, text: &Text) -> Result<Result<File, Fault>, Memory> {
+    if text.as_str().len() >= 65536 {
+        return Err(Memory);
+    }
+    match parse(alloc, path, text) {
+        Ok(file) => Ok(Ok(file)),
+        Err(Stop::Fault(fault)) => Ok(Err(fault)),
+        Err(Stop::Memory) => Err(Memory),
+    }
+}
+
+/// Runs the main manifest, and then some of the instances that it declares, the first that waits before each other.
+fn run(evaluator: &mut Evaluator<'_>) -> Result<(), Stop> {
+    evaluator.run_main()?;
+    for _turn in 0..20 {
+        let Some(number) = evaluator.book().pending(None) else {
+            return Ok(());
+        };
+        evaluator.run_instance(number, 1)?;
+    }
+    Ok(())
+}
+
 fn told_of(alloc: Global, manifests: Manifests<'_>) -> Result<String, Memory> {
     let node = Text::from_str(alloc, "web1.example.com")?;
     let facts = facts(alloc)?;
     let mut evaluator = Evaluator::start(alloc, manifests, &node, &facts)?;
-    let end = match evaluator.run_main() {
+    let end = match run(&mut evaluator) {
         Ok(()) => String::new(alloc),
         Err(stop) => stop_told(alloc, &stop)?,
     };
@@ -70,6 +111,11 @@ fn put_world(alloc: Global, out: &mut String, evaluator: &Evaluator<'_>) -> Resu
     }
     for number in 1..evaluator.world.book.count() {
         put_resource(alloc, out, &evaluator.world.book.item(number).item)?;
+    }
+    for pair in evaluator.world.relations.containments() {
+        let outer = pair.outer;
+        let inner = pair.inner;
+        write!(out, "{outer} contains {inner}; ")?;
     }
     Ok(())
 }
@@ -101,4 +147,8 @@ fn put_fact(alloc: Global, facts: &mut Pairs, name: &str, value: i64) -> Result<
 
 pub fn is_told(alloc: Global, row: &Row) -> Result<bool, Memory> {
     Ok(told(alloc, row.0)?.as_str() == row.1)
+}
+
+pub fn is_site_told(alloc: Global, site: &Site) -> Result<bool, Memory> {
+    Ok(site_told(alloc, site)?.as_str() == site.3)
 }

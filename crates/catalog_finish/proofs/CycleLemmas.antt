@@ -1,16 +1,19 @@
 -- The cycle that is told, as it is computed, is the one that the order of resources knows.
-use Rattle.std.proofs.Common.{◌≡◌, ◌⊎◌, ℕ, zero, suc, nat_eq, ◌+◌, ◌<◌, ◌≤◌, Bool, true, false, ◌&&◌, ◌||◌, if◌then◌else◌, List, [], ◌∷◌, length, eqb, Contains, Option, None, Some, option_map, inl, inr, refl, sym, ap, ap₂, subst, ◌∙◌, arith, le_antisymm}
-use Rattle.std.proofs.lemmas.Bool.{cases_lt}
+use Rattle.std.proofs.Common.{◌≡◌, ◌⊎◌, ℕ, zero, suc, nat_eq, ◌+◌, ◌<◌, ◌≤◌, Bool, true, false, ◌&&◌, ◌||◌, if◌then◌else◌, List, [], ◌∷◌, length, eqb, Contains, Option, None, Some, option_map, inl, inr, refl, sym, ap, ap₂, subst, ◌∙◌, arith, le_antisymm, is_some, true≢false}
+use Rattle.std.proofs.lemmas.Bool.{cases_lt, eq-eqb}
 use Rattle.std.proofs.lemmas.Bool.Decides.{eqb_tells}
 use Rattle.std.proofs.lemmas.Map.Steps.{length-le_from_distinct_below}
 use Rattle.std.proofs.lemmas.Map.Views.{Contains-from_any, list_any-from_Contains}
 use Rattle.std.specs.Cmp.{IsEquivalence, nat_eq_equiv, and_equiv, on_equiv}
 use Rattle.std.specs.List.{list_any, AllByRecursion, IsDistinct}
 use Rattle.std.specs.Ordering.{on, eq_of_both}
+use Rattle.rel_graph.specs.Before.{Belongs, Direct}
 use Rattle.rel_graph.specs.Chains.{Paired, Chain, Closure}
 use Rattle.rel_graph.specs.Cycles.{IsCycle, HasNoCycle, NoLater}
+use Rattle.rel_graph.specs.Graphs.{IsBuilt, Relations}
 use Rattle.rel_graph.specs.Pairs.{AllBelow}
-use Rattle.catalog_finish.specs.FirstCycles.{is_pair, leads, or_next, first_below, least_way, way_back, first_cycle}
+use Rattle.catalog_finish.specs.Containing.{cycle_in, does_belong, is_direct}
+use Rattle.catalog_finish.specs.FirstCycles.{is_pair, is_paired, or_next, first_below, least_way, way_to, first_cycle}
 
 skip : (x y more : Bool) → (x ≡ false) ⊎ (y ≡ false) → ((x && y) || more) ≡ true → more ≡ true
 skip true true more (inl f) e = absurd cc
@@ -74,31 +77,42 @@ first_some f (suc n) x e = elim (or_some (first_below f n) (f n) x e) [
 
 -- ---- pairs
 
-leads_paired : (pairs : List (ℕ × ℕ)) (a b : ℕ) → leads pairs a b ≡ true → Paired pairs a b
-leads_paired [] a b e = absurd cc
-leads_paired (p ∷ pairs) a b e = elim (eqb_tells a p.0) [
+pub paired_sound : (pairs : List (ℕ × ℕ)) (a b : ℕ) → is_paired pairs a b ≡ true → Paired pairs a b
+paired_sound [] a b e = absurd cc
+paired_sound (p ∷ pairs) a b e = elim (eqb_tells a p.0) [
   | inl first ↦ elim (eqb_tells b p.1) [
     | inl second ↦ (0, omega arith, λ i. (sym first.1 i, sym second.1 i))
-    | inr other ↦ later p pairs a b (leads_paired pairs a b (skip (eqb a p.0) (eqb b p.1) (leads pairs a b) (inr other.0) e))
+    | inr other ↦ later p pairs a b (paired_sound pairs a b (skip (eqb a p.0) (eqb b p.1) (is_paired pairs a b) (inr other.0) e))
   ]
-  | inr other ↦ later p pairs a b (leads_paired pairs a b (skip (eqb a p.0) (eqb b p.1) (leads pairs a b) (inl other.0) e))
+  | inr other ↦ later p pairs a b (paired_sound pairs a b (skip (eqb a p.0) (eqb b p.1) (is_paired pairs a b) (inl other.0) e))
 ]
 
-paired_leads : (pairs : List (ℕ × ℕ)) (a b : ℕ) → Paired pairs a b → leads pairs a b ≡ true
-paired_leads pairs a b h =
+pub paired_complete : (pairs : List (ℕ × ℕ)) (a b : ℕ) → Paired pairs a b → is_paired pairs a b ≡ true
+paired_complete pairs a b h =
     list_any-from_Contains (and_equiv (on_equiv (λ p. p.0) nat_eq_equiv) (on_equiv (λ p. p.1) nat_eq_equiv)) (a, b) pairs h
 
-pair_below : (pairs : List (ℕ × ℕ)) (count a b : ℕ) → AllBelow pairs count → Paired pairs a b → (a < count) × (b < count)
+pub pair_below : (pairs : List (ℕ × ℕ)) (count a b : ℕ) → AllBelow pairs count → Paired pairs a b → (a < count) × (b < count)
 pair_below pairs count a b below h =
     subst (λ p. (p.0 < count) × (p.1 < count)) h.2 (below h.0 (a, b) h.1)
 
--- ---- ways
+and_both : (a b : Bool) → (a && b) ≡ true → (a ≡ true) × (b ≡ true)
+and_both true b e = (refl, e)
+and_both false b e = absurd cc
 
--- of the ways with so many indexes between this one is the least
-pub record IsLeastWay (pairs : List (ℕ × ℕ)) (goal a n : ℕ) (way : List ℕ) : Type 0 where
-  pub chain : Chain (Paired pairs) a way goal
-  pub long : length way ≡ n
-  pub least : (other : List ℕ) → Chain (Paired pairs) a other goal → length other ≡ n → NoLater way other
+and_true : (a b : Bool) → a ≡ true → b ≡ true → (a && b) ≡ true
+and_true true b p q = q
+and_true false b p q = absurd cc
+
+or_true : (a : Bool) → (a || true) ≡ true
+or_true true = refl
+or_true false = refl
+
+end_below : (pairs : List (ℕ × ℕ)) (count goal a : ℕ) (way : List ℕ) → AllBelow pairs count →
+    Chain (Paired pairs) a way goal → goal < count
+end_below pairs count goal a [] below h = (pair_below pairs count a goal below h).1
+end_below pairs count goal a (c ∷ way) below h = end_below pairs count goal c way below h.1
+
+-- ---- ways
 
 not_taken : (b : Bool) (o : Option (List ℕ)) (c : ℕ) → b ≡ true →
     (if b then option_map (λ way. c ∷ way) o else None) ≡ None → o ≡ None
@@ -121,61 +135,17 @@ only_way : (b : Bool) (way : List ℕ) → (if b then Some [] else None) ≡ Som
 only_way true way e = (refl, (let f : [] ≡ way = cc in sym f))
 only_way false way e = absurd cc
 
-module _ (pairs : List (ℕ × ℕ)) (count goal : ℕ) (below : AllBelow pairs count) where
-  way_none : (n a : ℕ) → least_way pairs count goal n a ≡ None → (other : List ℕ) → length other ≡ n →
-      Chain (Paired pairs) a other goal → ⊥
-  unfolding least_way
-  way_none zero a e [] long h = no_way (leads pairs a goal) [] (paired_leads pairs a goal h) e
-  way_none zero a e (c ∷ other) long h = absurd (omega arith)
-  way_none (suc n) a e [] long h = absurd (omega arith)
-  way_none (suc n) a e (c ∷ other) long h =
-      let step : ℕ → Option (List ℕ) =
-      λ x. if leads pairs a x then option_map (λ way. x ∷ way) (least_way pairs count goal n x) else None in
-      let here = first_none step count e c (pair_below pairs count a c below h.0).1 in
-      way_none n c (not_taken (leads pairs a c) (least_way pairs count goal n c) c (paired_leads pairs a c h.0) here) other
-      (omega arith) h.1
+-- The test tells the relation, which holds between indexes below the count alone.
+pub record IsToldBy (R : ℕ → ℕ → Type 0) (leads : ℕ → ℕ → Bool) (count : ℕ) : Type 0 where
+  pub sound : (a b : ℕ) → leads a b ≡ true → R a b
+  pub complete : (a b : ℕ) → R a b → leads a b ≡ true
+  pub below : (a b : ℕ) → R a b → (a < count) × (b < count)
 
-  least_among : (a c n : ℕ) (rest : List ℕ) → IsLeastWay pairs goal c n rest →
-      ((x : ℕ) → x < c → Paired pairs a x → (other : List ℕ) → length other ≡ n →
-      Chain (Paired pairs) x other goal → ⊥) →
-      (other : List ℕ) → Chain (Paired pairs) a other goal → length other ≡ suc n → NoLater (c ∷ rest) other
-  least_among a c n rest best lower [] h long = absurd (omega arith)
-  least_among a c n rest best lower (x ∷ other) h long = elim (cases_lt c x) [
-    | inl less ↦ inl less
-    | inr more ↦ elim (cases_lt x c) [
-      | inl less ↦ absurd (lower x less h.0 other (omega arith) h.1)
-      | inr equal ↦
-          let same : x ≡ c = omega (arith, more, equal) in
-          inr (sym same, best.least other (subst (λ z. Chain (Paired pairs) z other goal) same h.1) (omega arith))
-    ]
-  ]
-
-  way_some : (n a : ℕ) (way : List ℕ) → least_way pairs count goal n a ≡ Some way → IsLeastWay pairs goal a n way
-  unfolding least_way
-  way_some zero a way e =
-      let here = only_way (leads pairs a goal) way e in
-      subst (λ w. IsLeastWay pairs goal a 0 w) (sym here.1) (record {
-        chain = leads_paired pairs a goal here.0;
-        long = refl;
-        least = λ other h long. tt;
-      })
-  way_some (suc n) a way e =
-      let step : ℕ → Option (List ℕ) =
-      λ x. if leads pairs a x then option_map (λ rest. x ∷ rest) (least_way pairs count goal n x) else None in
-      let first = first_some step count way e in
-      let c = first.at in
-      let parts = taken (leads pairs a c) (least_way pairs count goal n c) c way first.gives in
-      let rest = parts.1.0 in
-      let best = way_some n c rest parts.1.1 in
-      subst (λ w. IsLeastWay pairs goal a (suc n) w) (sym parts.1.2) (record {
-        chain = (leads_paired pairs a c parts.0, best.chain);
-        long = ap suc best.long;
-        least = least_among a c n rest best (λ x less pair other long h.
-            way_none n x (not_taken (leads pairs a x) (least_way pairs count goal n x) x (paired_leads pairs a x pair)
-            (first.none x less)) other long h);
-      })
-
--- ---- ways without an index twice
+-- of the ways with so many indexes between this one is the least
+pub record IsLeastWay (R : ℕ → ℕ → Type 0) (goal a n : ℕ) (way : List ℕ) : Type 0 where
+  pub chain : Chain R a way goal
+  pub long : length way ≡ n
+  pub least : (other : List ℕ) → Chain R a other goal → length other ≡ n → NoLater way other
 
 none_equal : (y : ℕ) (xs : List ℕ) → list_any (eqb y) xs ≡ false → AllByRecursion (λ z. eqb y z ≡ false) xs
 none_equal y [] e = tt
@@ -189,12 +159,66 @@ any_cases y x xs e = elim (eqb_tells y x) [
   | inr other ↦ inr (subst (λ b. (b || list_any (eqb y) xs) ≡ true) other.0 e)
 ]
 
-module _ (pairs : List (ℕ × ℕ)) (goal : ℕ) where
+module _ (R : ℕ → ℕ → Type 0) (leads : ℕ → ℕ → Bool) (count : ℕ) (told : IsToldBy R leads count) (goal : ℕ) where
+  way_none : (n a : ℕ) → least_way leads count goal n a ≡ None → (other : List ℕ) → length other ≡ n →
+      Chain R a other goal → ⊥
+  unfolding least_way
+  way_none zero a e [] long h = no_way (leads a goal) [] (told.complete a goal h) e
+  way_none zero a e (c ∷ other) long h = absurd (omega arith)
+  way_none (suc n) a e [] long h = absurd (omega arith)
+  way_none (suc n) a e (c ∷ other) long h =
+      let step : ℕ → Option (List ℕ) =
+      λ x. if leads a x then option_map (λ way. x ∷ way) (least_way leads count goal n x) else None in
+      let here = first_none step count e c (told.below a c h.0).1 in
+      way_none n c (not_taken (leads a c) (least_way leads count goal n c) c (told.complete a c h.0) here) other
+      (omega arith) h.1
+
+  least_among : (a c n : ℕ) (rest : List ℕ) → IsLeastWay R goal c n rest →
+      ((x : ℕ) → x < c → R a x → (other : List ℕ) → length other ≡ n → Chain R x other goal → ⊥) →
+      (other : List ℕ) → Chain R a other goal → length other ≡ suc n → NoLater (c ∷ rest) other
+  least_among a c n rest best lower [] h long = absurd (omega arith)
+  least_among a c n rest best lower (x ∷ other) h long = elim (cases_lt c x) [
+    | inl less ↦ inl less
+    | inr more ↦ elim (cases_lt x c) [
+      | inl less ↦ absurd (lower x less h.0 other (omega arith) h.1)
+      | inr equal ↦
+          let same : x ≡ c = omega (arith, more, equal) in
+          inr (sym same, best.least other (subst (λ z. Chain R z other goal) same h.1) (omega arith))
+    ]
+  ]
+
+  way_some : (n a : ℕ) (way : List ℕ) → least_way leads count goal n a ≡ Some way → IsLeastWay R goal a n way
+  unfolding least_way
+  way_some zero a way e =
+      let here = only_way (leads a goal) way e in
+      subst (λ w. IsLeastWay R goal a 0 w) (sym here.1) (record {
+        chain = told.sound a goal here.0;
+        long = refl;
+        least = λ other h long. tt;
+      })
+  way_some (suc n) a way e =
+      let step : ℕ → Option (List ℕ) =
+      λ x. if leads a x then option_map (λ rest. x ∷ rest) (least_way leads count goal n x) else None in
+      let first = first_some step count way e in
+      let c = first.at in
+      let parts = taken (leads a c) (least_way leads count goal n c) c way first.gives in
+      let rest = parts.1.0 in
+      let best = way_some n c rest parts.1.1 in
+      subst (λ w. IsLeastWay R goal a (suc n) w) (sym parts.1.2) (record {
+        chain = (told.sound a c parts.0, best.chain);
+        long = ap suc best.long;
+        least = least_among a c n rest best (λ x less pair other long h.
+            way_none n x (not_taken (leads a x) (least_way leads count goal n x) x (told.complete a x pair)
+            (first.none x less)) other long h);
+      })
+
+  -- ---- ways without an index twice
+
   pub record IsDirectWay (a : ℕ) (way : List ℕ) : Type 0 where
-    pub chain : Chain (Paired pairs) a way goal
+    pub chain : Chain R a way goal
     pub distinct : IsDistinct eqb (a ∷ way)
 
-  from_later : (a c : ℕ) (way : List ℕ) → Chain (Paired pairs) c way goal → IsDistinct eqb (c ∷ way) →
+  from_later : (a c : ℕ) (way : List ℕ) → Chain R c way goal → IsDistinct eqb (c ∷ way) →
       list_any (eqb a) (c ∷ way) ≡ true → (other : List ℕ) × IsDirectWay a other
   unfolding IsDistinct
   from_later a c [] h d again = elim (any_cases a c [] again) [
@@ -208,7 +232,7 @@ module _ (pairs : List (ℕ × ℕ)) (goal : ℕ) where
     | inr on ↦ from_later a x way h.1 d.1 on
   ]
 
-  direct : (a : ℕ) (way : List ℕ) → Chain (Paired pairs) a way goal → (other : List ℕ) × IsDirectWay a other
+  direct : (a : ℕ) (way : List ℕ) → Chain R a way goal → (other : List ℕ) × IsDirectWay a other
   unfolding IsDistinct
   direct a [] h = ([], record { chain = h; distinct = (tt, tt) })
   direct a (c ∷ way) h =
@@ -224,29 +248,40 @@ module _ (pairs : List (ℕ × ℕ)) (goal : ℕ) where
         )
       ]
 
-  start_below : (count a : ℕ) (way : List ℕ) → AllBelow pairs count → Chain (Paired pairs) a way goal → a < count
-  start_below count a [] below h = (pair_below pairs count a goal below h).0
-  start_below count a (c ∷ way) below h = (pair_below pairs count a c below h.0).0
+  start_below : (a : ℕ) (way : List ℕ) → Chain R a way goal → a < count
+  start_below a [] h = (told.below a goal h).0
+  start_below a (c ∷ way) h = (told.below a c h.0).0
 
-  all_below : (count a : ℕ) (way : List ℕ) → AllBelow pairs count → Chain (Paired pairs) a way goal → (q : ℕ) →
-      list_any (eqb q) (a ∷ way) ≡ true → q < count
-  all_below count a [] below h q e = elim (any_cases q a [] e) [
-    | inl same ↦ subst (λ z. z < count) (sym same) (start_below count a [] below h)
+  all_below : (a : ℕ) (way : List ℕ) → Chain R a way goal → (q : ℕ) → list_any (eqb q) (a ∷ way) ≡ true → q < count
+  all_below a [] h q e = elim (any_cases q a [] e) [
+    | inl same ↦ subst (λ z. z < count) (sym same) (start_below a [] h)
     | inr never ↦ absurd cc
   ]
-  all_below count a (c ∷ way) below h q e = elim (any_cases q a (c ∷ way) e) [
-    | inl same ↦ subst (λ z. z < count) (sym same) (start_below count a (c ∷ way) below h)
-    | inr on ↦ all_below count c way below h.1 q on
+  all_below a (c ∷ way) h q e = elim (any_cases q a (c ∷ way) e) [
+    | inl same ↦ subst (λ z. z < count) (sym same) (start_below a (c ∷ way) h)
+    | inr on ↦ all_below c way h.1 q on
   ]
 
   -- where there is a way there is one with fewer indexes between than there are
-  short : (count a : ℕ) (way : List ℕ) → AllBelow pairs count → Chain (Paired pairs) a way goal →
-      (other : List ℕ) × Chain (Paired pairs) a other goal × (length other < count)
-  short count a way below h =
+  short : (a : ℕ) (way : List ℕ) → Chain R a way goal → (other : List ℕ) × Chain R a other goal × (length other < count)
+  short a way h =
       let found = direct a way h in
       let few = length-le_from_distinct_below (a ∷ found.0) count found.1.distinct
-      (all_below count a found.0 below found.1.chain) in
+      (all_below a found.0 found.1.chain) in
       (found.0, found.1.chain, omega (arith, few))
+
+  pub no_way_to : (a : ℕ) → way_to leads count goal a ≡ None → (way : List ℕ) → Chain R a way goal → ⊥
+  unfolding way_to
+  no_way_to a e way h =
+      let other = short a way h in
+      way_none (length other.0) a (first_none (λ n. least_way leads count goal n a) count e (length other.0) other.2)
+      other.0 refl other.1
+
+  pub a_way_to : (a : ℕ) (way : List ℕ) → way_to leads count goal a ≡ Some way → Chain R a way goal
+  unfolding way_to
+  a_way_to a way e =
+      let nearest = first_some (λ n. least_way leads count goal n a) count way e in
+      (way_some nearest.at a way nearest.gives).chain
 
 -- ---- cycles
 
@@ -259,41 +294,35 @@ mapped_some : (o : Option (List ℕ)) (a : ℕ) (cycle : List ℕ) → option_ma
 mapped_some None a cycle e = absurd cc
 mapped_some (Some way) a cycle e = (way, refl, (let f : a ∷ way ≡ cycle = cc in sym f))
 
-module _ (pairs : List (ℕ × ℕ)) (count : ℕ) (below : AllBelow pairs count) where
-  back_none : (a : ℕ) → way_back pairs count a ≡ None → (way : List ℕ) → Chain (Paired pairs) a way a → ⊥
-  unfolding way_back
-  back_none a e way h =
-      let other = short pairs a count a way below h in
-      way_none pairs count a below (length other.0) a
-      (first_none (λ n. least_way pairs count a n a) count e (length other.0) other.2) other.0 refl other.1
-
-  pub cycle_none : first_cycle pairs count ≡ None → HasNoCycle (Paired pairs)
+module _ (R : ℕ → ℕ → Type 0) (leads : ℕ → ℕ → Bool) (count : ℕ) (told : IsToldBy R leads count) where
+  cycle_none : first_cycle leads count ≡ None → HasNoCycle R
   unfolding first_cycle
   cycle_none e q h =
-      back_none q (mapped_none (way_back pairs count q) q
-      (first_none (λ a. option_map (λ way. a ∷ way) (way_back pairs count a)) count e q
-      (start_below pairs q count q h.0 below h.1))) h.0 h.1
+      no_way_to R leads count told q q (mapped_none (way_to leads count q q) q
+      (first_none (λ a. option_map (λ way. a ∷ way) (way_to leads count a a)) count e q
+      (start_below R leads count told q q h.0 h.1))) h.0 h.1
 
-  pub cycle_some : (cycle : List ℕ) → first_cycle pairs count ≡ Some cycle → IsCycle (Paired pairs) cycle
-  unfolding first_cycle way_back
+  cycle_some : (cycle : List ℕ) → first_cycle leads count ≡ Some cycle → IsCycle R cycle
+  unfolding first_cycle way_to
   cycle_some cycle e =
-      let first = first_some (λ a. option_map (λ way. a ∷ way) (way_back pairs count a)) count cycle e in
+      let first = first_some (λ a. option_map (λ way. a ∷ way) (way_to leads count a a)) count cycle e in
       let a = first.at in
-      let parts = mapped_some (way_back pairs count a) a cycle first.gives in
+      let parts = mapped_some (way_to leads count a a) a cycle first.gives in
       let way = parts.0 in
-      let nearest = first_some (λ n. least_way pairs count a n a) count way parts.1 in
-      let best = way_some pairs count a below nearest.at a way nearest.gives in
+      let nearest = first_some (λ n. least_way leads count a n a) count way parts.1 in
+      let best = way_some R leads count told a nearest.at a way nearest.gives in
       record {
         start = a;
         between = way;
         is = parts.2;
         closes = best.chain;
         first = λ q h. elim (cases_lt q a) [
-          | inl less ↦ absurd (back_none q (mapped_none (way_back pairs count q) q (first.none q less)) h.0 h.1)
+          | inl less ↦
+              absurd (no_way_to R leads count told q q (mapped_none (way_to leads count q q) q (first.none q less)) h.0 h.1)
           | inr more ↦ more
         ];
         shortest = λ other h. elim (cases_lt (length other) nearest.at) [
-          | inl less ↦ absurd (way_none pairs count a below (length other) a (nearest.none (length other) less) other
+          | inl less ↦ absurd (way_none R leads count told a (length other) a (nearest.none (length other) less) other
               refl h)
           | inr more ↦ let l = best.long in omega (arith, l, more)
         ];
@@ -322,18 +351,132 @@ same_cycle R xs ys c d =
     let rest = later_both c.between d.between long (c.least d.between back (sym long)) (d.least c.between there long) in
     c.is ∙ ap₂ (λ s b. s ∷ b) same rest ∙ sym d.is
 
-pub cycle_is : (pairs : List (ℕ × ℕ)) (count : ℕ) (cycle : List ℕ) → AllBelow pairs count →
-    IsCycle (Paired pairs) cycle → first_cycle pairs count ≡ Some cycle
-cycle_is pairs count cycle below c = elim (option_cases (first_cycle pairs count)) [
-  | inl none ↦ absurd (cycle_none pairs count below none c.start (c.between, c.closes))
-  | inr some ↦ some.1 ∙ ap Some (same_cycle (Paired pairs) some.0 cycle (cycle_some pairs count below some.0 some.1) c)
-]
+module _ (R : ℕ → ℕ → Type 0) (leads : ℕ → ℕ → Bool) (count : ℕ) (told : IsToldBy R leads count) where
+  cycle_is : (cycle : List ℕ) → IsCycle R cycle → first_cycle leads count ≡ Some cycle
+  cycle_is cycle c = elim (option_cases (first_cycle leads count)) [
+    | inl none ↦ absurd (cycle_none R leads count told none c.start (c.between, c.closes))
+    | inr some ↦ some.1 ∙ ap Some (same_cycle R some.0 cycle (cycle_some R leads count told some.0 some.1) c)
+  ]
 
-pub cycle_isnt : (pairs : List (ℕ × ℕ)) (count : ℕ) → AllBelow pairs count → HasNoCycle (Paired pairs) →
-    first_cycle pairs count ≡ None
-cycle_isnt pairs count below none = elim (option_cases (first_cycle pairs count)) [
-  | inl is ↦ is
-  | inr some ↦
-      let c = cycle_some pairs count below some.0 some.1 in
-      absurd (none c.start (c.between, c.closes))
-]
+  cycle_isnt : HasNoCycle R → first_cycle leads count ≡ None
+  cycle_isnt none = elim (option_cases (first_cycle leads count)) [
+    | inl is ↦ is
+    | inr some ↦
+        let c = cycle_some R leads count told some.0 some.1 in
+        absurd (none c.start (c.between, c.closes))
+  ]
+
+-- ---- of containment
+
+paired_told : (pairs : List (ℕ × ℕ)) (count : ℕ) → AllBelow pairs count → IsToldBy (Paired pairs) (is_paired pairs) count
+paired_told pairs count below = record {
+  sound = paired_sound pairs;
+  complete = paired_complete pairs;
+  below = λ a b h. pair_below pairs count a b below h;
+}
+
+pub contained_is : (pairs : List (ℕ × ℕ)) (count : ℕ) (cycle : List ℕ) → AllBelow pairs count →
+    IsCycle (Paired pairs) cycle → first_cycle (is_paired pairs) count ≡ Some cycle
+contained_is pairs count cycle below c =
+    cycle_is (Paired pairs) (is_paired pairs) count (paired_told pairs count below) cycle c
+
+pub contained_isnt : (pairs : List (ℕ × ℕ)) (count : ℕ) → AllBelow pairs count → HasNoCycle (Paired pairs) →
+    first_cycle (is_paired pairs) count ≡ None
+contained_isnt pairs count below none =
+    cycle_isnt (Paired pairs) (is_paired pairs) count (paired_told pairs count below) none
+
+-- ---- of what comes before what
+
+module _ (containers edges : List (ℕ × ℕ)) (count : ℕ) (below : AllBelow containers count)
+    (edges_below : AllBelow edges count) where
+  belongs_sound : (r c : ℕ) → does_belong containers count r c ≡ true → Belongs containers r c
+  belongs_sound r c e = elim (eqb_tells c r) [
+    | inl same ↦ inl same.1
+    | inr other ↦ elim (option_cases (way_to (is_paired containers) count r c)) [
+      | inl none ↦ absurd (true≢false (sym (subst (λ b. (b || is_some (way_to (is_paired containers) count r c)) ≡ true)
+          other.0 e) ∙ ap is_some none))
+      | inr some ↦ inr (
+        some.0,
+        a_way_to (Paired containers) (is_paired containers) count
+            (paired_told containers count below) r c some.0 some.1,
+      )
+    ]
+  ]
+
+  belongs_complete : (r c : ℕ) → Belongs containers r c → does_belong containers count r c ≡ true
+  belongs_complete r c (inl same) = ap (λ b. b || is_some (way_to (is_paired containers) count r c)) (eq-eqb c r same)
+  belongs_complete r c (inr h) = elim (option_cases (way_to (is_paired containers) count r c)) [
+    | inl none ↦ absurd (no_way_to (Paired containers) (is_paired containers) count (paired_told containers count below)
+        r c none h.0 h.1)
+    | inr some ↦ ap (λ o. eqb c r || is_some o) some.1 ∙ or_true (eqb c r)
+  ]
+
+  belongs_below : (r c : ℕ) → c < count → Belongs containers r c → r < count
+  belongs_below r c less (inl same) = subst (λ z. z < count) same less
+  belongs_below r c less (inr h) = end_below containers count r c h.0 below h.1
+
+  direct_sound : (es : List (ℕ × ℕ)) → ((x y : ℕ) → Paired es x y → Paired edges x y) → (r s : ℕ) →
+      list_any (λ e. does_belong containers count r e.0 && does_belong containers count s e.1) es ≡ true →
+      Direct containers edges r s
+  direct_sound [] among r s e = absurd cc
+  direct_sound (x ∷ es) among r s e =
+      elim (bool_cases (does_belong containers count r x.0 && does_belong containers count s x.1)) [
+        | inl here ↦
+            let parts = and_both (does_belong containers count r x.0) (does_belong containers count s x.1) here in
+            record {
+              earlier = x.0;
+              later = x.1;
+              edge = among x.0 x.1 (0, omega arith, refl);
+              source = belongs_sound r x.0 parts.0;
+              target = belongs_sound s x.1 parts.1;
+            }
+        | inr other ↦
+            direct_sound es (λ a b h. among a b (later x es a b h)) r s (subst (λ b. (b || list_any
+            (λ y. does_belong containers count r y.0 && does_belong containers count s y.1) es) ≡ true) other e)
+      ]
+
+  direct_complete : (es : List (ℕ × ℕ)) (r s x y : ℕ) → Paired es x y → Belongs containers r x → Belongs containers s y →
+      list_any (λ e. does_belong containers count r e.0 && does_belong containers count s e.1) es ≡ true
+  direct_complete [] r s x y h p q = absurd (let k = h.1 in omega arith)
+  direct_complete (e ∷ es) r s x y (zero, h, is) p q =
+      ap (λ b. b || list_any (λ z. does_belong containers count r z.0 && does_belong containers count s z.1) es)
+      (ap (λ z. does_belong containers count r z.0 && does_belong containers count s z.1) is
+      ∙ and_true (does_belong containers count r x) (does_belong containers count s y) (belongs_complete r x p)
+      (belongs_complete s y q))
+  direct_complete (e ∷ es) r s x y (suc k, h, is) p q =
+      ap (λ b. (does_belong containers count r e.0 && does_belong containers count s e.1) || b)
+      (direct_complete es r s x y (k, omega (arith, h), is) p q)
+      ∙ or_true (does_belong containers count r e.0 && does_belong containers count s e.1)
+
+  direct_told : IsToldBy (Direct containers edges) (is_direct containers edges count) count
+  direct_told = record {
+    sound = direct_sound edges (λ x y h. h);
+    complete = λ r s d. direct_complete edges r s d.earlier d.later d.edge d.source d.target;
+    below = λ r s d.
+        let ends = pair_below edges count d.earlier d.later edges_below d.edge in
+        (belongs_below r d.earlier ends.0 d.source, belongs_below s d.later ends.1 d.target);
+  }
+
+  pub before_is : (cycle : List ℕ) → IsCycle (Direct containers edges) cycle →
+      first_cycle (is_direct containers edges count) count ≡ Some cycle
+  before_is cycle c =
+      cycle_is (Direct containers edges) (is_direct containers edges count) count direct_told cycle c
+
+  pub before_isnt : HasNoCycle (Direct containers edges) → first_cycle (is_direct containers edges count) count ≡ None
+  before_isnt none =
+      cycle_isnt (Direct containers edges) (is_direct containers edges count) count direct_told none
+
+-- ---- of a graph
+
+pub built_cycle : (containers edges : List (ℕ × ℕ)) (count : ℕ) (g : Relations) → AllBelow containers count →
+    IsBuilt count containers edges g →
+    first_cycle (is_direct g.containers g.edges g.count) g.count ≡ cycle_in containers edges count
+built_cycle containers edges count g below built =
+    ap (λ x. first_cycle (is_direct x.containers x.edges x.count) x.count) built.0
+    ∙ sym (ap (λ o. or_next o (first_cycle (is_direct containers edges count) count))
+    (contained_isnt containers count below built.1))
+
+pub contained_cycle : (containers edges : List (ℕ × ℕ)) (count : ℕ) (cycle : List ℕ) → AllBelow containers count →
+    IsCycle (Paired containers) cycle → cycle_in containers edges count ≡ Some cycle
+contained_cycle containers edges count cycle below c =
+    ap (λ o. or_next o (first_cycle (is_direct containers edges count) count)) (contained_is containers count cycle below c)

@@ -4,5 +4,4 @@ pub mod CycleLemmas
 pub mod LayoutLemmas
 pub mod BelowLemmas
 pub mod ExportLemmas
-mod Samples
-mod Examples
+pub mod RelatingLemmas

@@ -5,5 +5,9 @@ pub mod Tables
 pub mod Catalogs
 pub mod FirstCycles
 pub mod Containing
+pub mod EdgeTables
+pub mod RelationParameters
+pub mod Sources
+pub mod Relating
 pub mod Exporting
 pub mod Finishing

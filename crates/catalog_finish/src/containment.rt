@@ -1,17 +1,17 @@
-//! Whether containment leads from a resource back to itself.
+//! Whether a resource stands inside itself, or comes before itself.
 ghost use Rattle.std.specs.Prelude.{◌≡◌, ◌<◌, ◌^◌, ℕ, [], ◌++◌, length, map, IfOk, OnOk, MatchResult, option_and_then, option_copied, slice_get};
 ghost use Rattle.pp_values.specs.Answers.{Answers};
 ghost use Rattle.res_book.specs.Rows.{reference_of as reference_meant};
-ghost use Rattle.rel_graph.specs.Graphs.{containment_pair};
+ghost use Rattle.rel_graph.specs.Graphs.{containment_pair, edge_pair};
 ghost use Rattle.rel_graph.specs.Pairs.{AllBelow};
-ghost use Rattle.catalog_finish.specs.Containing.{containment, rows_at as rows_at_meant, cycle_told as told_meant, containment_checked};
+ghost use Rattle.catalog_finish.specs.Containing.{containment, rows_at as rows_at_meant, cycle_told as told_meant, order_checked, is_direct, cycle_in as cycle_meant};
 ghost use Rattle.catalog_finish.specs.FirstCycles.{first_cycle};
 ghost use Rattle.catalog_finish.specs.Layouts.{live_numbers};
 
 use pp_values::{Fault, Memory, Reference, Refs, Stop, What};
-use rel_graph::{Containers, Containment, Edges, GraphStop, build};
+use rel_graph::{Containers, Containment, Graph, GraphStop, OrderStop, build};
 use res_book::{Book, Row};
-use res_core::{Held, Indexes};
+use res_core::{EdgeList, Held, Indexes};
 use std::alloc::Global;
 
 /// Puts what contains the resource of this index behind the other pairs.
@@ -125,26 +125,53 @@ fn cycle_of(alloc: Global, book: &Book, cycle: &Indexes) -> Result<(), Stop>
     cycle_told(alloc, rows.as_slice())
 }
 
-/// The cycle that containment has, where it has one. All indexes are below the count.
-fn cycle_in(alloc: Global, count: u32, containers: &Containers) -> Result<Option<Indexes>, Memory>
-    requires { AllBelow (map containment_pair containers.now) count }
-    ensures { IfOk result (λ o. o ≡ first_cycle (map containment_pair containers.now) count) }
+/// The cycle of what comes before what, where it has one.
+fn cycle_before(alloc: Global, graph: &Graph) -> Result<Option<Indexes>, Memory>
+    requires below { AllBelow graph.now.containers graph.now.count }
+    requires edges_below { AllBelow graph.now.edges graph.now.count }
+    ensures { IfOk result (λ o. o
+        ≡ first_cycle (is_direct graph.now.containers graph.now.edges graph.now.count) graph.now.count) }
 {
-    match build(alloc, count, containers, &Edges::new(alloc)) {
-        Ok(_graph) => Ok(None),
+    match graph.order(alloc) {
+        Ok(_order) => Ok(None),
+        Err(OrderStop::Cycle(cycle)) => Ok(Some(cycle)),
+        Err(OrderStop::Memory) => Err(Memory),
+    }
+}
+
+/// The cycle that stands in the way of an order, where there is one. All indexes are below the count.
+fn cycle_in(
+    alloc: Global,
+    count: u32,
+    containers: &Containers,
+    edges: &EdgeList,
+) -> Result<Option<Indexes>, Memory>
+    requires below { AllBelow (map containment_pair containers.now) count }
+    requires edges_below { AllBelow (map edge_pair edges.now) count }
+    ensures { IfOk result (λ o. o
+        ≡ cycle_meant (map containment_pair containers.now) (map edge_pair edges.now) count) }
+{
+    match build(alloc, count, containers, edges) {
+        Ok(graph) => cycle_before(alloc, &graph),
         Err(GraphStop::Contains(cycle)) => Ok(Some(cycle)),
         Err(GraphStop::Memory) => Err(Memory),
     }
 }
 
-/// The fault where a resource stands inside itself.
-pub fn check_containment(alloc: Global, book: &Book, resources: &[Held]) -> Result<(), Stop>
+/// The fault where a resource stands inside itself, or comes before itself.
+pub fn check_order(
+    alloc: Global,
+    book: &Book,
+    resources: &[Held],
+    edges: &EdgeList,
+) -> Result<(), Stop>
     requires few { length resources.now < 2 ^ 32 }
     requires below { AllBelow (containment resources.now) (length resources.now) }
-    ensures { Answers result (containment_checked book.now resources.now) }
+    requires edges_below { AllBelow (map edge_pair edges.now) (length resources.now) }
+    ensures { Answers result (order_checked book.now resources.now edges.now) }
 {
     let containers = containers(alloc, resources)?;
-    match cycle_in(alloc, resources.len() as u32, &containers)? {
+    match cycle_in(alloc, resources.len() as u32, &containers, edges)? {
         Some(cycle) => cycle_of(alloc, book, &cycle),
         None => Ok(()),
     }

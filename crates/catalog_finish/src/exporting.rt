@@ -1,22 +1,22 @@
 //! What a node exports.
 ghost use Rattle.std.specs.Prelude.{◌≡◌, [], Some, IfOk, find, not, option_copied, option_map, slice_get, IsTrue};
 ghost use Rattle.pp_values.specs.Answers.{Answers};
-ghost use Rattle.pp_values.specs.Faults.{fault};
 ghost use Rattle.pp_values.specs.Plain.{is_plain_value};
-ghost use Rattle.pp_values.specs.declared.fault.What.TheVariants.{TypeMismatch};
 ghost use Rattle.res_core.specs.PlainAttributes.{are_plain};
 ghost use Rattle.res_core.specs.AttributeViews.{setting, settings};
 ghost use Rattle.catalog_finish.specs.Exporting.{is_exported as exported_meant, exported_resource as resource_meant, export_of as export_meant, exports as exports_meant, export_with};
 
 use crate::attributes::exported_attributes;
 use crate::resources::resource_with;
+use crate::targets::mismatch;
 use override_rules::Overrides;
-use pp_values::{Fault, Memory, Place, Stop, Text, What, is_plain_value};
+use pp_values::{Memory, Stop, is_plain_value};
 use res_book::{Book, Mode, Row};
 use res_core::{Attribute, Attributes, Exported, Exports, PlainResource};
 use std::alloc::Global;
 
-fn is_exported(mode: &Mode) -> bool
+/// Whether it was declared as exported.
+pub fn is_exported(mode: &Mode) -> bool
     ensures { result ≡ exported_meant mode.now }
 {
     match mode {
@@ -38,14 +38,6 @@ fn first_not_plain(attributes: &[Attribute]) -> Option<&Attribute>
         left = after;
     }
     None
-}
-
-fn mismatch(alloc: Global, at: &Place, name: &Text) -> Result<Fault, Memory>
-    ensures { IfOk result (λ f. f ≡ fault at.now (TypeMismatch name.now)) }
-{
-    let at = at.copy(alloc)?;
-    let name = name.copy(alloc)?;
-    Fault::new(alloc, at, What::TypeMismatch(name))
 }
 
 /// The export of a declaration that is set to these attributes.

@@ -50,6 +50,13 @@ impl Layout {
         }
     }
 
+    /// The index of a declaration, where it is live.
+    pub fn index(&self, number: u32) -> Option<u32>
+        ensures { result ≡ index_at self.now.indexes number }
+    {
+        index_at(&self.indexes, number)
+    }
+
     fn outers(&self, number: u32) -> &[u32]
         ensures { result.now ≡ slice_index_or self.now.outers number [] }
     {

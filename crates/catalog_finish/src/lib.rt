@@ -3,11 +3,16 @@
 
 mod attributes;
 mod checks;
+mod collecting;
 mod containment;
+mod edge_table;
 mod exporting;
 mod finishing;
 mod layout;
 mod plain_values;
+mod relating;
 mod resources;
+mod tables;
+mod targets;
 
 pub use finishing::finish;

@@ -209,6 +209,21 @@ unfolding go_on look look_within interpolated answers answer option_for merge_fo
     pieces_from form_of method_of whole_alias cut_at trimmed_start trimmed_end digits
 within = (refl, refl, refl, refl)
 
+abbrev hiding : World
+hiding = world (
+    two (codes "h") (hash (at (codes "a") (t (codes "%{v}")) ∷ [])) (hash (at (codes "a") (t (codes "%{f(")) ∷ []))
+    ∷ two (codes "u") (list (t (codes "%{v}") ∷ [])) (list (t (codes "7") ∷ []))
+    ∷ one (codes "d") (hash (at (codes "a") (n 1) ∷ at (codes "b") (t (codes "%{f(")) ∷ [])) ∷ [])
+
+-- what a merge hides, and what stands beside the part that is wanted, is not looked into; members are compared before
+after_merging : (looked_up hiding (codes "h") (Some by.Hash) ≡ Ok (Some (hash (at (codes "a") (t (codes "7")) ∷ []))))
+    × (looked_up hiding (codes "u") (Some by.Unique) ≡ Ok (Some (list (t (codes "7") ∷ t (codes "7") ∷ []))))
+    × (looked_up hiding (codes "d.a") (Some by.First) ≡ Ok (Some (n 1)))
+    × (looked_up hiding (codes "d") (Some by.First) ≡ Err (what.BadInterpolation (codes "%{f(")))
+unfolding go_on look look_within interpolated answers answer option_for merge_for option_in bad_options found found_in
+    pieces_from form_of method_of whole_alias cut_at trimmed_start trimmed_end digits
+after_merging = (refl, refl, refl, refl)
+
 -- a key within its own look-up, also one step further and by another spelling; the first fault of a value counts
 loops : (in_texts (codes "a") ≡ Err (what.LookupLoop (codes "a")))
     × (in_texts (codes "g") ≡ Err (what.LookupLoop (codes "g")))

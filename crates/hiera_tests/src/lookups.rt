@@ -242,6 +242,35 @@ fn options_within(rt: HostRuntime) -> Result<(), Fail> {
     Ok(())
 }
 
+/// Texts of which some are hidden by a merge, or stand beside the part that is wanted.
+const HIDDEN: Files = &[
+    ("hiera.yaml", TWO),
+    (
+        "data/high.json",
+        "{\"h\":{\"a\":\"%{facts.who}\"},\"u\":[\"%{facts.who}\"],\"d\":{\"a\":1,\"b\":\"%{f(\"}}",
+    ),
+    ("data/low.json", "{\"h\":{\"a\":\"%{f(\"},\"u\":[\"me\"]}"),
+];
+
+const AFTER: [(&str, Merge, &str); 5] = [
+    ("h", Merge::Hash, "{\"a\":\"me\"}"),
+    ("h", Merge::Deep, "{\"a\":\"me\"}"),
+    ("u", Merge::Unique, "[\"me\",\"me\"]"),
+    ("d.a", Merge::First, "1"),
+    ("d", Merge::First, "F24 %{f("),
+];
+
+#[test]
+fn after_merging(rt: HostRuntime) -> Result<(), Fail> {
+    for (key, merge, want) in AFTER.iter() {
+        assert!(rt;
+            looks(rt.alloc(), HIDDEN, key, Some(*merge), want)?,
+            "{key}"
+        );
+    }
+    Ok(())
+}
+
 /// Keys that look up the next one each, and the last one a text.
 fn chain(alloc: Global, count: u32) -> Result<String, Memory> {
     let mut out = String::from_str(alloc, "{")?;

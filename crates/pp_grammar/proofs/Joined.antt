@@ -3,26 +3,32 @@ use Rattle.std.proofs.Common.{◌≡◌, ◌↔◌, ℕ, List, [], Ok}
 use Rattle.pp_tree.specs.declared.definition.Definition.{Definition}
 use Rattle.pp_parser.specs.Input.{Input}
 use Rattle.pp_parser.specs.declared.found.Found.{Found}
-use Rattle.pp_parser.specs.Definitions.{main_manifest, module_file}
-use Rattle.pp_parser.specs.Levels.{within}
-use Rattle.pp_grammar.specs.Files.{IsMain, IsModule, Levels}
+use Rattle.pp_grammar.proofs.Reader.Definitions.{main_manifest, module_file}
+use Rattle.pp_grammar.proofs.Reader.Levels.{within_to}
+use Rattle.pp_grammar.specs.Files.{IsMain, IsModule, LevelsTo}
 use Rattle.pp_grammar.specs.Laws.{only_definitions}
 use Rattle.pp_grammar.proofs.Sound.Inner.{IsSound}
 use Rattle.pp_grammar.proofs.Sound.Ends.{EndsOnce}
 use Rattle.pp_grammar.proofs.Sound.Levels as sound
 use Rattle.pp_grammar.proofs.Complete.Files.{within_complete, main_complete, module_complete}
 
-once : (n : ℕ) → EndsOnce (Levels n)
-once n = sound.ends_once (within n).read (Levels n) (within_complete n).reads
+module _ (behind levels more : ℕ) where
+  once : (l m : ℕ) → EndsOnce (LevelsTo behind l m)
+  once l m = sound.ends_once (within_to behind l m).read (LevelsTo behind l m) (within_complete behind l m).reads
 
-all_sound : (n : ℕ) → IsSound (within n) (Levels n)
-all_sound = sound.within_sound once
+  all_sound : IsSound (within_to behind levels more) (LevelsTo behind levels more)
+  all_sound = sound.within_sound behind once levels more
 
-pub main_exactly : (n : ℕ) (i j : Input) (found : Found) → main_manifest (within n) i ≡ Ok (found, j) ↔ IsMain (Levels n) i found.statements found.definitions j
-main_exactly n i j found = (sound.main_sound n (all_sound n) (once n) i j found, main_complete n i j found.statements found.definitions)
+  pub main_exactly : (i j : Input) (found : Found)
+      → main_manifest (within_to behind levels more) i ≡ Ok (found, j) ↔ IsMain (LevelsTo behind levels more) i found.statements found.definitions j
+  main_exactly i j found =
+      (sound.main_sound (within_to behind levels more) (LevelsTo behind levels more) all_sound (once levels more) i j found,
+       main_complete (within_to behind levels more) (LevelsTo behind levels more) (within_complete behind levels more) i j found.statements found.definitions)
 
-pub module_stands : (n : ℕ) (i j : Input) (found : Found) → module_file (within n) i ≡ Ok (found, j) → (found.statements ≡ []) × IsModule (Levels n) i found.definitions j
-module_stands n = sound.module_sound n (all_sound n)
+  pub module_stands : (i j : Input) (found : Found)
+      → module_file (within_to behind levels more) i ≡ Ok (found, j) → (found.statements ≡ []) × IsModule (LevelsTo behind levels more) i found.definitions j
+  module_stands = sound.module_sound (within_to behind levels more) (LevelsTo behind levels more) all_sound
 
-pub module_read : (n : ℕ) (i j : Input) (ds : List Definition) → IsModule (Levels n) i ds j → module_file (within n) i ≡ Ok (only_definitions ds, j)
-module_read = module_complete
+  pub module_read : (i j : Input) (ds : List Definition)
+      → IsModule (LevelsTo behind levels more) i ds j → module_file (within_to behind levels more) i ≡ Ok (only_definitions ds, j)
+  module_read = module_complete (within_to behind levels more) (LevelsTo behind levels more) (within_complete behind levels more)

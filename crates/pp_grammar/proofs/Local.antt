@@ -4,6 +4,7 @@ pub mod Files
 pub mod Inner
 pub mod Laws
 pub mod Levels
+pub mod Limits
 pub mod Lists
 pub mod Statements
 pub mod Steps

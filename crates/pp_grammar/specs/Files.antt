@@ -1,5 +1,5 @@
 -- The grammar of files, and how the rules stand within one another.
-use Rattle.std.specs.Prelude.{◌≡◌, ℕ, zero, suc, Bool, true, false, List, [], ◌∷◌, Option, Some, None}
+use Rattle.std.specs.Prelude.{◌≡◌, ℕ, zero, suc, ltb, Bool, true, false, List, [], ◌∷◌, length, Option, Some, None}
 use Rattle.pp_lexer.specs.declared.kind.Kind.{Kind}
 use Rattle.pp_lexer.specs.declared.kind.Kind.TheVariants as k
 use Rattle.pp_lexer.specs.declared.token.Token.{Token}
@@ -95,7 +95,13 @@ module _ (N : Within) where
   IsPart goal.Query i (part.Query q) j = IsQuery N i q j
   IsPart g i p j = ⊥
 
--- what stands within brackets, where so many levels may be opened
-unfoldable pub Levels : ℕ → Within
-Levels zero = record { is_deepest = true; reads = λ g i p j. ⊥ }
-Levels (suc n) = record { is_deepest = false; reads = IsPart (Levels n) }
+-- What stands within brackets, where so many levels may be opened. The limit holds up to the place from which so many tokens
+-- are left: from there on, so many further ones may be opened.
+unfoldable pub LevelsTo : (behind levels further : ℕ) → Within
+LevelsTo behind zero zero = record { is_deepest = λ i. true; reads = λ g i p j. ⊥ }
+LevelsTo behind zero (suc further) = record { is_deepest = λ i. ltb behind (length i.left); reads = IsPart (LevelsTo behind zero further) }
+LevelsTo behind (suc levels) further = record { is_deepest = λ i. false; reads = IsPart (LevelsTo behind levels further) }
+
+-- the same where so many may be opened everywhere
+abbrev pub Levels : ℕ → Within
+Levels n = LevelsTo 0 n 0

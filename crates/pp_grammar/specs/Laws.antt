@@ -1,5 +1,5 @@
 -- What holds between the text of a manifest, its tree and its fault, in the words of the grammar.
-use Rattle.std.specs.Prelude.{◌≡◌, ◌≢◌, ℕ, List, [], ◌∷◌, ◌++◌, Option, Some, None, Ok}
+use Rattle.std.specs.Prelude.{◌≡◌, ◌≢◌, ℕ, List, [], ◌∷◌, ◌++◌, length, Option, Some, None, Ok}
 use Rattle.pp_values.specs.declared.fault.Fault.{Fault}
 use Rattle.pp_values.specs.declared.fault.What.TheVariants.{Syntax, DepthLimit}
 use Rattle.pp_lexer.specs.declared.token.Token.{Token}
@@ -10,10 +10,10 @@ use Rattle.pp_tree.specs.declared.file.File.{File}
 use Rattle.pp_tree.specs.Tables.{table_of}
 use Rattle.pp_parser.specs.Input.{Input}
 use Rattle.pp_parser.specs.Keys.{earlier_line}
-use Rattle.pp_parser.specs.Levels.{max_levels}
 use Rattle.pp_parser.specs.declared.found.Found.{Found}
 use Rattle.pp_parser.specs.Manifest.{main_path, start, line_from, fault_at, doubled_name}
-use Rattle.pp_grammar.specs.Files.{IsMain, IsModule, Levels}
+use Rattle.pp_grammar.specs.Places.{Within}
+use Rattle.pp_grammar.specs.Files.{IsMain, IsModule, LevelsTo}
 
 -- the end of a file, with the line of the first key that stands a second time in its hash literal, if one does
 abbrev pub the_end : Option ℕ → Input
@@ -22,17 +22,40 @@ the_end key = record { left = []; doubled = key }
 abbrev pub only_definitions : List Definition → Found
 only_definitions ds = record { statements = []; definitions = ds }
 
--- What stands in the file at this path, from its first token to its end, where so many levels may be open at once; and the
--- line of the first key that stands a second time in its hash literal, if one does.
-pub data IsFile (levels : ℕ) (path : List ℕ) (ts : List Token) : Found → Option ℕ → Type 0 where
-  main_manifest : (found : Found) (key : Option ℕ) → path ≡ main_path → IsMain (Levels levels) (start ts) found.statements found.definitions (the_end key) → IsFile levels path ts found key
-  module_file : (ds : List Definition) (key : Option ℕ) → path ≢ main_path → IsModule (Levels levels) (start ts) ds (the_end key) → IsFile levels path ts (only_definitions ds) key
+-- as many levels may be open at once
+abbrev pub max_levels : ℕ
+max_levels = 200
+
+-- How many levels may be open at once: so many up to the place from which `behind` tokens are left, and so many further ones
+-- from there on.
+pub record Limit : Type 0 where
+  pub levels : ℕ
+  pub behind : ℕ
+  pub further : ℕ
+
+-- so many at each place
+abbrev pub everywhere : ℕ → Limit
+everywhere n = record { levels = n; behind = 0; further = 0 }
+
+-- the limit of levels up to the place before these tokens, and more from there on
+abbrev pub up_to : List Token → ℕ → Limit
+up_to rest further = record { levels = max_levels; behind = length rest; further = further }
+
+-- what stands within brackets, where so many levels may be opened
+abbrev pub within_limit : Limit → Within
+within_limit l = LevelsTo l.behind l.levels l.further
+
+-- What stands in the file at this path, from its first token to its end, within this limit of levels; and the line of the first
+-- key that stands a second time in its hash literal, if one does.
+pub data IsFile (limit : Limit) (path : List ℕ) (ts : List Token) : Found → Option ℕ → Type 0 where
+  main_manifest : (found : Found) (key : Option ℕ) → path ≡ main_path → IsMain (within_limit limit) (start ts) found.statements found.definitions (the_end key) → IsFile limit path ts found key
+  module_file : (ds : List Definition) (key : Option ℕ) → path ≢ main_path → IsModule (within_limit limit) (start ts) ds (the_end key) → IsFile limit path ts (only_definitions ds) key
 
 -- A tree: what stands in the file within the limit of levels, with no key twice, and its definitions by their names, with no
 -- name twice.
 pub record IsTree (path text : List ℕ) (file : File) : Type 0 where
   pub definitions : List Definition
-  pub stands : IsFile max_levels path (tokens text) (record { statements = file.statements; definitions = definitions }) None
+  pub stands : IsFile (everywhere max_levels) path (tokens text) (record { statements = file.statements; definitions = definitions }) None
   pub table : table_of definitions ≡ Ok file.definitions
 
 -- ---- faults
@@ -46,29 +69,30 @@ first_token (t ∷ ts) = Some t
 abbrev pub SameHead : List Token → List Token → Type 0
 SameHead r s = first_token r ≡ first_token s
 
--- some file begins with these tokens, whatever levels it may open
-pub record GoesOn (path : List ℕ) (front : List Token) : Type 0 where
-  pub levels : ℕ
+-- Some file begins with the first tokens and goes on with the next ones. In the first ones it keeps the limit of levels, and
+-- behind them it may open any number.
+pub record GoesOn (path : List ℕ) (front next : List Token) : Type 0 where
   pub way : List Token
+  pub further : ℕ
   pub found : Found
   pub key : Option ℕ
-  pub stands : IsFile levels path (front ++ way) found key
+  pub stands : IsFile (up_to (next ++ way) further) path (front ++ (next ++ way)) found key
 
--- At this place a text leaves the grammar: some file begins with the tokens before it, and none goes on with the token that
--- comes next there, or ends there; whatever levels these files may open.
+-- At this place a text leaves the grammar: some file begins with the tokens before it, within the limit of levels, and none
+-- goes on with the token that comes next there, or ends there, however many levels it may open.
 pub record IsRefused (path : List ℕ) (front rest : List Token) : Type 0 where
-  pub none_goes_on : (other : List Token) (levels : ℕ) (found : Found) (key : Option ℕ) → SameHead rest other → IsFile levels path (front ++ other) found key → ⊥
-  pub some_goes_on : GoesOn path front
+  pub none_goes_on : (other : List Token) (levels : ℕ) (found : Found) (key : Option ℕ) → SameHead rest other → IsFile (everywhere levels) path (front ++ other) found key → ⊥
+  pub some_goes_on : GoesOn path front []
 
--- With this token the limit of levels is passed: no file within it goes on with the token, and some file that may open more
--- levels does.
+-- With this token the limit of levels is passed: some file that keeps it before the token goes on with it, and none that keeps
+-- it up to there, the token included, whatever stands behind.
 pub record IsTooDeep (path : List ℕ) (front : List Token) (t : Token) : Type 0 where
-  pub none_goes_on : (other : List Token) (found : Found) (key : Option ℕ) → IsFile max_levels path (front ++ t ∷ other) found key → ⊥
-  pub some_goes_on : GoesOn path (front ++ t ∷ [])
+  pub none_goes_on : (other : List Token) (further : ℕ) (found : Found) (key : Option ℕ) → IsFile (up_to other further) path (front ++ t ∷ other) found key → ⊥
+  pub some_goes_on : GoesOn path front (t ∷ [])
 
 -- The fault of a text: F1 where it leaves the grammar, F29 at a token with which it passes the limit of levels, and where
 -- something stands in the file, F1 at the first key or name that stands there a second time.
 pub data IsFault (path text : List ℕ) : Fault → Type 0 where
   refused : (front rest : List Token) → tokens text ≡ front ++ rest → IsRefused path front rest → IsFault path text (fault_at path Syntax (line_from (end_line text) rest))
   too_deep : (front rest : List Token) (t : Token) → tokens text ≡ front ++ t ∷ rest → IsTooDeep path front t → IsFault path text (fault_at path DepthLimit t.line)
-  doubled : (found : Found) (key : Option ℕ) (line : ℕ) → IsFile max_levels path (tokens text) found key → earlier_line key (doubled_name (table_of found.definitions)) ≡ Some line → IsFault path text (fault_at path Syntax line)
+  doubled : (found : Found) (key : Option ℕ) (line : ℕ) → IsFile (everywhere max_levels) path (tokens text) found key → earlier_line key (doubled_name (table_of found.definitions)) ≡ Some line → IsFault path text (fault_at path Syntax line)

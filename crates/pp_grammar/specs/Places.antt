@@ -22,14 +22,14 @@ pub record Stands (fits : Option Kind → Bool) (i : Input) (t : Token) (j : Inp
 
 -- what stands one level further in
 pub record Within : Type 1 where
-  -- no level may be opened any more
-  pub is_deepest : Bool
+  -- no level may be opened any more by a token that stands here
+  pub is_deepest : Input → Bool
   pub reads : Goal → Phrase Part
 
 -- one token of this kind, which opens a level
 pub record Opens (N : Within) (k : Kind) (i : Input) (t : Token) (j : Input) : Type 0 where
   pub token : Stands (is_kind k) i t j
-  pub room : N.is_deepest ≡ false
+  pub room : N.is_deepest i ≡ false
 
 -- phrases one behind the other, as long as the next token lets the list go on
 pub data Many {A : Type 0} (Item : Phrase A) (goes_on : Option Kind → Bool) : Input → List A → Input → Type 0 where

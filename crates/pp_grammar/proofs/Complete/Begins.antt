@@ -11,7 +11,7 @@ use Rattle.pp_tree.specs.declared.expr.Postfix.{Postfix}
 use Rattle.pp_tree.specs.Building.{expr_at}
 use Rattle.pp_parser.specs.Input.{Input, kind, line_at}
 use Rattle.pp_parser.specs.Kinds.{is_kind, is_name, begins_expression}
-use Rattle.pp_parser.specs.Expressions.{postfixed}
+use Rattle.pp_grammar.proofs.Reader.Expressions.{postfixed}
 use Rattle.pp_grammar.specs.Places.{Within, Stands, Many}
 use Rattle.pp_grammar.specs.Expressions.{begins_postfix, is_variable, is_bracket, prefix_at, IsCallOrName, IsQuoted, IsCondition, IsPrimary, IsPostfix, IsValue, IsOperand, IsBinary, IsWhole}
 use Rattle.pp_grammar.proofs.Complete.Steps.{word_there, fits_there}

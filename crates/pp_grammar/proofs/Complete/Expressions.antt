@@ -15,10 +15,10 @@ use Rattle.pp_parser.specs.declared.goal.Goal.TheVariants as goal
 use Rattle.pp_parser.specs.declared.goal.Part.TheVariants as part
 use Rattle.pp_parser.specs.declared.started.Started.{Started}
 use Rattle.pp_parser.specs.Input.{Input, Parser, ◌<$>◌, kind, line_at, take, repeat, repeat_from, turns}
-use Rattle.pp_parser.specs.Inner.{Inner}
+use Rattle.pp_grammar.proofs.Reader.Inner.{Inner}
 use Rattle.pp_parser.specs.Keys.{noting}
 use Rattle.pp_parser.specs.Kinds.{is_kind, is_name}
-use Rattle.pp_parser.specs.Expressions.{operator_at, chained, postfixed, started, access, list, pair_rule, hash, parentheses, named, elsif_rule, if_rule, unless_rule, case_options, case_rule, primary_by, primary, method, selector, postfix_by, postfix_rule, postfixes, value, prefixed, operand_by, operand, operand_from, operation_rule, chain}
+use Rattle.pp_grammar.proofs.Reader.Expressions.{operator_at, chained, postfixed, started, access, list, pair_rule, hash, parentheses, named, elsif_rule, if_rule, unless_rule, case_options, case_rule, primary_by, primary, method, selector, postfix_by, postfix_rule, postfixes, value, prefixed, operand_by, operand, operand_from, operation_rule, chain}
 use Rattle.pp_grammar.specs.Places.{Within, Stands, Opens, Many, SeparatedSome, before}
 use Rattle.pp_grammar.specs.Expressions.{begins_postfix, is_variable, is_bracket, prefix_at, Inner as InnerExpr, InnerOption, IsCallOrName, IsElsif, IsPair, IsPrimary, IsPostfix, IsValue, IsOperand, IsBinary, AreOperations}
 use Rattle.pp_grammar.proofs.Complete.Steps.{stands_falls, kind_there, line_there, word_there, fits_there, take_gives, expect_gives, expect_any_gives}

@@ -24,15 +24,15 @@ use Rattle.pp_parser.specs.declared.goal.Part.TheVariants as part
 use Rattle.pp_parser.specs.declared.item.Item.{Item}
 use Rattle.pp_parser.specs.declared.item.Item.TheVariants as item
 use Rattle.pp_parser.specs.Input.{Input, Outcome, ◌<$>◌, kind, line_at, eat, turns}
-use Rattle.pp_parser.specs.Inner.{Inner}
+use Rattle.pp_grammar.proofs.Reader.Inner.{Inner}
 use Rattle.pp_parser.specs.Kinds.{is_kind, same_kind, is_name, begins_expression}
-use Rattle.pp_parser.specs.Statements.{Read, name_of, names_resource, resource, chain_from, statement_rule}
+use Rattle.pp_grammar.proofs.Reader.Statements.{Read, name_of, names_resource, resource, chain_from, statement_rule}
 use Rattle.pp_parser.specs.declared.found.Found.{Found}
-use Rattle.pp_parser.specs.Definitions.{nothing_yet, with_statement, with_definition, class, read_of, class_item_by, class_item, item_by, item_rule, ends_file, manifest_from, main_manifest, module_item, module_from, module_file}
-use Rattle.pp_parser.specs.Levels.{part_by, within}
+use Rattle.pp_grammar.proofs.Reader.Definitions.{nothing_yet, with_statement, with_definition, class, read_of, class_item_by, class_item, item_by, item_rule, ends_file, manifest_from, main_manifest, module_item, module_from, module_file}
+use Rattle.pp_grammar.proofs.Reader.Levels.{part_by, within_to}
 use Rattle.pp_grammar.specs.Places.{Within, Stands, Many}
 use Rattle.pp_grammar.specs.Statements.{marks, is_arrow, IsResource, IsCollector, IsReference, IsExpressionOperand, IsOperand, IsLink, IsChain, IsStatement}
-use Rattle.pp_grammar.specs.Files.{IsName, IsClassOrDefine, IsDefinition, IsMain, IsModule, IsPart, Levels}
+use Rattle.pp_grammar.specs.Files.{IsName, IsClassOrDefine, IsDefinition, IsMain, IsModule, IsPart, LevelsTo}
 use Rattle.pp_grammar.proofs.Complete.Steps.{kind_is, fits_kind, line_there, word_there, fits_there, take_gives}
 use Rattle.pp_grammar.proofs.Complete.Lists.{one_more}
 use Rattle.pp_grammar.proofs.Complete.Within.{IsFalling, IsComplete, least}
@@ -348,10 +348,11 @@ part_falls N w goal.CaseOption i j (part.CaseOption x) d = omega (arith, case_op
 part_falls N w goal.Query i j (part.Query x) d = omega (arith, query_falls N w d)
 part_falls N w _ i j _ d = absurd d
 
-pub levels_fall : (n : ℕ) → IsFalling (Levels n)
-unfolding Levels
-levels_fall zero = record { falls = λ g i j p d. absurd d }
-levels_fall (suc n) = record { falls = part_falls (Levels n) (levels_fall n) }
+pub levels_fall : (behind levels more : ℕ) → IsFalling (LevelsTo behind levels more)
+unfolding LevelsTo
+levels_fall behind zero zero = record { falls = λ g i j p d. absurd d }
+levels_fall behind zero (suc more) = record { falls = part_falls (LevelsTo behind zero more) (levels_fall behind zero more) }
+levels_fall behind (suc levels) more = record { falls = part_falls (LevelsTo behind levels more) (levels_fall behind levels more) }
 
 part_complete : (inner : Inner) (N : Within) → IsComplete inner N → (g : Goal) (i j : Input) (p : Part) → IsPart N g i p j → part_by inner g i ≡ Ok (p, j)
 unfolding part_by
@@ -364,17 +365,22 @@ part_complete inner N c goal.CaseOption i j (part.CaseOption x) d = rw (case_opt
 part_complete inner N c goal.Query i j (part.Query x) d = rw (query_complete inner N c d) refl
 part_complete inner N c _ i j _ d = absurd d
 
-pub within_complete : (n : ℕ) → IsComplete (within n) (Levels n)
-unfolding within Levels
-within_complete zero = record { deepest = refl; reads = λ g i j p d. absurd d; falling = levels_fall zero }
-within_complete (suc n) = record { deepest = refl; reads = part_complete (within n) (Levels n) (within_complete n); falling = levels_fall (suc n) }
+pub within_complete : (behind levels more : ℕ) → IsComplete (within_to behind levels more) (LevelsTo behind levels more)
+unfolding within_to LevelsTo
+within_complete behind zero zero = record { deepest = refl; reads = λ g i j p d. absurd d; falling = levels_fall behind zero zero }
+within_complete behind zero (suc more) =
+    record { deepest = refl; reads = part_complete (within_to behind zero more) (LevelsTo behind zero more) (within_complete behind zero more); falling = levels_fall behind zero (suc more) }
+within_complete behind (suc levels) more =
+    record { deepest = refl; reads = part_complete (within_to behind levels more) (LevelsTo behind levels more) (within_complete behind levels more); falling = levels_fall behind (suc levels) more }
 
 -- ---- files
 
 -- a main manifest that stands there, the reader reads, with its statements and its definitions
-pub main_complete : (n : ℕ) (i j : Input) (ss : List Statement) (ds : List Definition) → IsMain (Levels n) i ss ds j → main_manifest (within n) i ≡ Ok (record { statements = ss; definitions = ds }, j)
-main_complete n i j ss ds d = main_manifest_complete (within n) (Levels n) (within_complete n) d
+pub main_complete : (inner : Inner) (N : Within) → IsComplete inner N → (i j : Input) (ss : List Statement) (ds : List Definition)
+    → IsMain N i ss ds j → main_manifest inner i ≡ Ok (record { statements = ss; definitions = ds }, j)
+main_complete inner N c i j ss ds d = main_manifest_complete inner N c d
 
 -- and a module file, with its definitions
-pub module_complete : (n : ℕ) (i j : Input) (ds : List Definition) → IsModule (Levels n) i ds j → module_file (within n) i ≡ Ok (record { statements = []; definitions = ds }, j)
-module_complete n i j ds d = module_file_complete (within n) (Levels n) (within_complete n) d
+pub module_complete : (inner : Inner) (N : Within) → IsComplete inner N → (i j : Input) (ds : List Definition)
+    → IsModule N i ds j → module_file inner i ≡ Ok (record { statements = []; definitions = ds }, j)
+module_complete inner N c i j ds d = module_file_complete inner N c d

@@ -20,10 +20,10 @@ use Rattle.pp_tree.specs.declared.collector.Query.{Query}
 use Rattle.pp_tree.specs.declared.collector.Collector.{Collector}
 use Rattle.pp_tree.specs.Building.{expr_at, chain as chain_of, resource as resource_of, collector as collector_of}
 use Rattle.pp_parser.specs.Input.{Input, ◌>>=◌, ◌<$>◌, kind}
-use Rattle.pp_parser.specs.Inner.{Inner}
+use Rattle.pp_grammar.proofs.Reader.Inner.{Inner}
 use Rattle.pp_parser.specs.Kinds.{is_kind, same_kind, is_name, begins_expression}
-use Rattle.pp_parser.specs.Expressions.{loosest, started, call_or_name, chain, whole}
-use Rattle.pp_parser.specs.Statements.{arrow_at, names_resource, name_of, taken_name, marked, collector, expression_from, behind_name_by, behind_name, behind_type_by, behind_type, operand_by, operand_rule, link_rule, chain_from}
+use Rattle.pp_grammar.proofs.Reader.Expressions.{loosest, started, call_or_name, chain, whole}
+use Rattle.pp_grammar.proofs.Reader.Statements.{arrow_at, names_resource, name_of, taken_name, marked, collector, expression_from, behind_name_by, behind_name, behind_type_by, behind_type, operand_by, operand_rule, link_rule, chain_from}
 use Rattle.pp_grammar.specs.Places.{Within, Stands, Opens, Many, Maybe, Begins, before}
 use Rattle.pp_grammar.specs.Expressions.{IsWhole}
 use Rattle.pp_grammar.specs.Statements.{marks, opens_query, closes_query, opens_collector, is_arrow, InnerQuery, AreSettings, AreBodies, IsResource, IsCollector, IsExpressionOperand, IsOperand, IsLink}

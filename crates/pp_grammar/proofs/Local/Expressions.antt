@@ -3,7 +3,7 @@ use Rattle.std.proofs.Common.{ℕ, zero, suc, Bool, true, false, List, [], Optio
 use Rattle.pp_lexer.specs.declared.kind.Kind.{Kind}
 use Rattle.pp_lexer.specs.declared.kind.Kind.TheVariants as k
 use Rattle.pp_parser.specs.Input.{Parser}
-use Rattle.pp_parser.specs.Inner.{Inner}
+use Rattle.pp_grammar.proofs.Reader.Inner.{Inner}
 use Rattle.pp_parser.specs.Kinds.{is_name}
 use Rattle.pp_tree.specs.Layers.{FormLayer}
 use Rattle.pp_parser.specs.Params.{is_simple, param_by_form, param_from}
@@ -16,7 +16,7 @@ use Rattle.pp_tree.specs.declared.expr.Expr.{Expr}
 use Rattle.pp_tree.specs.declared.expr.Form.{out-Form}
 use Rattle.pp_tree.specs.declared.expr.Form.TheVariants as form
 use Rattle.pp_tree.specs.Building.{expr_at, form_of, case_option as option_of_case}
-use Rattle.pp_parser.specs.Expressions.{block, arguments, arguments_by, optional_arguments, access, list, pair_rule, hash, parentheses, lambda_from, lambda_by, optional_lambda, call_or_name_by, call_or_name, named, interpolation, piece_by, piece_rule, text_by, text_after, quoted_by, quoted, otherwise_by, otherwise, condition, elsif_by, elsif_rule, if_rule, unless_rule, case_options_by, case_options, case_rule, primary_by, primary, method, selector, postfix_by, postfix_rule, postfixes, value, prefixed, operand_by, operand, operation_by, operation_rule, operator_at, chain, loosest, started, assigned_by, assigned, whole_by, whole, variable_or_call_by, variable_or_call, begun_by_name, interpolated, default_by, default_rule, typed_param, param_by, param_rule, case_option, is_at}
+use Rattle.pp_grammar.proofs.Reader.Expressions.{block, arguments, arguments_by, optional_arguments, access, list, pair_rule, hash, parentheses, lambda_from, lambda_by, optional_lambda, call_or_name_by, call_or_name, named, interpolation, piece_by, piece_rule, text_by, text_after, quoted_by, quoted, otherwise_by, otherwise, condition, elsif_by, elsif_rule, if_rule, unless_rule, case_options_by, case_options, case_rule, primary_by, primary, method, selector, postfix_by, postfix_rule, postfixes, value, prefixed, operand_by, operand, operation_by, operation_rule, operator_at, chain, loosest, started, assigned_by, assigned, whole_by, whole, variable_or_call_by, variable_or_call, begun_by_name, interpolated, default_by, default_rule, typed_param, param_by, param_rule, case_option, is_at}
 use Rattle.pp_grammar.proofs.Local.Steps.{Cut, IsLocal, any, one, if_given, bind_local, first_local, loose_local, given_local, none_local, pure_local, refuse_local, peek_local, here_local, if_local, take_local, expect_local, expect_any_local, noting_local}
 use Rattle.pp_grammar.proofs.Local.Lists.{repeat_local, separated_local, separated_some_local}
 use Rattle.pp_grammar.proofs.Local.Inner.{InnerLocal, opening_local, whole_in_local, operand_in_local, interpolated_in_local, param_in_local, statements_in_local, case_option_in_local}
@@ -55,7 +55,7 @@ module _ {c : Cut} {a b : Inner} (I : InnerLocal c a b) where
   unfolding list
   list_local bracket = opening_local I bracket (λ _. bind_local (separated_local _ _ (whole_in_local I false)) (λ _. bind_local (expect_local _) (λ _. pure_local _)))
 
-  pub pair_rule_local : IsLocal c a.is_deepest any (pair_rule a) (pair_rule b)
+  pub pair_rule_local : IsLocal c I.deepest any (pair_rule a) (pair_rule b)
   unfolding pair_rule
   pair_rule_local = bind_local (whole_in_local I false) (λ _. bind_local (expect_local _) (λ _. bind_local (whole_in_local I false) (λ _. pure_local _)))
 
@@ -156,11 +156,11 @@ module _ {c : Cut} {a b : Inner} (I : InnerLocal c a b) where
   unfolding unless_rule
   unless_rule_local = first_local (condition_local _) (λ _. bind_local block_local (λ _. bind_local otherwise_local (λ _. pure_local _)))
 
-  pub case_options_by_local : (next : Option Kind) → IsLocal c a.is_deepest if_given (case_options_by a next) (case_options_by b next)
+  pub case_options_by_local : (next : Option Kind) → IsLocal c I.deepest if_given (case_options_by a next) (case_options_by b next)
   case_options_by_local (Some k.CloseBrace) = none_local
   case_options_by_local _ = given_local (first_local (case_option_in_local I) (λ _. pure_local _))
 
-  pub case_options_local : IsLocal c a.is_deepest if_given (case_options a) (case_options b)
+  pub case_options_local : IsLocal c I.deepest if_given (case_options a) (case_options b)
   unfolding case_options
   case_options_local = peek_local case_options_by_local
 

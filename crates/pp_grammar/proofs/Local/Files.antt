@@ -10,9 +10,9 @@ use Rattle.pp_tree.specs.Building.{node_name as node_name_at}
 use Rattle.pp_parser.specs.declared.item.Item.{Item}
 use Rattle.pp_parser.specs.declared.item.Item.TheVariants as item
 use Rattle.pp_parser.specs.Input.{Input, Parser, ◌>>=◌, ◌>>◌, pure, kind, eat}
-use Rattle.pp_parser.specs.Inner.{Inner}
+use Rattle.pp_grammar.proofs.Reader.Inner.{Inner}
 use Rattle.pp_parser.specs.declared.found.Found.{Found}
-use Rattle.pp_parser.specs.Definitions.{nothing_yet, with_definition, found_with, pending_of, taken_text, name_rule, params, params_by, optional_params, inherits_by, optional_inherits, class, define, plain_by, plain_text, node_name_by, node_name_rule, node_names_from, node_names, node, read_of, class_item_by, class_item, item_by, item_rule, ends_file, manifest_from, main_manifest, module_item_by, module_item, module_from, module_file}
+use Rattle.pp_grammar.proofs.Reader.Definitions.{nothing_yet, with_definition, found_with, pending_of, taken_text, name_rule, params, params_by, optional_params, inherits_by, optional_inherits, class, define, plain_by, plain_text, node_name_by, node_name_rule, node_names_from, node_names, node, read_of, class_item_by, class_item, item_by, item_rule, ends_file, manifest_from, main_manifest, module_item_by, module_item, module_from, module_file}
 use Rattle.pp_grammar.proofs.Local.Steps.{Cut, IsLocal, Falls, any, one, if_true, bind_by, bind_local, first_local, loose_local, map_by, pure_local, refuse_local, peek_local, here_local, if_local, take_local, expect_local, expect_any_local, eat_local, eat_falls}
 use Rattle.pp_grammar.proofs.Local.Lists.{same_then, same_if, same_behind, behind_item, turns_local, separated_local}
 use Rattle.pp_grammar.proofs.Local.Inner.{InnerLocal, opening_local, param_in_local}
@@ -123,8 +123,8 @@ module _ {c : Cut} {a b : Inner} (I : InnerLocal c a b) where
   pub node_names_local : {d : Bool} → IsLocal c d any (node_names a) (node_names b)
   unfolding node_names
   node_names_local = turns_local (λ n. node_names_from_local n [])
-      (λ n m i. node_names_turns a (node_name_rule_local {d = a.is_deepest}).falls n m [] i)
-      (λ n m i. node_names_turns b (node_name_rule_local {d = a.is_deepest}).falls_too n m [] i)
+      (λ n m i. node_names_turns a (node_name_rule_local {d = I.deepest}).falls n m [] i)
+      (λ n m i. node_names_turns b (node_name_rule_local {d = I.deepest}).falls_too n m [] i)
 
   pub node_local : {d : Bool} (at : ℕ) → IsLocal c d one (node a at) (node b at)
   unfolding node
@@ -162,8 +162,8 @@ module _ {c : Cut} {a b : Inner} (I : InnerLocal c a b) where
   pub main_manifest_local : {d : Bool} → IsLocal c d any (main_manifest a) (main_manifest b)
   unfolding main_manifest
   main_manifest_local = turns_local (λ n. manifest_from_local n nothing_yet None)
-      (λ n m i h l. manifest_turns a (λ pending. (item_rule_local {d = a.is_deepest} pending).falls) n m nothing_yet None i (omega arith) (omega arith))
-      (λ n m i h l. manifest_turns b (λ pending. (item_rule_local {d = a.is_deepest} pending).falls_too) n m nothing_yet None i (omega arith) (omega arith))
+      (λ n m i h l. manifest_turns a (λ pending. (item_rule_local {d = I.deepest} pending).falls) n m nothing_yet None i (omega arith) (omega arith))
+      (λ n m i h l. manifest_turns b (λ pending. (item_rule_local {d = I.deepest} pending).falls_too) n m nothing_yet None i (omega arith) (omega arith))
 
   -- ---- module files
 
@@ -184,5 +184,5 @@ module _ {c : Cut} {a b : Inner} (I : InnerLocal c a b) where
   pub module_file_local : {d : Bool} → IsLocal c d any (module_file a) (module_file b)
   unfolding module_file
   module_file_local = turns_local (λ n. module_from_local n nothing_yet)
-      (λ n m i. module_turns a (module_item_local {d = a.is_deepest}).falls n m nothing_yet i)
-      (λ n m i. module_turns b (module_item_local {d = a.is_deepest}).falls_too n m nothing_yet i)
+      (λ n m i. module_turns a (module_item_local {d = I.deepest}).falls n m nothing_yet i)
+      (λ n m i. module_turns b (module_item_local {d = I.deepest}).falls_too n m nothing_yet i)

@@ -1,12 +1,12 @@
 -- Readers of files look at the next token alone.
-use Rattle.std.proofs.Common.{◌≡◌, ◌≢◌, ℕ, ◌+◌, ◌-◌, ◌<◌, ◌≤◌, Bool, true, false, List, [], ◌∷◌, ◌++◌, length, take, drop, Ok, Err, refl, sym, ap, subst, ◌∙◌, length-drop, arith}
+use Rattle.std.proofs.Common.{◌≡◌, ◌≢◌, ℕ, ◌+◌, ◌-◌, ◌<◌, ◌≤◌, Bool, true, false, ◌⊎◌, inl, inr, List, [], ◌∷◌, ◌++◌, length, take, drop, Ok, Err, refl, sym, ap, subst, ◌∙◌, length-drop, arith}
 use Rattle.std.proofs.lemmas.List.{take-append-drop}
 use Rattle.std.proofs.Math.Decide.{dec_le}
 use Rattle.pp_lexer.specs.declared.token.Token.{Token}
 use Rattle.pp_parser.specs.declared.refusal.Refusal.TheVariants as refusals
 use Rattle.pp_parser.specs.Input.{Input, Outcome, Parser}
-use Rattle.pp_parser.specs.Levels.{within}
-use Rattle.pp_parser.specs.Definitions.{main_manifest, module_file}
+use Rattle.pp_grammar.proofs.Reader.Levels.{within}
+use Rattle.pp_grammar.proofs.Reader.Definitions.{main_manifest, module_file}
 use Rattle.pp_parser.specs.Manifest.{start}
 use Rattle.pp_grammar.specs.Laws.{SameHead}
 use Rattle.pp_grammar.proofs.Local.Ahead.{Past, RefusedAt, DeepAt, LooksAtNext}
@@ -15,7 +15,7 @@ use Rattle.pp_grammar.proofs.Local.Levels.{within_local}
 use Rattle.pp_grammar.proofs.Local.Files.{main_manifest_local, module_file_local}
 
 abbrev cut : (r s : List Token) → SameHead r s → Bool → Cut
-cut r s same deeper = record { rest = r; other = s; same = same; deeper = deeper }
+cut r s same deeper = record { rest = r; other = s; same = same; deeper = λ _. deeper }
 
 alike_behind : (pre r s : List Token) → Alike r s (pre ++ r) (pre ++ s)
 alike_behind [] r s = at_it
@@ -25,15 +25,15 @@ both_at : (pre r s : List Token) (same : SameHead r s) (deeper : Bool) → Alike
 both_at pre r s same deeper = record { left = alike_behind pre r s; doubled = refl }
 
 -- where the two texts are one
-alike_same : {r ts us : List Token} → Alike r r ts us → ts ≡ us
+pub alike_same : {r ts us : List Token} → Alike r r ts us → ts ≡ us
 alike_same at_it = refl
 alike_same (before_it t h) = ap (λ ts. t ∷ ts) (alike_same h)
 
-alike_itself : (ts : List Token) → Alike [] [] ts ts
+pub alike_itself : (ts : List Token) → Alike [] [] ts ts
 alike_itself [] = at_it
 alike_itself (t ∷ ts) = before_it t (alike_itself ts)
 
-same_place : (i j : Input) → i.left ≡ j.left → i.doubled ≡ j.doubled → i ≡ j
+pub same_place : (i j : Input) → i.left ≡ j.left → i.doubled ≡ j.doubled → i ≡ j
 same_place i j e f = λ x. record { left = e x; doubled = f x }
 
 -- ---- outcomes
@@ -44,11 +44,11 @@ wrong c o other e h =
     let w : t.0 ≡ length c.other = omega arith in
     t.1 ∙ ap (λ k. Err (refusals.Wrong k)) w
 
-too_deep : {A : Type 0} (c : Cut) (o other : Outcome A) → o ≡ Err (refusals.Deep (length c.rest)) → Follows c o other → Deepens c.deeper (length c.other) other
+too_deep : {A : Type 0} (c : Cut) (o other : Outcome A) → o ≡ Err (refusals.Deep (length c.rest)) → Follows c o other → Deepens (c.deeper (length c.rest)) (length c.other) other
 too_deep c o other e h =
-    let t : (n : ℕ) × Deepens c.deeper n other × (n + length c.rest ≡ length c.rest + length c.other) = subst (λ (x : Outcome _). Follows c x other) e h (omega arith) in
+    let t : (n : ℕ) × Deepens (c.deeper (length c.rest)) n other × (n + length c.rest ≡ length c.rest + length c.other) = subst (λ (x : Outcome _). Follows c x other) e h (omega arith) in
     let w : t.0 ≡ length c.other = omega arith in
-    subst (λ (n : ℕ). Deepens c.deeper n other) w t.1
+    subst (λ (n : ℕ). Deepens (c.deeper (length c.rest)) n other) w t.1
 
 right : {A : Type 0} (same : SameHead [] []) (deeper : Bool) (o other : Outcome A) (x : A) (j : Input) → o ≡ Ok (x, j) → Follows (cut [] [] same deeper) o other → other ≡ Ok (x, j)
 right same deeper o other x j e h =
@@ -66,13 +66,13 @@ no_memory i o h e = subst (λ (x : Outcome _). Falls any i x) e h
 
 -- ---- a reader of files for each number of levels
 
-module _ {A : Type 0} (p : ℕ → Parser A) (each : (c : Cut) (n m : ℕ) → n ≤ m → (c.deeper ≡ true → n < m) → (c.deeper ≡ false → n ≡ m) → IsLocal c false any (p n) (p m)) where
+module _ {A : Type 0} (p : ℕ → Parser A) (each : (c : Cut) (n m : ℕ) → n ≤ m → ((k : ℕ) → c.deeper k ≡ true) × (n < m) ⊎ ((k : ℕ) → c.deeper k ≡ false) × (n ≡ m) → IsLocal c false any (p n) (p m)) where
   -- with equally many levels, and with more
   equally : (n : ℕ) (r s : List Token) (same : SameHead r s) → IsLocal (cut r s same false) false any (p n) (p n)
-  equally n r s same = each (cut r s same false) n n (omega arith) (λ d. cc) (λ d. refl)
+  equally n r s same = each (cut r s same false) n n (omega arith) (inr (λ k. refl, refl))
 
   with_more : (n m : ℕ) (r s : List Token) (same : SameHead r s) → n < m → IsLocal (cut r s same true) false any (p n) (p m)
-  with_more n m r s same h = each (cut r s same true) n m (omega arith) (λ d. h) (λ d. cc)
+  with_more n m r s same h = each (cut r s same true) n m (omega arith) (inl (λ k. refl, h))
 
   falls_at : (n : ℕ) (i : Input) → Falls any i (p n i)
   falls_at n i = (equally n [] [] refl).falls i
@@ -151,7 +151,7 @@ module _ {A : Type 0} (p : ℕ → Parser A) (each : (c : Cut) (n m : ℕ) → n
   }
 
 pub main_manifest_looks : LooksAtNext (λ n. main_manifest (within n))
-main_manifest_looks = looks_at_next (λ n. main_manifest (within n)) (λ c n m h more same. main_manifest_local (within_local c n m h more same))
+main_manifest_looks = looks_at_next (λ n. main_manifest (within n)) (λ c n m h way. main_manifest_local (within_local c n m h way))
 
 pub module_file_looks : LooksAtNext (λ n. module_file (within n))
-module_file_looks = looks_at_next (λ n. module_file (within n)) (λ c n m h more same. module_file_local (within_local c n m h more same))
+module_file_looks = looks_at_next (λ n. module_file (within n)) (λ c n m h way. module_file_local (within_local c n m h way))

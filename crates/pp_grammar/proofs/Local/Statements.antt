@@ -16,10 +16,10 @@ use Rattle.pp_tree.specs.Building.{body as body_of, words as words_of}
 use Rattle.pp_parser.specs.declared.argument.WordArgument.{WordArgument}
 use Rattle.pp_parser.specs.declared.argument.WordArgument.TheVariants as argument
 use Rattle.pp_parser.specs.Input.{Input, Parser, ◌>>=◌, ◌>>◌, pure, kind, eat}
-use Rattle.pp_parser.specs.Inner.{Inner}
+use Rattle.pp_grammar.proofs.Reader.Inner.{Inner}
 use Rattle.pp_parser.specs.Kinds.{is_name, begins_expression, ends_body}
-use Rattle.pp_parser.specs.Expressions.{loosest, is_at}
-use Rattle.pp_parser.specs.Statements.{Read, arrow_at, taken_name, assigns_by, assigns, setting_rule, splat_rule, attribute_by, attribute, attributes, body, resource, marked, compares_by, compares, comparison_rule, query_in_parentheses, test_by, test_rule, another_by, another, conjunction_rule, query, optional_query, settings_by, optional_settings, collector, expression_from, behind_name_by, behind_name, behind_type_by, behind_type, operand_by, operand_rule, link_by, link_rule, chain_from, defaults_rule, override_rule, reference_by, reference_rule, typed_by, typed, argument_from_by, argument_from, argument_rule, argument_then, words_from, words, function_by, function, statement_by, statement_rule, ends_block, statements_from, statements}
+use Rattle.pp_grammar.proofs.Reader.Expressions.{loosest, is_at}
+use Rattle.pp_grammar.proofs.Reader.Statements.{Read, arrow_at, taken_name, assigns_by, assigns, setting_rule, splat_rule, attribute_by, attribute, attributes, body, resource, marked, compares_by, compares, comparison_rule, query_in_parentheses, test_by, test_rule, another_by, another, conjunction_rule, query, optional_query, settings_by, optional_settings, collector, expression_from, behind_name_by, behind_name, behind_type_by, behind_type, operand_by, operand_rule, link_by, link_rule, chain_from, defaults_rule, override_rule, reference_by, reference_rule, typed_by, typed, argument_from_by, argument_from, argument_rule, argument_then, words_from, words, function_by, function, statement_by, statement_rule, ends_block, statements_from, statements}
 use Rattle.pp_grammar.proofs.Local.Steps.{Cut, IsLocal, Falls, any, one, if_given, if_true, bind_by, bind_local, first_local, loose_local, given_local, map_by, none_local, pure_by, pure_local, refuse_local, peek_local, here_local, if_local, take_local, expect_local, expect_any_local, eat_local, eat_falls}
 use Rattle.pp_grammar.proofs.Local.Lists.{same_then, same_if, turns_local, repeat_local, separated_local, separated_some_local}
 use Rattle.pp_grammar.proofs.Local.Inner.{InnerLocal, opening_local, whole_in_local, query_in_local}
@@ -97,19 +97,19 @@ module _ {c : Cut} {a b : Inner} (I : InnerLocal c a b) where
   unfolding assigns
   assigns_local may_append = peek_local (assigns_by_local may_append)
 
-  pub setting_rule_local : (may_append : Bool) → IsLocal c a.is_deepest any (setting_rule a may_append) (setting_rule b may_append)
+  pub setting_rule_local : (may_append : Bool) → IsLocal c I.deepest any (setting_rule a may_append) (setting_rule b may_append)
   unfolding setting_rule
   setting_rule_local may_append = bind_local (expect_any_local _) (λ _. bind_local (assigns_local may_append) (λ _. bind_local (whole_in_local I false) (λ _. pure_local _)))
 
-  pub splat_rule_local : IsLocal c a.is_deepest any (splat_rule a) (splat_rule b)
+  pub splat_rule_local : IsLocal c I.deepest any (splat_rule a) (splat_rule b)
   unfolding splat_rule
   splat_rule_local = bind_local (expect_local _) (λ _. bind_local (expect_local _) (λ _. bind_local (whole_in_local I false) (λ _. pure_local _)))
 
-  pub attribute_by_local : (may_append : Bool) (next : Option Kind) → IsLocal c a.is_deepest any (attribute_by a may_append next) (attribute_by b may_append next)
+  pub attribute_by_local : (may_append : Bool) (next : Option Kind) → IsLocal c I.deepest any (attribute_by a may_append next) (attribute_by b may_append next)
   attribute_by_local may_append (Some k.Star) = splat_rule_local
   attribute_by_local may_append _ = setting_rule_local may_append
 
-  pub attribute_local : (may_append : Bool) → IsLocal c a.is_deepest any (attribute a may_append) (attribute b may_append)
+  pub attribute_local : (may_append : Bool) → IsLocal c I.deepest any (attribute a may_append) (attribute b may_append)
   unfolding attribute
   attribute_local may_append = peek_local (attribute_by_local may_append)
 
@@ -119,7 +119,7 @@ module _ {c : Cut} {a b : Inner} (I : InnerLocal c a b) where
 
   -- ---- resources
 
-  pub body_local : IsLocal c a.is_deepest any (body a) (body b)
+  pub body_local : IsLocal c I.deepest any (body a) (body b)
   unfolding body
   body_local = here_local (λ at. bind_local (whole_in_local I false) (λ title. bind_local (expect_local k.Colon) (λ _. bind_local (separated_local ends_body k.Comma (attribute_local false)) (λ found. pure_local (body_of title found at)))))
 
@@ -174,7 +174,7 @@ module _ {c : Cut} {a b : Inner} (I : InnerLocal c a b) where
   unfolding query
   query_local = first_local conjunction_rule_local (λ _. bind_local (repeat_local (another_local k.Or conjunction_rule_local)) (λ _. pure_local _))
 
-  pub optional_query_local : (close : Kind) → IsLocal c a.is_deepest any (optional_query a close) (optional_query b close)
+  pub optional_query_local : (close : Kind) → IsLocal c I.deepest any (optional_query a close) (optional_query b close)
   unfolding optional_query
   optional_query_local close = peek_local (λ next. if_local (is_at close next) (pure_local None) (bind_local (query_in_local I) (λ x. pure_local (Some x))))
 
@@ -292,7 +292,7 @@ module _ {c : Cut} {a b : Inner} (I : InnerLocal c a b) where
   pub words_local : {d : Bool} (name : Name) → IsLocal c d waiting (words a name) (words b name)
   unfolding words
   words_local name = map_by waiting (λ (found : List Expr × Option Name). (statement.Words (words_of name.text found.0 name.at), found.1)) (λ x. omega arith)
-      (turns_local (λ n. words_from_local n []) (λ n m i. words_turns a (argument_rule_local {d = a.is_deepest}).falls n m [] i) (λ n m i. words_turns b (argument_rule_local {d = a.is_deepest}).falls_too n m [] i))
+      (turns_local (λ n. words_from_local n []) (λ n m i. words_turns a (argument_rule_local {d = I.deepest}).falls n m [] i) (λ n m i. words_turns b (argument_rule_local {d = I.deepest}).falls_too n m [] i))
 
   pub function_by_local : {d : Bool} (name : Name) (next : Option Kind) → IsLocal c d waiting (function_by a name next) (function_by b name next)
   function_by_local name (Some k.OpenParen) = bind_local (behind_name_local name) (chain_from_local name.at)
@@ -323,5 +323,5 @@ module _ {c : Cut} {a b : Inner} (I : InnerLocal c a b) where
   pub statements_local : {d : Bool} → IsLocal c d any (statements a) (statements b)
   unfolding statements
   statements_local = turns_local (λ n. statements_from_local n [] None)
-      (λ n m i h l. statements_turns a (λ pending. (statement_rule_local {d = a.is_deepest} pending).falls) n m [] None i (omega arith) (omega arith))
-      (λ n m i h l. statements_turns b (λ pending. (statement_rule_local {d = a.is_deepest} pending).falls_too) n m [] None i (omega arith) (omega arith))
+      (λ n m i h l. statements_turns a (λ pending. (statement_rule_local {d = I.deepest} pending).falls) n m [] None i (omega arith) (omega arith))
+      (λ n m i h l. statements_turns b (λ pending. (statement_rule_local {d = I.deepest} pending).falls_too) n m [] None i (omega arith) (omega arith))

@@ -13,13 +13,13 @@ use Rattle.pp_parser.specs.Keys.{earlier_line, doubled_key, noting}
 use Rattle.pp_tree.specs.declared.expr.Expr.{Expr}
 use Rattle.pp_tree.specs.declared.expr.Pair.{Pair}
 
--- A place, what may stand from it on in two texts, which begin alike there, and whether the second reader may open more levels,
--- or equally many.
+-- A place, what may stand from it on in two texts, which begin alike there, and whether the second reader may open a level with
+-- the token from which so many are left, whatever the first one may, or the same as the first one.
 pub record Cut : Type 0 where
   pub rest : List Token
   pub other : List Token
   pub same : SameHead rest other
-  pub deeper : Bool
+  pub deeper : ℕ → Bool
 
 -- the same tokens up to the place
 pub data Alike (rest other : List Token) : List Token → List Token → Type 0 where
@@ -48,7 +48,7 @@ Deepens false n o = o ≡ Err (refusals.Deep n)
 abbrev pub Follows : {A : Type 0} → Cut → Outcome A → Outcome A → Type 0
 Follows c (Ok p) o = length c.rest ≤ length p.1.left → (j : Input) × (o ≡ Ok (p.0, j)) × AlikeAt c p.1 j
 Follows c (Err (refusals.Wrong k)) o = length c.rest ≤ k → (n : ℕ) × (o ≡ Err (refusals.Wrong n)) × (n + length c.rest ≡ k + length c.other)
-Follows c (Err (refusals.Deep k)) o = length c.rest ≤ k → (n : ℕ) × Deepens c.deeper n o × (n + length c.rest ≡ k + length c.other)
+Follows c (Err (refusals.Deep k)) o = length c.rest ≤ k → (n : ℕ) × Deepens (c.deeper k) n o × (n + length c.rest ≡ k + length c.other)
 Follows c (Err refusals.Memory) o = ⊥
 
 -- Two readers of one rule, of which the second may open more levels. Where no level is left to the first one, nothing has to be
@@ -175,7 +175,7 @@ pub joined : {A B : Type 0} (c : Cut) (o other : Outcome A) (f g : A → Parser 
     → Follows c (and_then o f) (and_then other g)
 joined c (Ok p) other f g cost more h falls too next = joined_ok c p.0 p.1 other f g cost h falls next (dec_le (length c.rest) (length p.1.left))
 joined c (Err (refusals.Wrong k)) other f g cost more h falls too next = λ m. let t = h m in (t.0, ap (λ (o : Outcome _). and_then o g) t.1, t.2)
-joined c (Err (refusals.Deep k)) other f g cost more h falls too next = λ m. let t = h m in (t.0, deepens_then more c.deeper t.0 other g t.1 too, t.2)
+joined c (Err (refusals.Deep k)) other f g cost more h falls too next = λ m. let t = h m in (t.0, deepens_then more (c.deeper k) t.0 other g t.1 too, t.2)
 joined c (Err refusals.Memory) other f g cost more h falls too next = h
 
 -- a reader and what follows it, which take as many tokens together as each of them takes
@@ -380,20 +380,31 @@ one_deepest : {A : Type 0} (deeper : Bool) (n : ℕ) (o : Outcome A) → (deeper
 one_deepest true n o h past = past
 one_deepest false n o h past = let w = h refl in absurd cc
 
-opened_follows : {A : Type 0} (c : Cut) (k : Kind) (b x y : Bool) (i j : Input) (f g : Token → Parser A) → b ≡ is_kind k (kind j) → (x ≡ false → y ≡ false) → (c.deeper ≡ true → y ≡ false) → (c.deeper ≡ false → x ≡ y)
-    → ((t : Token) → IsLocal c x any (f t) (g t)) → AlikeAt c i j → Follows c (and_then (opened b x i) f) (and_then (opened b y j) g)
-opened_follows c k true true true i j f g e opens deeper equal F h = λ m. let w = same_length c i j h in (length j.left, both_deepest _ c.deeper (length j.left) deeper, omega arith)
-opened_follows c k true true false i j f g e opens deeper equal F h = λ m. let w = same_length c i j h in (length j.left, one_deepest c.deeper (length j.left) (and_then (take j) g) equal (past_take k j g (sym e) (λ t. (F t).falls_too)), omega arith)
-opened_follows c k true false true i j f g e opens deeper equal F h = let w = opens refl in cc
-opened_follows c k true false false i j f g e opens deeper equal F h = joined c (take i) (take j) f g any any (take_follows c i j h) (λ t. (F t).falls) (λ t. (F t).falls_too) (λ t. (F t).follows refl)
-opened_follows c k false x y i j f g e opens deeper equal F h = refuse_follows c i j h
+opened_follows : {A : Type 0} (c : Cut) (k : Kind) (deepest b x y : Bool) (i j : Input) (f g : Token → Parser A) → b ≡ is_kind k (kind j) → (deepest ≡ true → x ≡ true) → (x ≡ false → y ≡ false)
+    → (c.deeper (length i.left) ≡ true → y ≡ false) → (c.deeper (length i.left) ≡ false → x ≡ y) → ((t : Token) → IsLocal c deepest any (f t) (g t)) → AlikeAt c i j → Follows c (and_then (opened b x i) f) (and_then (opened b y j) g)
+opened_follows c k d true true true i j f g e shut opens deeper equal F h = λ m. let w = same_length c i j h in (length j.left, both_deepest _ (c.deeper (length i.left)) (length j.left) deeper, omega arith)
+opened_follows c k d true true false i j f g e shut opens deeper equal F h =
+    λ m. let w = same_length c i j h in (length j.left, one_deepest (c.deeper (length i.left)) (length j.left) (and_then (take j) g) equal (past_take k j g (sym e) (λ t. (F t).falls_too)), omega arith)
+opened_follows c k d true false true i j f g e shut opens deeper equal F h = let w = opens refl in cc
+opened_follows c k true true false false i j f g e shut opens deeper equal F h = let w = shut refl in cc
+opened_follows c k false true false false i j f g e shut opens deeper equal F h = joined c (take i) (take j) f g any any (take_follows c i j h) (λ t. (F t).falls) (λ t. (F t).falls_too) (λ t. (F t).follows refl)
+opened_follows c k d false x y i j f g e shut opens deeper equal F h = refuse_follows c i j h
+
+-- What two readers may open: the second one whatever the first one may, and more or the same, as the place says. Where the
+-- first one may open nothing at all, it is deepest.
+pub record Opening (c : Cut) (deepest : Bool) (x y : Input → Bool) : Type 0 where
+  pub shut : deepest ≡ true → (i : Input) → x i ≡ true
+  pub opens : (i j : Input) → AlikeAt c i j → x i ≡ false → y j ≡ false
+  pub deeper : (i j : Input) → AlikeAt c i j → c.deeper (length i.left) ≡ true → y j ≡ false
+  pub equal : (i j : Input) → AlikeAt c i j → c.deeper (length i.left) ≡ false → x i ≡ y j
 
 -- a token that opens a level, and what stands further in, of which something is known where the first reader may open a level
-pub open_local : {A : Type 0} {c : Cut} {deepest x y : Bool} {f g : Token → Parser A} (k : Kind) → (x ≡ false → y ≡ false) → (c.deeper ≡ true → y ≡ false) → (c.deeper ≡ false → x ≡ y)
-    → ((t : Token) → IsLocal c x any (f t) (g t)) → IsLocal c deepest one (open_level x k >>= f) (open_level y k >>= g)
+pub open_local : {A : Type 0} {c : Cut} {deepest inner : Bool} {x y : Input → Bool} {f g : Token → Parser A} (k : Kind) → Opening c inner x y
+    → ((t : Token) → IsLocal c inner any (f t) (g t)) → IsLocal c deepest one ((λ i. open_level (x i) k i) >>= f) ((λ i. open_level (y i) k i) >>= g)
 unfolding open_level sees
-open_local {c = c} {x = x} {y = y} {f = f} {g = g} k opens deeper equal F = record {
-  falls = λ i. falls_then one 1 any one i (opened (is_kind k (kind i)) x i) f (opened_falls (is_kind k (kind i)) x i) (λ t. omega arith) (λ t. omega arith) (λ t. (F t).falls);
-  falls_too = λ i. falls_then one 1 any one i (opened (is_kind k (kind i)) y i) g (opened_falls (is_kind k (kind i)) y i) (λ t. omega arith) (λ t. omega arith) (λ t. (F t).falls_too);
-  follows = λ s i j h. subst (λ (n : Option Kind). Follows c (and_then (opened (is_kind k n) x i) f) (and_then (opened (is_kind k (kind j)) y j) g)) (sym (same_kind c i j h)) (opened_follows c k (is_kind k (kind j)) x y i j f g refl opens deeper equal F h);
+open_local {c = c} {inner = inner} {x = x} {y = y} {f = f} {g = g} k O F = record {
+  falls = λ i. falls_then one 1 any one i (opened (is_kind k (kind i)) (x i) i) f (opened_falls (is_kind k (kind i)) (x i) i) (λ t. omega arith) (λ t. omega arith) (λ t. (F t).falls);
+  falls_too = λ i. falls_then one 1 any one i (opened (is_kind k (kind i)) (y i) i) g (opened_falls (is_kind k (kind i)) (y i) i) (λ t. omega arith) (λ t. omega arith) (λ t. (F t).falls_too);
+  follows = λ s i j h. subst (λ (n : Option Kind). Follows c (and_then (opened (is_kind k n) (x i) i) f) (and_then (opened (is_kind k (kind j)) (y j) j) g)) (sym (same_kind c i j h))
+      (opened_follows c k inner (is_kind k (kind j)) (x i) (y j) i j f g refl (λ d. O.shut d i) (O.opens i j h) (O.deeper i j h) (O.equal i j h) F h);
 }

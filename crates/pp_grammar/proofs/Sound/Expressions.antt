@@ -17,12 +17,12 @@ use Rattle.pp_tree.specs.declared.operators.PrefixOperator.TheVariants as prefix
 use Rattle.pp_tree.specs.Building.{expr_at, line_of, form_of, param as param_of, operation as operation_of}
 use Rattle.pp_parser.specs.declared.started.Started.{Started}
 use Rattle.pp_parser.specs.Input.{Input, Parser, kind, kind_at, line_at, pure, refuse, ◌<$>◌}
-use Rattle.pp_parser.specs.Inner.{Inner}
+use Rattle.pp_grammar.proofs.Reader.Inner.{Inner}
 use Rattle.pp_parser.specs.Keys.{noting}
 use Rattle.pp_parser.specs.Kinds.{is_kind, same_kind, is_name, is_bar}
 use Rattle.pp_tree.specs.Layers.{FormLayer}
 use Rattle.pp_parser.specs.Params.{is_simple, param_by_form, param_from}
-use Rattle.pp_parser.specs.Expressions as rule
+use Rattle.pp_grammar.proofs.Reader.Expressions as rule
 use Rattle.pp_grammar.specs.Places.{Phrase, Within, Opens, Stands, Many, SeparatedSome, Maybe, before}
 use Rattle.pp_grammar.specs.Expressions.{begins_lambda, begins_piece, begins_postfix, is_variable, is_bracket, follows_variable, prefix_at, InnerParam, InnerOption, IsBlock, AreArguments, OptionalArguments, IsLambda, IsCallOrName, IsPiece, IsFirstRun, IsQuoted, IsCondition, IsElsif, IsElse, IsPair, IsPrimary, IsPostfix, IsValue, IsOperand, IsBinary, AreOperations, IsWhole, IsNameThere, IsValueThere, IsBinaryThere, IsInterpolated, IsDefault, AsParam, IsParam, IsCaseOption}
 use Rattle.pp_grammar.specs.Expressions.{Inner as WholeIn}

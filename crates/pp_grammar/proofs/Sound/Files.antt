@@ -12,12 +12,12 @@ use Rattle.pp_tree.specs.Building.{node_name as node_name_at}
 use Rattle.pp_parser.specs.declared.item.Item.{Item}
 use Rattle.pp_parser.specs.declared.item.Item.TheVariants as item
 use Rattle.pp_parser.specs.Input.{Input, kind, line_at, turns, pure, eat}
-use Rattle.pp_parser.specs.Inner.{Inner}
+use Rattle.pp_grammar.proofs.Reader.Inner.{Inner}
 use Rattle.pp_parser.specs.Kinds.{is_kind, same_kind, is_name}
-use Rattle.pp_parser.specs.Statements.{Read, name_of, names_resource}
+use Rattle.pp_grammar.proofs.Reader.Statements.{Read, name_of, names_resource}
 use Rattle.pp_parser.specs.declared.found.Found.{Found}
-use Rattle.pp_parser.specs.Definitions.{nothing_yet, with_statement, with_definition, node_name}
-use Rattle.pp_parser.specs.Definitions as rule
+use Rattle.pp_grammar.proofs.Reader.Definitions.{nothing_yet, with_statement, with_definition, node_name}
+use Rattle.pp_grammar.proofs.Reader.Definitions as rule
 use Rattle.pp_grammar.specs.Places.{Within, Stands, Maybe}
 use Rattle.pp_grammar.specs.Expressions.{InnerParam}
 use Rattle.pp_grammar.specs.Statements.{IsResource, IsStatement, IsEnd}

@@ -1,12 +1,12 @@
 -- What is asked of the readers one level further in.
-use Rattle.std.proofs.Common.{◌≡◌, Bool, Ok}
+use Rattle.std.proofs.Common.{◌≡◌, Bool, Ok, ap}
 use Rattle.pp_lexer.specs.declared.kind.Kind.{Kind}
 use Rattle.pp_parser.specs.declared.goal.Goal.{Goal}
 use Rattle.pp_parser.specs.declared.goal.Goal.TheVariants as goal
 use Rattle.pp_parser.specs.declared.goal.Part.{Part}
 use Rattle.pp_parser.specs.declared.goal.Part.TheVariants as part
 use Rattle.pp_parser.specs.Input.{Input}
-use Rattle.pp_parser.specs.Inner.{Inner, opening, expr_of, param_of, block_of, case_option_of, query_of, whole_in, operand_in, interpolated_in, param_in, statements_in, case_option_in, query_in}
+use Rattle.pp_grammar.proofs.Reader.Inner.{Inner, opening, expr_of, param_of, block_of, case_option_of, query_of, whole_in, operand_in, interpolated_in, param_in, statements_in, case_option_in, query_in}
 use Rattle.pp_grammar.specs.Places.{Within, Opens}
 use Rattle.pp_grammar.proofs.Sound.Steps.{Meets, Sound, met, bind, done, refused, open_sound}
 
@@ -17,7 +17,7 @@ pub record IsSound (inner : Inner) (N : Within) : Type 0 where
 
 module _ (inner : Inner) (N : Within) (s : IsSound inner N) where
   pub opening_sound : (x : Kind) → Sound (opening inner x) (λ i t j. Opens N x i t j)
-  opening_sound x = open_sound N inner.is_deepest s.deepest x
+  opening_sound x i = open_sound N x i (inner.is_deepest i) (ap (λ (d : Input → Bool). d i) s.deepest)
 
   part_sound : (g : Goal) (i : Input) → Meets (inner.read g i) (N.reads g i)
   part_sound g i = met (λ p j e. s.reads g i j p e)

@@ -4,12 +4,12 @@ use Rattle.pp_parser.specs.declared.goal.Goal.{Goal}
 use Rattle.pp_parser.specs.declared.goal.Goal.TheVariants as goal
 use Rattle.pp_parser.specs.declared.goal.Part.{Part}
 use Rattle.pp_parser.specs.Input.{Input, Outcome, Parser}
-use Rattle.pp_parser.specs.Inner.{Inner}
+use Rattle.pp_grammar.proofs.Reader.Inner.{Inner}
 use Rattle.pp_parser.specs.declared.found.Found.{Found}
-use Rattle.pp_parser.specs.Definitions.{main_manifest, module_file}
-use Rattle.pp_parser.specs.Levels.{part_by, within}
+use Rattle.pp_grammar.proofs.Reader.Definitions.{main_manifest, module_file}
+use Rattle.pp_grammar.proofs.Reader.Levels.{part_by, within_to}
 use Rattle.pp_grammar.specs.Places.{Within}
-use Rattle.pp_grammar.specs.Files.{IsMain, IsModule, IsPart, Levels}
+use Rattle.pp_grammar.specs.Files.{IsMain, IsModule, IsPart, LevelsTo}
 use Rattle.pp_grammar.proofs.Sound.Steps.{Sound, bind, done, reads}
 use Rattle.pp_grammar.proofs.Sound.Inner.{IsSound}
 use Rattle.pp_grammar.proofs.Sound.Expressions.{whole_sound, operand_sound, interpolated_sound, param_sound, case_option_sound}
@@ -29,13 +29,9 @@ part_sound inner N s once goal.CaseOption i = bind (case_option_sound inner N s 
 part_sound inner N s once goal.Query i = bind (query_sound inner N s i) λ x j h. done h
 
 -- where no level may be opened, nothing is read and nothing stands
-pub deepest_sound : IsSound (within zero) (Levels zero)
-unfolding within Levels
-deepest_sound = record { deepest = refl; reads = λ g i j p e. absurd cc }
-
-pub level_sound : (n : ℕ) → EndsOnce (Levels n) → IsSound (within n) (Levels n) → IsSound (within (suc n)) (Levels (suc n))
-unfolding within Levels
-level_sound n once s = record { deepest = refl; reads = λ g i j p e. reads (part_sound (within n) (Levels n) s once g) i j p e }
+deepest_sound : (behind : ℕ) → IsSound (within_to behind zero zero) (LevelsTo behind zero zero)
+unfolding within_to LevelsTo
+deepest_sound behind = record { deepest = refl; reads = λ g i j p e. absurd cc }
 
 place_of : Input → Outcome Part → Input
 place_of d (Ok x) = x.1
@@ -46,20 +42,19 @@ pub ends_once : (read : Goal → Parser Part) (N : Within) → ((g : Goal) (i j 
 unfolding place_of
 ends_once read N gives = record { ends = λ g i j l p q a b. ap (place_of j) (sym (gives g i j p a) ∙ gives g i l q b) }
 
--- The induction on levels, beside that of a property from which it follows that what stands further in ends once. Completeness is one.
-pub sound_beside : (C : ℕ → Type 0) → C zero → ((n : ℕ) → IsSound (within n) (Levels n) → C n → C (suc n)) → ((n : ℕ) → C n → EndsOnce (Levels n))
-    → (n : ℕ) → IsSound (within n) (Levels n) × C n
-sound_beside C first step once zero = (deepest_sound, first)
-sound_beside C first step once (suc n) = let below = sound_beside C first step once n in (level_sound n (once n below.1) below.0, step n below.0 below.1)
-
-pub within_sound : ((n : ℕ) → EndsOnce (Levels n)) → (n : ℕ) → IsSound (within n) (Levels n)
-within_sound once n = (sound_beside (λ m. Unit {0}) tt (λ m s c. tt) (λ m c. once m) n).0
+pub within_sound : (behind : ℕ) → ((levels more : ℕ) → EndsOnce (LevelsTo behind levels more)) → (levels more : ℕ) → IsSound (within_to behind levels more) (LevelsTo behind levels more)
+unfolding within_to LevelsTo
+within_sound behind once zero zero = deepest_sound behind
+within_sound behind once zero (suc more) =
+    record { deepest = refl; reads = λ g i j p e. reads (part_sound (within_to behind zero more) (LevelsTo behind zero more) (within_sound behind once zero more) (once zero more) g) i j p e }
+within_sound behind once (suc levels) more =
+    record { deepest = refl; reads = λ g i j p e. reads (part_sound (within_to behind levels more) (LevelsTo behind levels more) (within_sound behind once levels more) (once levels more) g) i j p e }
 
 -- What is read of a main manifest and of a module file, stands there.
-pub main_sound : (n : ℕ) → IsSound (within n) (Levels n) → EndsOnce (Levels n)
-    → (i j : Input) (found : Found) → main_manifest (within n) i ≡ Ok (found, j) → IsMain (Levels n) i found.statements found.definitions j
-main_sound n s once i j found e = (main_manifest_sound (within n) (Levels n) s once i).holds found j e
+pub main_sound : (inner : Inner) (N : Within) → IsSound inner N → EndsOnce N
+    → (i j : Input) (found : Found) → main_manifest inner i ≡ Ok (found, j) → IsMain N i found.statements found.definitions j
+main_sound inner N s once i j found e = (main_manifest_sound inner N s once i).holds found j e
 
-pub module_sound : (n : ℕ) → IsSound (within n) (Levels n)
-    → (i j : Input) (found : Found) → module_file (within n) i ≡ Ok (found, j) → (found.statements ≡ []) × IsModule (Levels n) i found.definitions j
-module_sound n s i j found e = (module_file_sound (within n) (Levels n) s i).holds found j e
+pub module_sound : (inner : Inner) (N : Within) → IsSound inner N
+    → (i j : Input) (found : Found) → module_file inner i ≡ Ok (found, j) → (found.statements ≡ []) × IsModule N i found.definitions j
+module_sound inner N s i j found e = (module_file_sound inner N s i).holds found j e

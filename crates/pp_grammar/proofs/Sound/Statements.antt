@@ -20,11 +20,11 @@ use Rattle.pp_tree.specs.Building.{expr_at, chain as chain_of, words as words_of
 use Rattle.pp_parser.specs.declared.argument.WordArgument.{WordArgument}
 use Rattle.pp_parser.specs.declared.argument.WordArgument.TheVariants as word_argument
 use Rattle.pp_parser.specs.Input.{Input, kind, kind_at, line_at, turns, pure, eat}
-use Rattle.pp_parser.specs.Inner.{Inner}
+use Rattle.pp_grammar.proofs.Reader.Inner.{Inner}
 use Rattle.pp_parser.specs.Kinds.{is_kind, same_kind, is_name, begins_expression}
-use Rattle.pp_parser.specs.Expressions.{loosest, started, chain}
-use Rattle.pp_parser.specs.Statements.{Read, name_of, names_resource, arrow_at}
-use Rattle.pp_parser.specs.Statements as rule
+use Rattle.pp_grammar.proofs.Reader.Expressions.{loosest, started, chain}
+use Rattle.pp_grammar.proofs.Reader.Statements.{Read, name_of, names_resource, arrow_at}
+use Rattle.pp_grammar.proofs.Reader.Statements as rule
 use Rattle.pp_grammar.specs.Places.{Within, Stands, Maybe, Begins}
 use Rattle.pp_grammar.specs.Expressions.{begins_postfix, IsCallOrName, IsPrimary, IsWhole}
 use Rattle.pp_grammar.specs.Statements.{opens_collector, calls_or_declares, is_arrow, marks, IsReference, IsResource, IsExpressionOperand, IsOperand, IsLink, IsChain, BeginsArgument, AreWords, BeginsAlone, IsStatement, IsEnd, AreStatements}

@@ -114,9 +114,9 @@ pub eat_sound : (x : Kind) → Sound (eat x) (Eaten x)
 unfolding eat sees
 eat_sound x i = either (λ h. bind (take_sound (is_kind x) i h) λ t j st. done (eaten i j t st)) (λ h. done (other i h))
 
-pub open_sound : (N : Within) (deepest : Bool) → deepest ≡ N.is_deepest → (x : Kind) → Sound (open_level deepest x) (λ i t j. Opens N x i t j)
+pub open_sound : (N : Within) (x : Kind) (i : Input) (deepest : Bool) → deepest ≡ N.is_deepest i → Meets (open_level deepest x i) (λ t j. Opens N x i t j)
 unfolding open_level sees
-open_sound N deepest e x i = either (λ h. either (λ _. refused) (λ d. weaker (take_sound (is_kind x) i h) (λ t j st. record { token = st; room = sym e ∙ d }))) (λ _. refused)
+open_sound N x i deepest e = either (λ h. either (λ _. refused) (λ d. weaker (take_sound (is_kind x) i h) (λ t j st. record { token = st; room = sym e ∙ d }))) (λ _. refused)
 
 -- ---- what stands where
 

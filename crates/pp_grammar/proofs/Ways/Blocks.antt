@@ -9,10 +9,10 @@ use Rattle.pp_tree.specs.Building.{chain as chain_of}
 use Rattle.pp_tree.specs.declared.resource.ResourceForm.TheVariants as resource_form
 use Rattle.pp_tree.specs.declared.definition.Name.{Name}
 use Rattle.pp_parser.specs.Input.{Input, Outcome, Parser, and_then, ◌>>=◌, ◌>>◌, pure, kind, take, eat, sees, turns, repeat}
-use Rattle.pp_parser.specs.Inner.{Inner}
+use Rattle.pp_grammar.proofs.Reader.Inner.{Inner}
 use Rattle.pp_parser.specs.Kinds.{is_kind, same_kind}
-use Rattle.pp_parser.specs.Levels.{within}
-use Rattle.pp_parser.specs.Statements.{Read, resource, behind_name_by, behind_name, link_rule, chain_from, statement_rule, ends_block, statements_from, statements}
+use Rattle.pp_grammar.proofs.Reader.Levels.{within}
+use Rattle.pp_grammar.proofs.Reader.Statements.{Read, resource, behind_name_by, behind_name, link_rule, chain_from, statement_rule, ends_block, statements_from, statements}
 use Rattle.pp_grammar.specs.Places.{Within}
 use Rattle.pp_grammar.proofs.Sound.Steps.{Meets, bind, done, met, weaker, is_kind_is}
 use Rattle.pp_grammar.proofs.Sound.Inner.{IsSound}

@@ -4,9 +4,9 @@ use Rattle.pp_lexer.specs.declared.kind.Kind.{Kind}
 use Rattle.pp_lexer.specs.declared.kind.Kind.TheVariants as k
 use Rattle.pp_lexer.specs.declared.token.Token.{Token}
 use Rattle.pp_parser.specs.Input.{Input, Parser, and_then, ◌>>=◌, pure, refuse, peek, take, kind}
-use Rattle.pp_parser.specs.Inner.{Inner}
+use Rattle.pp_grammar.proofs.Reader.Inner.{Inner}
 use Rattle.pp_parser.specs.Kinds.{is_kind, same_kind, is_name, is_bar}
-use Rattle.pp_parser.specs.Levels.{within}
+use Rattle.pp_grammar.proofs.Reader.Levels.{within}
 use Rattle.pp_tree.specs.Layers.{FormLayer}
 use Rattle.pp_parser.specs.Params.{is_simple, param_by_form, param_from}
 use Rattle.pp_parser.specs.declared.started.Started.{Started}
@@ -21,7 +21,7 @@ use Rattle.pp_tree.specs.declared.expr.Lambda.{Lambda}
 use Rattle.pp_tree.specs.declared.param.Param.{Param}
 use Rattle.pp_tree.specs.declared.statement.Statement.{Statement}
 use Rattle.pp_tree.specs.Building.{expr_at, form_of, case_option as option_of_case}
-use Rattle.pp_parser.specs.Expressions.{block, arguments, arguments_by, optional_arguments, access, list, pair_rule, hash, parentheses, lambda_from, lambda_by, optional_lambda, call_or_name_by, call_or_name, named, interpolation, piece_by, piece_rule, text_by, text_after, quoted_by, quoted, otherwise_by, otherwise, condition, elsif_by, elsif_rule, if_rule, unless_rule, case_options_by, case_options, case_rule, primary_by, primary, method, selector, postfix_by, postfix_rule, postfixes, value, prefixed, operand_by, operand, operation_by, operation_rule, operator_at, binary_operator, chain, loosest, started, assigned_by, assigned, whole_by, whole, variable_or_call_by, variable_or_call, begun_by_name, interpolated, default_by, default_rule, typed_param, param_by, param_rule, case_option}
+use Rattle.pp_grammar.proofs.Reader.Expressions.{block, arguments, arguments_by, optional_arguments, access, list, pair_rule, hash, parentheses, lambda_from, lambda_by, optional_lambda, call_or_name_by, call_or_name, named, interpolation, piece_by, piece_rule, text_by, text_after, quoted_by, quoted, otherwise_by, otherwise, condition, elsif_by, elsif_rule, if_rule, unless_rule, case_options_by, case_options, case_rule, primary_by, primary, method, selector, postfix_by, postfix_rule, postfixes, value, prefixed, operand_by, operand, operation_by, operation_rule, operator_at, binary_operator, chain, loosest, started, assigned_by, assigned, whole_by, whole, variable_or_call_by, variable_or_call, begun_by_name, interpolated, default_by, default_rule, typed_param, param_by, param_rule, case_option}
 use Rattle.pp_grammar.proofs.Local.Steps.{loose_local}
 use Rattle.pp_grammar.proofs.Local.Inner.{whole_in_local, param_in_local}
 use Rattle.pp_grammar.proofs.Local.Expressions.{pair_rule_local, piece_rule_local, elsif_rule_local, case_options_local, postfix_rule_local, operation_rule_local, chain_local, whole_local}

@@ -4,15 +4,15 @@ use Rattle.pp_lexer.specs.declared.kind.Kind.{Kind}
 use Rattle.pp_lexer.specs.declared.kind.Kind.TheVariants as k
 use Rattle.pp_parser.specs.Input.{Parser, ◌>>=◌, ◌>>◌, pure, peek, take, expect, separated_some}
 use Rattle.pp_parser.specs.Kinds.{is_kind, same_kind, is_word}
-use Rattle.pp_parser.specs.Levels.{within}
+use Rattle.pp_grammar.proofs.Reader.Levels.{within}
 use Rattle.pp_parser.specs.Params.{param_from}
 use Rattle.pp_parser.specs.declared.started.Started.{Started}
 use Rattle.pp_tree.specs.declared.expr.Expr.{Expr}
 use Rattle.pp_tree.specs.declared.expr.Form.TheVariants as form
 use Rattle.pp_tree.specs.Building.{expr_at, case_option as option_of_case}
-use Rattle.pp_parser.specs.Expressions.{block, call_or_name_by, call_or_name, named, primary_by, primary, postfix_by, postfix_rule, postfixes, value, operand_by, operand, operation_by, operation_rule, operator_at, chain, loosest, started, whole_by, whole, variable_or_call_by, interpolated, default_by, default_rule, typed_param, param_by, param_rule, case_option}
-use Rattle.pp_parser.specs.Statements.{compares_by, compares, comparison_rule, test_by, test_rule, another_by, another, conjunction_rule, query, statement_rule, statements}
-use Rattle.pp_parser.specs.Inner.{statements_in}
+use Rattle.pp_grammar.proofs.Reader.Expressions.{block, call_or_name_by, call_or_name, named, primary_by, primary, postfix_by, postfix_rule, postfixes, value, operand_by, operand, operation_by, operation_rule, operator_at, chain, loosest, started, whole_by, whole, variable_or_call_by, interpolated, default_by, default_rule, typed_param, param_by, param_rule, case_option}
+use Rattle.pp_grammar.proofs.Reader.Statements.{compares_by, compares, comparison_rule, test_by, test_rule, another_by, another, conjunction_rule, query, statement_rule, statements}
+use Rattle.pp_grammar.proofs.Reader.Inner.{statements_in}
 use Rattle.pp_grammar.proofs.Local.Steps.{loose_local}
 use Rattle.pp_grammar.proofs.Local.Expressions.{postfix_rule_local, operation_rule_local, chain_local, whole_local}
 use Rattle.pp_grammar.proofs.Local.Statements.{test_local, another_local, conjunction_rule_local}

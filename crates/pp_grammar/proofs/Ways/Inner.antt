@@ -3,14 +3,14 @@ use Rattle.std.proofs.Common.{◌≡◌, ℕ, Bool, true, false, not, [], Option
 use Rattle.pp_lexer.specs.declared.kind.Kind.{Kind}
 use Rattle.pp_lexer.specs.declared.kind.Kind.TheVariants as k
 use Rattle.pp_parser.specs.Input.{Input, Parser, ◌>>=◌, ◌>>◌, pure, expect, separated}
-use Rattle.pp_parser.specs.Inner.{whole_in, operand_in, interpolated_in, param_in, statements_in, case_option_in, query_in}
+use Rattle.pp_grammar.proofs.Reader.Inner.{whole_in, operand_in, interpolated_in, param_in, statements_in, case_option_in, query_in}
 use Rattle.pp_parser.specs.Kinds.{is_kind}
-use Rattle.pp_parser.specs.Levels.{within}
+use Rattle.pp_grammar.proofs.Reader.Levels.{within}
 use Rattle.pp_tree.specs.declared.expr.Expr.{Expr}
 use Rattle.pp_grammar.proofs.Sound.Steps.{is_kind_is}
 use Rattle.pp_grammar.proofs.Local.Steps.{Cut, Falls, any}
 use Rattle.pp_grammar.proofs.Local.Inner.{InnerLocal}
-use Rattle.pp_grammar.proofs.Local.Levels.{within_local}
+use Rattle.pp_grammar.proofs.Local.Levels.{nowhere, itself}
 use Rattle.pp_grammar.proofs.Ways.Steps.{Rule, everything}
 use Rattle.pp_grammar.proofs.Ways.Lists.{always, separated_goes}
 
@@ -64,12 +64,8 @@ pub record InnerGoes (n : ℕ) : Type 0 where
   pub query : Rule n (Some k.Name) (always ends_query) (query_in (within n)) (λ m. query_in (within m))
 
 -- a reader of some level takes as many tokens as ever
-pub nowhere : Cut
-nowhere = record { rest = []; other = []; same = refl; deeper = false }
-
 pub here_too : (m : ℕ) → InnerLocal nowhere (within m) (within m)
-unfolding nowhere
-here_too m = within_local nowhere m m (omega arith) (λ e. absurd cc) (λ e. refl)
+here_too m = itself 0 m 0
 
 pub of_kind : (x : Kind) (F : Option Kind → Bool) → F (Some x) ≡ true → (next : Option Kind) → is_kind x next ≡ true → F next ≡ true
 unfolding is_kind

@@ -13,11 +13,11 @@ use Rattle.pp_tree.specs.declared.definition.Name.{Name}
 use Rattle.pp_tree.specs.Building.{expr_at, chain as chain_of, words as words_of}
 use Rattle.pp_parser.specs.declared.argument.WordArgument.TheVariants as argument
 use Rattle.pp_parser.specs.Input.{Input, Outcome, Parser, and_then, ◌>>=◌, pure, kind, kind_at, peek, eat, turns}
-use Rattle.pp_parser.specs.Inner.{Inner}
+use Rattle.pp_grammar.proofs.Reader.Inner.{Inner}
 use Rattle.pp_parser.specs.Kinds.{is_kind, same_kind, is_name, begins_expression}
-use Rattle.pp_parser.specs.Levels.{within}
-use Rattle.pp_parser.specs.Expressions.{call_or_name_by, call_or_name, chain, loosest, started, whole}
-use Rattle.pp_parser.specs.Statements.{Read, taken_name, resource, expression_from, behind_name_by, behind_name, behind_type, chain_from, defaults_rule, override_rule, reference_by, reference_rule, typed_by, typed, argument_from_by, argument_from, argument_rule, argument_then, words_from, words, function_by, function, statement_by, statement_rule}
+use Rattle.pp_grammar.proofs.Reader.Levels.{within}
+use Rattle.pp_grammar.proofs.Reader.Expressions.{call_or_name_by, call_or_name, chain, loosest, started, whole}
+use Rattle.pp_grammar.proofs.Reader.Statements.{Read, taken_name, resource, expression_from, behind_name_by, behind_name, behind_type, chain_from, defaults_rule, override_rule, reference_by, reference_rule, typed_by, typed, argument_from_by, argument_from, argument_rule, argument_then, words_from, words, function_by, function, statement_by, statement_rule}
 use Rattle.pp_grammar.proofs.Local.Steps.{Falls, any, one, if_true, falls_then, eat_falls, bind_local}
 use Rattle.pp_grammar.proofs.Local.Lists.{same_then, same_if}
 use Rattle.pp_grammar.proofs.Local.Expressions.{call_or_name_local, begun_chain_local}

@@ -7,8 +7,8 @@ use Rattle.pp_lexer.specs.declared.kind.Kind.TheVariants as k
 use Rattle.pp_lexer.specs.declared.token.Token.{Token}
 use Rattle.pp_parser.specs.declared.refusal.Refusal.TheVariants as refusals
 use Rattle.pp_parser.specs.Input.{Input, Outcome, Parser, and_then, ◌>>=◌, ◌<$>◌, pure, kind_at, kind, line_at, peek, here, refuse, taken, take, sees, expect, expect_any, eat, open_level}
-use Rattle.pp_parser.specs.Inner.{Inner, opening}
-use Rattle.pp_parser.specs.Levels.{within}
+use Rattle.pp_grammar.proofs.Reader.Inner.{Inner, opening}
+use Rattle.pp_grammar.proofs.Reader.Levels.{within_to, within}
 use Rattle.pp_parser.specs.Kinds.{is_kind}
 use Rattle.pp_parser.specs.Keys.{earlier_line, doubled_key, noting}
 use Rattle.pp_tree.specs.declared.expr.Expr.{Expr}
@@ -571,16 +571,16 @@ from_goes n E i (Err refusals.Memory) q q2 same K = tt
 pub from_holds : {A : Type 0} {n c : ℕ} {E : A → Option Kind → Bool} {p : Parser A} {q q2 : ℕ → Parser A} → ((m : ℕ) (i : Input) → n ≤ m → q2 m i ≡ q m i) → Holds n c E p q → Holds n c E p q2
 from_holds {n = n} {E = E} {p = p} {q = q} {q2 = q2} same H = record { falls = H.falls; goes = λ i. from_goes n E i (p i) q q2 same (H.goes i) }
 
-abbrev opens : Bool → Parser Token
-opens is_deepest = λ i. if is_deepest then Err (refusals.Deep (length i.left)) else take i
+abbrev opens : (Input → Bool) → Parser Token
+opens is_deepest = λ i. if is_deepest i then Err (refusals.Deep (length i.left)) else take i
 
 opens_more : (m : ℕ) (i : Input) → 1 ≤ m → opens (within m).is_deepest i ≡ take i
-unfolding within
+unfolding within_to
 opens_more zero i h = absurd (omega arith)
 opens_more (suc m) i h = refl
 
 opens_holds : {E : Token → Option Kind → Bool} (n : ℕ) → Holds n 1 E (opens (within n).is_deepest) (λ m. opens (within m).is_deepest)
-unfolding within
+unfolding within_to
 opens_holds zero = record { falls = λ i. omega arith; goes = λ i. tt }
 opens_holds (suc n) = from_holds (λ m i h. opens_more m i (omega arith)) take_holds
 

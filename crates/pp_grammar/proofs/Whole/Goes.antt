@@ -1,113 +1,98 @@
--- Where a text is refused some file goes on, and so a text is refused at one place alone.
-use Rattle.std.proofs.Common.{◌≡◌, ℕ, ◌+◌, ◌<◌, Bool, true, false, List, [], ◌∷◌, ◌++◌, length, take, Ok, Err, refl, sym, ap, subst, ◌∙◌, arith}
+-- Where a text is refused, or passes the limit of levels, some file goes on that keeps the limit up to there.
+use Rattle.std.proofs.Common.{◌≡◌, ℕ, ◌+◌, ◌<◌, ◌≤◌, Bool, true, false, List, [], ◌∷◌, ◌++◌, length, Ok, Err, refl, sym, ap, subst, ◌∙◌, arith}
 use Rattle.std.proofs.lemmas.List.{length-append}
 use Rattle.std.specs.Str.{bytes_eq}
 use Rattle.pp_lexer.specs.declared.token.Token.{Token}
 use Rattle.pp_parser.specs.declared.refusal.Refusal.TheVariants as refusals
-use Rattle.pp_parser.specs.Input.{Outcome}
+use Rattle.pp_parser.specs.Input.{Input, Outcome}
 use Rattle.pp_parser.specs.declared.found.Found.{Found}
 use Rattle.pp_parser.specs.Manifest.{main_path, start}
-use Rattle.pp_grammar.specs.Laws.{first_token, SameHead, IsFile, GoesOn, IsRefused}
-use Rattle.pp_grammar.proofs.Local.Ahead.{Past}
+use Rattle.pp_grammar.specs.Laws.{max_levels, everywhere, up_to, first_token, SameHead, GoesOn}
+use Rattle.pp_grammar.proofs.Local.Ahead.{Past, DeepAt}
 use Rattle.pp_grammar.proofs.Ways.Ahead as ahead
 use Rattle.pp_grammar.proofs.Ways.Laws.{main_manifest_goes_on, module_file_goes_on}
+use Rattle.pp_grammar.proofs.Whole.Cuts.{same_front, nothing_behind, grouped, Cuts, cuts}
+use Rattle.pp_grammar.proofs.Whole.Limits.{none_past_zero, settled}
 use Rattle.pp_grammar.proofs.Whole.Reads.{reader_by, reader, looks_at_next, file_stands}
 
-way_by : (main : Bool) (n : ℕ) (ts : List Token) (k : ℕ) → reader_by main n (start ts) ≡ Err (refusals.Wrong k) → ahead.GoesOn (reader_by main) n ts k
+way_by : (main : Bool) (n : ℕ) (ts : List Token) (k : ℕ) → reader_by main (everywhere n) (start ts) ≡ Err (refusals.Wrong k) → ahead.GoesOn (λ m. reader_by main (everywhere m)) n ts k
 way_by true = main_manifest_goes_on
 way_by false = module_file_goes_on
 
--- ---- a text is cut at a place in one way
-
-take_front : (front rest : List Token) → take (length front) (front ++ rest) ≡ front
-take_front [] rest = refl
-take_front (t ∷ front) rest = ap (λ (ts : List Token). t ∷ ts) (take_front front rest)
-
-same_front : (a b c d : List Token) → a ++ b ≡ c ++ d → length b ≡ length d → a ≡ c
-same_front a b c d e l =
-    let n : length a ≡ length c = omega (arith, ap (λ (ts : List Token). length ts) e, length-append a b, length-append c d) in
-    sym (take_front a b) ∙ ap (λ (ts : List Token). take (length a) ts) e ∙ ap (λ (m : ℕ). take m (c ++ d)) n ∙ take_front c d
-
-nothing_behind : (a b : List Token) → length b ≡ 0 → a ++ b ≡ a
-nothing_behind [] [] e = refl
-nothing_behind [] (u ∷ b) e = absurd (omega arith)
-nothing_behind (t ∷ a) b e = ap (λ (ts : List Token). t ∷ ts) (nothing_behind a b e)
+-- A file begins with the first tokens and goes on with the next ones, and is read with so many levels, or more.
+record Going (path : List ℕ) (front next : List Token) : Type 0 where
+  way : List Token
+  enough : ℕ
+  found : Found
+  end : Input
+  reads : (n : ℕ) → enough ≤ n → reader path (everywhere n) (start (front ++ (next ++ way))) ≡ Ok (found, end)
 
 module _ (path : List ℕ) where
-  by_way : (n : ℕ) (ts : List Token) (k : ℕ) (front rest : List Token) → ts ≡ front ++ rest → length rest ≡ k → ahead.GoesOn (reader path) n ts k → GoesOn path front
+  -- ---- with many levels
+
+  by_way : (n : ℕ) (ts : List Token) (k : ℕ) (front rest : List Token) → ts ≡ front ++ rest → length rest ≡ k → ahead.GoesOn (λ m. reader path (everywhere m)) n ts k → Going path front []
   by_way n ts k front rest is count g =
       let same : g.before ≡ front = same_front g.before g.behind front rest (sym g.is ∙ is) (g.count ∙ sym count) in
-      subst (λ (f : List Token). GoesOn path f) same
-      (record { levels = g.enough; way = g.way; found = g.found; key = g.end.doubled; stands = file_stands g.enough path (g.before ++ g.way) g.found g.end (g.reads g.enough (omega arith)) })
+      record { way = g.way; enough = g.enough; found = g.found; end = g.end; reads = λ m h. ap (λ (f : List Token). reader path (everywhere m) (start (f ++ g.way))) (sym same) ∙ g.reads m h }
 
   -- before a refused token
-  pub goes_on : (n : ℕ) (ts : List Token) (k : ℕ) (front rest : List Token) → ts ≡ front ++ rest → length rest ≡ k → reader path n (start ts) ≡ Err (refusals.Wrong k) → GoesOn path front
-  goes_on n ts k front rest is count e = by_way n ts k front rest is count (way_by (bytes_eq path main_path) n ts k e)
-
-  none_past_end : (o : Outcome Found) → Past 0 o → ⊥
-  none_past_end (Ok p) h = omega arith
-  none_past_end (Err (refusals.Wrong n)) h = omega arith
-  none_past_end (Err (refusals.Deep n)) h = omega arith
-  none_past_end (Err refusals.Memory) h = h
+  going : (n : ℕ) (ts : List Token) (k : ℕ) (front rest : List Token) → ts ≡ front ++ rest → length rest ≡ k → reader path (everywhere n) (start ts) ≡ Err (refusals.Wrong k) → Going path front []
+  going n ts k front rest is count e = by_way n ts k front rest is count (way_by (bytes_eq path main_path) n ts k e)
 
   empty : (ts : List Token) → length ts ≡ 0 → [] ≡ ts
   empty [] e = refl
   empty (t ∷ ts) e = absurd (omega arith)
 
   -- at the end no level is opened
-  pub never_deep_at_end : (n : ℕ) (ts : List Token) → reader path n (start ts) ≡ Err (refusals.Deep 0) → ⊥
+  pub never_deep_at_end : (n : ℕ) (ts : List Token) → reader path (everywhere n) (start ts) ≡ Err (refusals.Deep 0) → ⊥
   never_deep_at_end n ts e =
       let d = (looks_at_next path).deep n ts 0 e in
-      none_past_end (reader path (n + 1) (start (d.before ++ []))) (d.goes_on [] (n + 1) (ap first_token (sym (empty d.behind d.count))) (omega arith))
+      none_past_zero (reader path (everywhere (n + 1)) (start (d.before ++ []))) (d.goes_on [] (n + 1) (ap first_token (sym (empty d.behind d.count))) (omega arith))
 
-  to_end : (n : ℕ) (ts : List Token) (o : Outcome Found) → reader path n (start ts) ≡ o → Past 1 o → GoesOn path ts
-  to_end n ts (Ok p) e h =
-      record { levels = n; way = []; found = p.0; key = p.1.doubled; stands = subst (λ (us : List Token). IsFile n path us p.0 p.1.doubled) (sym (nothing_behind ts [] refl)) (file_stands n path ts p.0 p.1 e) }
-  to_end n ts (Err (refusals.Wrong k)) e h = goes_on n ts k ts [] (sym (nothing_behind ts [] refl)) (omega arith) e
-  to_end n ts (Err (refusals.Deep k)) e h = let z : k ≡ 0 = omega arith in absurd (never_deep_at_end n ts (e ∙ ap (λ (m : ℕ). Err (refusals.Deep m)) z))
-  to_end n ts (Err refusals.Memory) e h = absurd h
+  going_on : (front : List Token) (t : Token) → Going path (front ++ t ∷ []) [] → Going path front (t ∷ [])
+  going_on front t g =
+      record { way = g.way; enough = g.enough; found = g.found; end = g.end; reads = λ n h. ap (λ (ts : List Token). reader path (everywhere n) (start ts)) (sym (grouped front (t ∷ []) g.way)) ∙ g.reads n h }
 
-  -- with more levels some file goes on with the token that opens one too many
-  pub goes_deeper : (n : ℕ) (front rest : List Token) (t : Token) → ((other : List Token) (more : ℕ) → SameHead (t ∷ rest) other → n < more → Past (length other) (reader path more (start (front ++ other)))) → GoesOn path (front ++ t ∷ [])
-  goes_deeper n front rest t past = to_end (n + 1) (front ++ t ∷ []) (reader path (n + 1) (start (front ++ t ∷ []))) refl (past (t ∷ []) (n + 1) refl (omega arith))
+  to_end : (n : ℕ) (front : List Token) (t : Token) (o : Outcome Found) → reader path (everywhere n) (start (front ++ t ∷ [])) ≡ o → Past 1 o → Going path front (t ∷ [])
+  to_end n front t (Ok p) e h = record { way = []; enough = n; found = p.0; end = p.1; reads = λ m more. (looks_at_next path).read n m (front ++ t ∷ []) p.0 p.1 more e }
+  to_end n front t (Err (refusals.Wrong k)) e h = going_on front t (going n (front ++ t ∷ []) k (front ++ t ∷ []) [] (sym (nothing_behind (front ++ t ∷ []) [] refl)) (omega arith) e)
+  to_end n front t (Err (refusals.Deep k)) e h = let z : k ≡ 0 = omega arith in absurd (never_deep_at_end n (front ++ t ∷ []) (e ∙ ap (λ (m : ℕ). Err (refusals.Deep m)) z))
+  to_end n front t (Err refusals.Memory) e h = absurd h
 
--- ---- one place alone
+  -- ---- within the limit up to the place
 
-grouped : (a b c : List Token) → (a ++ b) ++ c ≡ a ++ (b ++ c)
-grouped [] b c = refl
-grouped (t ∷ a) b c = ap (λ (ts : List Token). t ∷ ts) (grouped a b c)
+  kept : (front next : List Token) (g : Going path front next)
+      → ((k : ℕ) → reader path (everywhere max_levels) (start (front ++ (next ++ g.way))) ≡ Err (refusals.Deep k) → k ≤ length (next ++ g.way)) → GoesOn path front next
+  kept front next g late =
+      let s = settled path (front ++ (next ++ g.way)) (length (next ++ g.way)) g.enough g.found g.end g.reads late in
+      record { way = g.way; further = s.0; found = s.1; key = s.2.doubled; stands = file_stands (up_to (next ++ g.way) s.0) path (front ++ (next ++ g.way)) s.1 s.2 s.3 }
 
--- the shorter of two beginnings of a text is the beginning of the other
-data Cuts (a b c d : List Token) : Type 0 where
-  same : a ≡ c → b ≡ d → Cuts a b c d
-  sooner : (t : Token) (e : List Token) → c ≡ a ++ t ∷ e → b ≡ t ∷ (e ++ d) → Cuts a b c d
-  later : (t : Token) (e : List Token) → a ≡ c ++ t ∷ e → d ≡ t ∷ (e ++ b) → Cuts a b c d
+  module _ (front rest : List Token) (k : ℕ) (e : reader path (everywhere max_levels) (start (front ++ rest)) ≡ Err (refusals.Wrong k)) where
+    -- a text that begins with the tokens before the place passes no limit there
+    late_by : (way : List Token) (n : ℕ) (d : DeepAt (λ m. reader path (everywhere m)) max_levels (front ++ way) n) → Cuts front way d.before d.behind → n ≤ length way
+    late_by way n d (Cuts.same a b) = omega (arith, ap (λ (ts : List Token). length ts) b, d.count)
+    late_by way n d (Cuts.sooner t c a b) = omega (arith, ap (λ (ts : List Token). length ts) b, d.count, length-append c d.behind)
+    late_by way n d (Cuts.later t c a b) =
+        let deep = d.stays (t ∷ (c ++ rest)) (ap first_token b) in
+        let same : front ++ rest ≡ d.before ++ t ∷ (c ++ rest) = ap (λ (ts : List Token). ts ++ rest) a ∙ grouped d.before (t ∷ c) rest in
+        let wrong = subst (λ (ts : List Token). reader path (everywhere max_levels) (start ts) ≡ Err (refusals.Wrong k)) same e in
+        absurd cc
 
-behind_one : (t u : Token) (a b c d : List Token) → t ≡ u → Cuts a b c d → Cuts (t ∷ a) b (u ∷ c) d
-behind_one t u a b c d e (same f g) = same (λ x. e x ∷ f x) g
-behind_one t u a b c d e (sooner w r f g) = sooner w r (λ x. sym e x ∷ f x) g
-behind_one t u a b c d e (later w r f g) = later w r (λ x. e x ∷ f x) g
+    late : (way : List Token) (n : ℕ) → reader path (everywhere max_levels) (start (front ++ way)) ≡ Err (refusals.Deep n) → n ≤ length way
+    late way n h = let d = (looks_at_next path).deep max_levels (front ++ way) n h in late_by way n d (cuts front way d.before d.behind d.is)
 
-cuts : (a b c d : List Token) → a ++ b ≡ c ++ d → Cuts a b c d
-cuts [] b [] d e = same refl e
-cuts [] b (u ∷ c) d e = sooner u c refl e
-cuts (t ∷ a) b [] d e = later t a refl (sym e)
-cuts (t ∷ a) b (u ∷ c) d e =
-    let first : t ≡ u = cc in
-    let rest : a ++ b ≡ c ++ d = cc in
-    behind_one t u a b c d first (cuts a b c d rest)
+  -- before a refused token
+  pub goes_on : (ts : List Token) (k : ℕ) (front rest : List Token) → ts ≡ front ++ rest → length rest ≡ k → reader path (everywhere max_levels) (start ts) ≡ Err (refusals.Wrong k) → GoesOn path front []
+  goes_on ts k front rest is count e =
+      let g = going max_levels ts k front rest is count e in
+      kept front [] g (late front rest k (subst (λ (us : List Token). reader path (everywhere max_levels) (start us) ≡ Err (refusals.Wrong k)) is e) g.way)
 
-too_soon : (path : List ℕ) (a b c d : List Token) (t : Token) (e : List Token) → IsRefused path a b → IsRefused path c d → c ≡ a ++ t ∷ e → b ≡ t ∷ (e ++ d) → ⊥
-too_soon path a b c d t e r s f g =
-    let way = s.some_goes_on in
-    r.none_goes_on (t ∷ (e ++ way.way)) way.levels way.found way.key (ap first_token g)
-    (subst (λ (ts : List Token). IsFile way.levels path ts way.found way.key) (ap (λ (ts : List Token). ts ++ way.way) f ∙ grouped a (t ∷ e) way.way) way.stands)
+  same_deep : (a b : ℕ) (o : Outcome Found) → o ≡ Err (refusals.Deep a) → o ≡ Err (refusals.Deep b) → b ≤ a
+  same_deep a b o e f = let w : a ≡ b = cc in omega arith
 
-one_by : (path : List ℕ) (a b c d : List Token) → IsRefused path a b → IsRefused path c d → Cuts a b c d → (a ≡ c) × (b ≡ d)
-one_by path a b c d r s (same f g) = (f, g)
-one_by path a b c d r s (sooner t e f g) = absurd (too_soon path a b c d t e r s f g)
-one_by path a b c d r s (later t e f g) = absurd (too_soon path c d a b t e s r f g)
-
--- a text leaves the grammar at one place at most
-pub one_place : (path : List ℕ) (front rest other behind : List Token) → front ++ rest ≡ other ++ behind → IsRefused path front rest → IsRefused path other behind → (front ≡ other) × (rest ≡ behind)
-one_place path front rest other behind e r s = one_by path front rest other behind r s (cuts front rest other behind e)
+  -- with the token that opens one level too many
+  pub goes_deeper : (front rest : List Token) (t : Token) → ((other : List Token) → SameHead (t ∷ rest) other → reader path (everywhere max_levels) (start (front ++ other)) ≡ Err (refusals.Deep (length other)))
+      → ((other : List Token) (more : ℕ) → SameHead (t ∷ rest) other → max_levels < more → Past (length other) (reader path (everywhere more) (start (front ++ other)))) → GoesOn path front (t ∷ [])
+  goes_deeper front rest t stays past =
+      let g = to_end (max_levels + 1) front t (reader path (everywhere (max_levels + 1)) (start (front ++ t ∷ []))) refl (past (t ∷ []) (max_levels + 1) refl (omega arith)) in
+      kept front (t ∷ []) g (λ k e. same_deep (length (t ∷ g.way)) k (reader path (everywhere max_levels) (start (front ++ t ∷ g.way))) (stays (t ∷ g.way) refl) e)

@@ -7,33 +7,34 @@ use Rattle.pp_tree.specs.declared.statement.Statement.{Statement}
 use Rattle.pp_tree.specs.declared.definition.Definition.{Definition}
 use Rattle.pp_parser.specs.Input.{Input, Parser, kind, kind_at}
 use Rattle.pp_parser.specs.declared.found.Found.{Found}
-use Rattle.pp_parser.specs.Definitions.{main_manifest, module_file}
-use Rattle.pp_parser.specs.Levels.{within, max_levels}
-use Rattle.pp_parser.specs.Manifest.{main_path, start, read_file}
+use Rattle.pp_grammar.proofs.Reader.Definitions.{main_manifest, module_file}
+use Rattle.pp_grammar.proofs.Reader.Inner.{Inner}
+use Rattle.pp_grammar.proofs.Reader.Levels.{within_to}
+use Rattle.pp_parser.specs.Manifest.{main_path, start}
 use Rattle.pp_grammar.specs.Places.{Within}
-use Rattle.pp_grammar.specs.Files.{IsMain, IsModule, Levels}
-use Rattle.pp_grammar.specs.Laws.{the_end, only_definitions, IsFile}
+use Rattle.pp_grammar.specs.Files.{IsMain, IsModule}
+use Rattle.pp_grammar.specs.Laws.{the_end, only_definitions, Limit, everywhere, within_limit, IsFile}
 use Rattle.pp_grammar.proofs.Joined.{main_exactly, module_stands, module_read}
 use Rattle.pp_grammar.proofs.Local.Ahead.{LooksAtNext}
 use Rattle.pp_grammar.proofs.Local.Laws.{main_manifest_looks, module_file_looks}
 
+-- the readers one level further in
+abbrev pub inner_of : Limit → Inner
+inner_of l = within_to l.behind l.levels l.further
+
 -- the reader of the main manifest, or of a module file
-abbrev pub reader_by : Bool → ℕ → Parser Found
-reader_by main n = λ i. if main then main_manifest (within n) i else module_file (within n) i
+abbrev pub reader_by : Bool → Limit → Parser Found
+reader_by main l = λ i. if main then main_manifest (inner_of l) i else module_file (inner_of l) i
 
 -- what reads the file at this path
-abbrev pub reader : List ℕ → ℕ → Parser Found
+abbrev pub reader : List ℕ → Limit → Parser Found
 reader path = reader_by (bytes_eq path main_path)
 
-pub reads_by_reader : (path : List ℕ) (ts : List Token) → read_file path (start ts) ≡ reader path max_levels (start ts)
-unfolding read_file
-reads_by_reader path ts = refl
-
-looks_by : (main : Bool) → LooksAtNext (reader_by main)
+looks_by : (main : Bool) → LooksAtNext (λ n. reader_by main (everywhere n))
 looks_by true = main_manifest_looks
 looks_by false = module_file_looks
 
-pub looks_at_next : (path : List ℕ) → LooksAtNext (reader path)
+pub looks_at_next : (path : List ℕ) → LooksAtNext (λ n. reader path (everywhere n))
 looks_at_next path = looks_by (bytes_eq path main_path)
 
 -- ---- a file stands up to its end
@@ -64,30 +65,30 @@ only found e = λ x. record { statements = e x; definitions = found.definitions 
 
 -- ---- both ways
 
-main_file : (n : ℕ) (path : List ℕ) (ts : List Token) (found : Found) (j : Input) → path ≡ main_path → IsMain (Levels n) (start ts) found.statements found.definitions j → IsFile n path ts found j.doubled
-main_file n path ts found j at h =
-    IsFile.main_manifest found j.doubled at (subst (λ (k : Input). IsMain (Levels n) (start ts) found.statements found.definitions k) (is_end j (main_ends h)) h)
+main_file : (l : Limit) (path : List ℕ) (ts : List Token) (found : Found) (j : Input) → path ≡ main_path → IsMain (within_limit l) (start ts) found.statements found.definitions j → IsFile l path ts found j.doubled
+main_file l path ts found j at h =
+    IsFile.main_manifest found j.doubled at (subst (λ (k : Input). IsMain (within_limit l) (start ts) found.statements found.definitions k) (is_end j (main_ends h)) h)
 
-module_alone : (n : ℕ) (path : List ℕ) (ts : List Token) (found : Found) (j : Input) → path ≢ main_path → (found.statements ≡ []) × IsModule (Levels n) (start ts) found.definitions j → IsFile n path ts found j.doubled
-module_alone n path ts found j away h =
-    subst (λ (f : Found). IsFile n path ts f j.doubled) (sym (only found h.0))
-    (IsFile.module_file found.definitions j.doubled away (subst (λ (k : Input). IsModule (Levels n) (start ts) found.definitions k) (is_end j (module_ends h.1)) h.1))
+module_alone : (l : Limit) (path : List ℕ) (ts : List Token) (found : Found) (j : Input) → path ≢ main_path → (found.statements ≡ []) × IsModule (within_limit l) (start ts) found.definitions j → IsFile l path ts found j.doubled
+module_alone l path ts found j away h =
+    subst (λ (f : Found). IsFile l path ts f j.doubled) (sym (only found h.0))
+    (IsFile.module_file found.definitions j.doubled away (subst (λ (k : Input). IsModule (within_limit l) (start ts) found.definitions k) (is_end j (module_ends h.1)) h.1))
 
-stands_by : (n : ℕ) (path : List ℕ) (ts : List Token) (found : Found) (j : Input) (main : Bool) → bytes_eq path main_path ≡ main → reader_by main n (start ts) ≡ Ok (found, j) → IsFile n path ts found j.doubled
-stands_by n path ts found j true b e = main_file n path ts found j ((bytes_eq-Decides path main_path).0 b) ((main_exactly n (start ts) j found).0 e)
-stands_by n path ts found j false b e = module_alone n path ts found j (λ at. let yes = (bytes_eq-Decides path main_path).1 at in absurd cc) (module_stands n (start ts) j found e)
+stands_by : (l : Limit) (path : List ℕ) (ts : List Token) (found : Found) (j : Input) (main : Bool) → bytes_eq path main_path ≡ main → reader_by main l (start ts) ≡ Ok (found, j) → IsFile l path ts found j.doubled
+stands_by l path ts found j true b e = main_file l path ts found j ((bytes_eq-Decides path main_path).0 b) ((main_exactly l.behind l.levels l.further (start ts) j found).0 e)
+stands_by l path ts found j false b e = module_alone l path ts found j (λ at. let yes = (bytes_eq-Decides path main_path).1 at in absurd cc) (module_stands l.behind l.levels l.further (start ts) j found e)
 
 -- what is read of a file stands there
-pub file_stands : (n : ℕ) (path : List ℕ) (ts : List Token) (found : Found) (j : Input) → reader path n (start ts) ≡ Ok (found, j) → IsFile n path ts found j.doubled
-file_stands n path ts found j = stands_by n path ts found j (bytes_eq path main_path) refl
+pub file_stands : (l : Limit) (path : List ℕ) (ts : List Token) (found : Found) (j : Input) → reader path l (start ts) ≡ Ok (found, j) → IsFile l path ts found j.doubled
+file_stands l path ts found j = stands_by l path ts found j (bytes_eq path main_path) refl
 
 away_by : (path : List ℕ) (main : Bool) → bytes_eq path main_path ≡ main → path ≢ main_path → main ≡ false
 away_by path true b away = absurd (away ((bytes_eq-Decides path main_path).0 b))
 away_by path false b away = refl
 
 -- what stands in a file is read
-pub file_read : {n : ℕ} {path : List ℕ} {ts : List Token} {found : Found} {key : Option ℕ} → IsFile n path ts found key → reader path n (start ts) ≡ Ok (found, the_end key)
-file_read {n} {path} {ts} (IsFile.main_manifest found key at h) =
-    ap (λ (b : Bool). reader_by b n (start ts)) ((bytes_eq-Decides path main_path).1 at) ∙ (main_exactly n (start ts) (the_end key) found).1 h
-file_read {n} {path} {ts} (IsFile.module_file ds key away h) =
-    ap (λ (b : Bool). reader_by b n (start ts)) (away_by path (bytes_eq path main_path) refl away) ∙ module_read n (start ts) (the_end key) ds h
+pub file_read : {l : Limit} {path : List ℕ} {ts : List Token} {found : Found} {key : Option ℕ} → IsFile l path ts found key → reader path l (start ts) ≡ Ok (found, the_end key)
+file_read {l} {path} {ts} (IsFile.main_manifest found key at h) =
+    ap (λ (b : Bool). reader_by b l (start ts)) ((bytes_eq-Decides path main_path).1 at) ∙ (main_exactly l.behind l.levels l.further (start ts) (the_end key) found).1 h
+file_read {l} {path} {ts} (IsFile.module_file ds key away h) =
+    ap (λ (b : Bool). reader_by b l (start ts)) (away_by path (bytes_eq path main_path) refl away) ∙ module_read l.behind l.levels l.further (start ts) (the_end key) ds h

@@ -12,10 +12,10 @@ use Rattle.pp_parser.specs.declared.refusal.Refusal.TheVariants as refusals
 use Rattle.pp_parser.specs.Input.{Input, Outcome}
 use Rattle.pp_parser.specs.Keys.{earlier_line}
 use Rattle.pp_parser.specs.declared.found.Found.{Found}
-use Rattle.pp_parser.specs.Levels.{max_levels}
 use Rattle.pp_parser.specs.Manifest.{start, doubled_name, without_doubles, file_with, file_from, file_of}
-use Rattle.pp_grammar.specs.Laws.{the_end, IsFile, IsTree}
-use Rattle.pp_grammar.proofs.Whole.Reads.{reader, reads_by_reader, file_stands, file_read}
+use Rattle.pp_grammar.specs.Laws.{the_end, max_levels, Limit, everywhere, IsFile, IsTree}
+use Rattle.pp_grammar.proofs.Whole.Reads.{reader, file_stands, file_read}
+use Rattle.pp_grammar.proofs.Whole.Parser.{reads_by_reader}
 
 same_found : (a b : Found) (i j : Input) (o : Outcome Found) → o ≡ Ok (a, i) → o ≡ Ok (b, j) → (a ≡ b) × (i ≡ j)
 same_found a b i j o e f =
@@ -23,9 +23,9 @@ same_found a b i j o e f =
     (ap (λ (p : Found × Input). p.0) both, ap (λ (p : Found × Input). p.1) both)
 
 -- tokens have one tree at most
-pub one_tree : (levels : ℕ) (path : List ℕ) (ts : List Token) (one other : Found) (d e : Option ℕ) → IsFile levels path ts one d → IsFile levels path ts other e → (one ≡ other) × (d ≡ e)
-one_tree levels path ts one other d e a b =
-    let same = same_found one other (the_end d) (the_end e) (reader path levels (start ts)) (file_read a) (file_read b) in
+pub one_tree : (limit : Limit) (path : List ℕ) (ts : List Token) (one other : Found) (d e : Option ℕ) → IsFile limit path ts one d → IsFile limit path ts other e → (one ≡ other) × (d ≡ e)
+one_tree limit path ts one other d e a b =
+    let same = same_found one other (the_end d) (the_end e) (reader path limit (start ts)) (file_read a) (file_read b) in
     (same.0, ap (λ (i : Input). i.doubled) same.1)
 
 -- ---- where nothing stands twice
@@ -50,27 +50,27 @@ module _ (path : List ℕ) (found : Found) where
   tree_by key file h = file_by key (table_of found.definitions) (earlier_line key (doubled_name (table_of found.definitions))) file refl h
 
 module _ (path text : List ℕ) where
-  is_tree_by : (o : Outcome Found) (file : File) → reader path max_levels (start (tokens text)) ≡ o → file_from path (end_line text) (tokens text) o ≡ Ok file → IsTree path text file
+  is_tree_by : (o : Outcome Found) (file : File) → reader path (everywhere max_levels) (start (tokens text)) ≡ o → file_from path (end_line text) (tokens text) o ≡ Ok file → IsTree path text file
   is_tree_by (Ok p) file is h =
       let t = tree_by path p.0 p.1.doubled file h in
-      let f = file_stands max_levels path (tokens text) p.0 p.1 is in
+      let f = file_stands (everywhere max_levels) path (tokens text) p.0 p.1 is in
       let same : p.0 ≡ record { statements = file.statements; definitions = p.0.definitions } = λ x. record { statements = t.1 x; definitions = p.0.definitions } in
       record {
         definitions = p.0.definitions;
-        stands = subst (λ (k : Option ℕ). IsFile max_levels path (tokens text) (record { statements = file.statements; definitions = p.0.definitions }) k) t.0 (subst (λ (g : Found). IsFile max_levels path (tokens text) g p.1.doubled) same f);
+        stands = subst (λ (k : Option ℕ). IsFile (everywhere max_levels) path (tokens text) (record { statements = file.statements; definitions = p.0.definitions }) k) t.0 (subst (λ (g : Found). IsFile (everywhere max_levels) path (tokens text) g p.1.doubled) same f);
         table = t.2;
       }
   is_tree_by (Err (refusals.Wrong k)) file is h = absurd cc
   is_tree_by (Err (refusals.Deep k)) file is h = absurd cc
   is_tree_by (Err refusals.Memory) file is h = absurd cc
 
-  pub file_of_by : file_of path text ≡ file_from path (end_line text) (tokens text) (reader path max_levels (start (tokens text)))
+  pub file_of_by : file_of path text ≡ file_from path (end_line text) (tokens text) (reader path (everywhere max_levels) (start (tokens text)))
   unfolding file_of
   file_of_by = ap (λ (o : Outcome Found). file_from path (end_line text) (tokens text) o) (reads_by_reader path (tokens text))
 
   -- the tree that is read is one
   pub is_tree : (file : File) → file_of path text ≡ Ok file → IsTree path text file
-  is_tree file h = is_tree_by (reader path max_levels (start (tokens text))) file refl (sym file_of_by ∙ h)
+  is_tree file h = is_tree_by (reader path (everywhere max_levels) (start (tokens text))) file refl (sym file_of_by ∙ h)
 
   by_table : (statements : List Statement) (definitions : List Definition) (entries : Entries) → table_of definitions ≡ Ok entries → file_with path (record { statements = statements; definitions = definitions }) None ≡ Ok (record { statements = statements; definitions = entries })
   unfolding file_with earlier_line

@@ -1,6 +1,6 @@
 use Rattle.pp_grammar.proofs.Whole.Trees.{is_tree, tree_read, one_tree}
-use Rattle.pp_grammar.proofs.Whole.Faults.{is_fault, no_tree}
-use Rattle.pp_grammar.proofs.Whole.Goes.{one_place}
+use Rattle.pp_grammar.proofs.Whole.Faults.{is_fault, no_tree, one_fault}
+use Rattle.pp_grammar.proofs.Whole.Places.{one_place}
 use Rattle.pp_grammar.proofs.laws.reads_the_grammar.Goals as goal
 
 pub returns-clause-trees : goal.returns-clause-trees
@@ -17,3 +17,6 @@ returns-clause-no_tree c = no_tree
 
 pub returns-clause-one_place : goal.returns-clause-one_place
 returns-clause-one_place c = one_place
+
+pub returns-clause-one_fault : goal.returns-clause-one_fault
+returns-clause-one_fault c = one_fault

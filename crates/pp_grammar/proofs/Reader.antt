@@ -1,0 +1,5 @@
+pub mod Inner
+pub mod Expressions
+pub mod Statements
+pub mod Definitions
+pub mod Levels

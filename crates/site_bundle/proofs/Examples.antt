@@ -209,7 +209,7 @@ given : (are_distinct {X = ℕ} ((codes "a", 0) ∷ (codes "b", 0) ∷ []) ≡ t
     × (is_manifest_path (codes "data/common.json") ≡ false)
 given = (refl, refl, refl, refl, refl, refl, refl, refl)
 
--- how much a bundle may be: 64 MiB, 4 MiB a file, 1,048,576 requests; and the name of a node: 255 characters
+-- how much a bundle may be: 64 MiB, 4 MiB a file, 65,536 files, 1,048,576 requests; and the name of a node: 255 characters
 limits : (MOST_BUNDLE_BYTES ≡ 64 * 1024 * 1024) × (MOST_FILE_BYTES ≡ 4 * 1024 * 1024)
-    × (MOST_REQUESTS ≡ 1024 * 1024) × (MOST_NAME_CHARACTERS ≡ 255)
-limits = (refl, refl, refl, refl)
+    × (MOST_FILES ≡ 65536) × (MOST_REQUESTS ≡ 1024 * 1024) × (MOST_NAME_CHARACTERS ≡ 255)
+limits = (refl, refl, refl, refl, refl)

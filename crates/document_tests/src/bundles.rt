@@ -100,7 +100,7 @@ fn reads_with_files(alloc: Global, template: &str, want: &str) -> Result<bool, M
     reads_as(alloc, text.as_str().as_bytes(), want)
 }
 
-const MEMBERS: [(&str, &str); 29] = [
+const MEMBERS: [(&str, &str); 33] = [
     (r#"{M}"#, "B2 bundle"),
     (r#"{"bundle":1.0,M}"#, "B2 bundle"),
     (r#"{"bundle":"1",M}"#, "B2 bundle"),
@@ -126,7 +126,7 @@ const MEMBERS: [(&str, &str); 29] = [
     (r#"{"bundle":1,M,"nodes":{"":{}}}"#, "B2 nodes."),
     (
         r#"{"bundle":1,M,"nodes":{"b":1,"a":{"x":1}}}"#,
-        "B2 nodes.a",
+        "B2 nodes.b",
     ),
     (r#"{"bundle":1,M,"nodes":{"a":{},"A":{}}}"#, "B2 nodes.A"),
     (r#"{"bundle":1,M,"requests":{}}"#, "B2 requests"),
@@ -144,7 +144,7 @@ const MEMBERS: [(&str, &str); 29] = [
         "B2 requests.0.deactivate",
     ),
     (
-        r#"{"bundle":1,M,"requests":[{"node":1,"facts":{"a":1},"seen":-1}]}"#,
+        r#"{"bundle":1,M,"requests":[{"node":1,"facts":["a"],"seen":-1}]}"#,
         "B2 requests.0.facts",
     ),
     (
@@ -165,6 +165,23 @@ const MEMBERS: [(&str, &str); 29] = [
     ),
     (r#"{"bundle":1,M,"machine":{}}"#, "B2 machine"),
     (r#"{"bundle":1,M,"machine":{},"requests":1}"#, "B2 requests"),
+    // Facts are read whole, and so are manifests beside the main one.
+    (
+        r#"{"bundle":1,M,"nodes":{"a":{"n":3,"load":0.5,"l":[true,{"x":null}]}}}"#,
+        r#"{"files":{"manifests/site.pp":""},"nodes":{"a":{"l":[true,{"x":null}],"load":null,"n":3}}}"#,
+    ),
+    (
+        r#"{"bundle":1,M,"requests":[{"node":"a","facts":{"b":{}}}]}"#,
+        r#"{"files":{"manifests/site.pp":""},"nodes":{}} +a! 0"#,
+    ),
+    (
+        r#"{"bundle":1,"files":{"manifests/site.pp":"","modules/m/manifests/init.pp":"class m {"}}"#,
+        r#"{"files":{"manifests/site.pp":"","modules/m/manifests/init.pp":"class m {"},"nodes":{}}"#,
+    ),
+    (
+        r#"{"bundle":1,"files":{"manifests/site.pp":"","hiera.yaml":"{}"}}"#,
+        "B2 files.hiera.yaml",
+    ),
     (
         r#"{"bundle":2,"bundle":1,M}"#,
         "{\"files\":{\"manifests/site.pp\":\"\"},\"nodes\":{}}",

@@ -229,7 +229,7 @@ const COLLECTED: [(&str, &str, &str); 17] = [
     (
         "Notify <<| |>>\nnode 'b' { }",
         "c: notify z web mode",
-        "F31 manifests/site.pp:2 NotBuilt",
+        "F10 other.pp:1 UnknownParameter Notify[z] mode",
     ),
 ];
 

@@ -19,11 +19,7 @@ pub fn run_pending(evaluator: &mut Evaluator<'_>, added: bool) -> Result<bool, S
 }
 
 #[tactic(auto, unfolding(crate::specs::Rounds::run_instances))]
-fn run_instances(
-    evaluator: &mut Evaluator<'_>,
-    before: bool,
-    numbers: &[u32],
-) -> Result<bool, Stop>
+fn run_instances(evaluator: &mut Evaluator<'_>, before: bool, numbers: &[u32]) -> Result<bool, Stop>
     ensures { Gives same
         (spec.run_instances before numbers.now evaluator.old.world) result evaluator.new.world }
 {

@@ -17,11 +17,7 @@ pub const ROUND_LIMIT: u32 = 1_000;
 /// Has the collectors take what is declared and what the other nodes export, and evaluates instances of defines, until a
 /// round adds nothing. Where the last round that is allowed still adds something it is F27.
 #[tactic(auto, using(crate::proofs::Counts::one_round, crate::proofs::Counts::no_round))]
-pub fn run_rounds(
-    evaluator: &mut Evaluator<'_>,
-    sets: &Version,
-    node: &Text,
-) -> Result<(), Stop>
+pub fn run_rounds(evaluator: &mut Evaluator<'_>, sets: &Version, node: &Text) -> Result<(), Stop>
     ensures { Gives nothing (spec.rounds node.now sets.now evaluator.old.world) result evaluator.new.world }
 {
     let mut left = ROUND_LIMIT;
@@ -31,11 +27,7 @@ pub fn run_rounds(
         }
         left -= 1;
     }
-    Err(Stop::Fault(evaluator.world.fault(
-        Here::top(),
-        1,
-        What::RoundLimit,
-    )?))
+    Err(Stop::Fault(evaluator.world.fault(Here::top(), 1, What::RoundLimit)?))
 }
 
 /// One round: whether it added something.

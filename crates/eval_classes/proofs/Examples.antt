@@ -110,8 +110,10 @@ comes_not_back = refl
 -- the class is listed first and takes the tags of `Class[main]`; its parent takes its tags; the parent is evaluated first,
 -- each with the number of its declaration, the line of its definition, its scope and its owner
 child_and_parent : seen (include_rule sample including.Include b (place 7) top (world family))
-    ≡ Ok ((b, b ∷ codes "class" ∷ codes "main" ∷ []) ∷ (a, a ∷ b ∷ codes "class" ∷ codes "main" ∷ []) ∷ [],
-    (2 ∷ 2 ∷ 1 ∷ 2 ∷ []) ∷ (1 ∷ 3 ∷ 2 ∷ 1 ∷ []) ∷ [])
+    ≡ Ok (
+      (b, b ∷ codes "class" ∷ codes "main" ∷ []) ∷ (a, a ∷ b ∷ codes "class" ∷ codes "main" ∷ []) ∷ [],
+      (2 ∷ 2 ∷ 1 ∷ 2 ∷ []) ∷ (1 ∷ 3 ∷ 2 ∷ 1 ∷ []) ∷ [],
+    )
 unfolding include_rule declared_once class_declared chain_declared chain_from enter_chain enter_all enter_scope list_all
     list_rule declare_rule own_rule last_checked run_all scope_among contain_rule class_found parent_of comes_to
     definition_of segments is_word_byte is_tag_byte normal without_front_colons write_log owner_at
@@ -127,8 +129,10 @@ once = refl
 
 -- a parent that is declared already stays, and the child is entered from its scope
 parent_before : seen (include_from sample including.Include (a ∷ b ∷ []) (place 7) top (world family))
-    ≡ Ok ((a, a ∷ codes "class" ∷ codes "main" ∷ []) ∷ (b, b ∷ codes "class" ∷ codes "main" ∷ []) ∷ [],
-    (1 ∷ 2 ∷ 1 ∷ 1 ∷ []) ∷ (2 ∷ 3 ∷ 2 ∷ 2 ∷ []) ∷ [])
+    ≡ Ok (
+      (a, a ∷ codes "class" ∷ codes "main" ∷ []) ∷ (b, b ∷ codes "class" ∷ codes "main" ∷ []) ∷ [],
+      (1 ∷ 2 ∷ 1 ∷ 1 ∷ []) ∷ (2 ∷ 3 ∷ 2 ∷ 2 ∷ []) ∷ [],
+    )
 unfolding include_from include_rule declared_once class_declared chain_declared chain_from enter_chain enter_all enter_scope
     list_all list_rule declare_rule own_rule last_checked run_all scope_among contain_rule class_found parent_of comes_to
     definition_of segments is_word_byte is_tag_byte normal without_front_colons write_log owner_at

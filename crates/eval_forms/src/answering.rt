@@ -24,7 +24,13 @@ pub fn combined(
     ensures { Gives same (spec.combined op left.now right.now line here world.now) result world.now }
 {
     let at = world.place(here, line)?;
-    let value = combine(world.heap.alloc(), op, left.as_value(), right.as_value(), &at)?;
+    let value = combine(
+        world.heap.alloc(),
+        op,
+        left.as_value(),
+        right.as_value(),
+        &at,
+    )?;
     Ok(Evaluated::new(value))
 }
 

@@ -133,8 +133,7 @@ impl<'a> World<'a> {
         ensures { Gives nothing (spec.assign here name.now value line self.old) result self.new }
     {
         let at = self.place(here, line)?;
-        self.scopes
-            .assign(self.heap.alloc(), here.scope, name, value.into_value(), &at)
+        self.scopes.assign(self.heap.alloc(), here.scope, name, value.into_value(), &at)
     }
 
     /// The scope of one call of a lambda that stands here.

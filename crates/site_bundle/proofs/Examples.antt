@@ -104,8 +104,11 @@ node_name = refl
 whole_facts : bundle_of (codes "{\"bundle\":1,\"files\": {\"manifests/site.pp\": \"\"},\"nodes\":{\"a\":{\"n\":3,\"load\":0.5,\"l\":[true,{\"x\":null}]}}}") ≡ Ok (record {
   site = record {
     files = (MAIN_MANIFEST.now, []) ∷ [];
-    nodes = (codes "a", hash (entries_of ((text (codes "l"), list (data_of (flag true ∷ hash (entries_of ((text (codes "x"), undef) ∷ [])) ∷ []))) ∷
-        (text (codes "load"), undef) ∷ (text (codes "n"), int (pos 3)) ∷ []))) ∷ [];
+    nodes = (
+      codes "a",
+      hash (entries_of ((text (codes "l"), list (data_of (flag true ∷ hash (entries_of ((text (codes "x"), undef) ∷ [])) ∷ []))) ∷
+          (text (codes "load"), undef) ∷ (text (codes "n"), int (pos 3)) ∷ [])),
+    ) ∷ [];
   };
   requests = [];
 })

@@ -69,7 +69,7 @@ fn catalogs_and_faults(rt: HostRuntime) -> Result<(), Fail> {
 }
 
 // Resources behind `Class[main]`: what a manifest evaluates to, and what finishing makes of values.
-const EVALUATED: [(&str, &str); 12] = [
+const EVALUATED: [(&str, &str); 15] = [
     (
         "notify { 'x': message => -7 / 2 }",
         "{\"attrs\":{\"message\":-4},\"in\":[0],\"tags\":[\"class\",\"main\",\"notify\",\"x\"],\"title\":\"x\",\"type\":\"Notify\"}",
@@ -106,6 +106,19 @@ const EVALUATED: [(&str, &str); 12] = [
     (
         "[1, 2].each |$i| { if $i == 2 { notify { \"n${i}\": } } }",
         "{\"attrs\":{},\"in\":[0],\"tags\":[\"class\",\"main\",\"n2\",\"notify\"],\"title\":\"n2\",\"type\":\"Notify\"}",
+    ),
+    // Classes with parameters, instances of defines in their containers, and a node's definition.
+    (
+        "class c($p = 1) { }\nclass { 'c': p => 2 }\ninclude c",
+        "{\"attrs\":{\"p\":2},\"in\":[],\"tags\":[\"c\",\"class\",\"main\"],\"title\":\"c\",\"type\":\"Class\"}",
+    ),
+    (
+        "define d() { notify { \"${title} on ${trusted['certname']}\": } }\nd { 'x': }",
+        "{\"attrs\":{},\"in\":[0],\"tags\":[\"class\",\"d\",\"main\",\"x\"],\"title\":\"x\",\"type\":\"D\"},{\"attrs\":{},\"in\":[1],\"tags\":[\"class\",\"d\",\"main\",\"notify\",\"x\"],\"title\":\"x on n1\",\"type\":\"Notify\"}",
+    ),
+    (
+        "class a { notify { 'in a': } }\nclass b { contain a }\nnode default { include b }\nnode 'n2' { fail('no') }",
+        "{\"attrs\":{},\"in\":[],\"tags\":[\"b\",\"class\",\"main\"],\"title\":\"b\",\"type\":\"Class\"},{\"attrs\":{},\"in\":[1],\"tags\":[\"a\",\"b\",\"class\",\"main\"],\"title\":\"a\",\"type\":\"Class\"},{\"attrs\":{},\"in\":[2],\"tags\":[\"a\",\"b\",\"class\",\"main\",\"notify\"],\"title\":\"in a\",\"type\":\"Notify\"}",
     ),
     (
         "notify { x: noop => true }",
@@ -147,7 +160,7 @@ fn what_is_evaluated(rt: HostRuntime) -> Result<(), Fail> {
 }
 
 // Each of these is the first fault of a manifest: F31 where it is met, and the other one where that comes before.
-const FAULTS: [(&str, &str); 24] = [
+const FAULTS: [(&str, &str); 27] = [
     (
         "\n\nnotify { '': }",
         "F8 manifests/site.pp:3 TypeMismatch title",
@@ -177,6 +190,12 @@ const FAULTS: [(&str, &str); 24] = [
         "notify { 'x': message => 1 / 0 }",
         "F13 manifests/site.pp:1 ZeroDivisor /",
     ),
+    (
+        "class c($p = 1) { }\ninclude c\nclass { 'c': p => 2 }",
+        "F14 manifests/site.pp:3 Duplicate Class[c] manifests/site.pp:2",
+    ),
+    ("include a::b", "F4 manifests/site.pp:1 UnknownClass a::b"),
+    ("node 'z' { }", "F19 manifests/site.pp:1 NoNode n1"),
     ("f(1)", "F6 manifests/site.pp:1 UnknownFunction f"),
     ("fail('a', 1)", "F25 manifests/site.pp:1 Failed a 1"),
     // A data type and `default` are in no export: of resources in their order, then of attributes in theirs.

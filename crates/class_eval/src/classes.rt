@@ -73,12 +73,7 @@ fn number_of(world: &World<'_>, class: &Class) -> Result<u32, Memory>
 }
 
 /// F10 at the first name that the class does not take.
-fn check_given(
-    alloc: Global,
-    class: &Class,
-    given: &Attributes,
-    at: &Place,
-) -> Result<(), Stop>
+fn check_given(alloc: Global, class: &Class, given: &Attributes, at: &Place) -> Result<(), Stop>
     ensures { Answers result (spec.given_checked class.now given.now at.now) }
 {
     let name = normal_name(alloc, &class.name.text)?;

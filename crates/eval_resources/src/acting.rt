@@ -63,7 +63,10 @@ pub fn act<F: Fn(&mut World<'_>, Goal<'_>, Here, u32) -> Result<Evaluated, Stop>
 }
 
 #[tactic(auto, unfolding(crate::specs::Resources::declare_bodies))]
-fn declare_bodies<F: Fn(&mut World<'_>, Goal<'_>, Here, u32) -> Result<Evaluated, Stop>, M: Meaning>(
+fn declare_bodies<
+    F: Fn(&mut World<'_>, Goal<'_>, Here, u32) -> Result<Evaluated, Stop>,
+    M: Meaning,
+>(
     forms: &Forms<F, M>,
     world: &mut World<'_>,
     form: Form,
@@ -85,7 +88,10 @@ fn declare_bodies<F: Fn(&mut World<'_>, Goal<'_>, Here, u32) -> Result<Evaluated
 }
 
 #[tactic(auto, unfolding(crate::specs::Resources::titles_rule))]
-fn declare_titles<F: Fn(&mut World<'_>, Goal<'_>, Here, u32) -> Result<Evaluated, Stop>, M: Meaning>(
+fn declare_titles<
+    F: Fn(&mut World<'_>, Goal<'_>, Here, u32) -> Result<Evaluated, Stop>,
+    M: Meaning,
+>(
     forms: &Forms<F, M>,
     world: &mut World<'_>,
     form: Form,
@@ -151,7 +157,10 @@ fn declare_resource(
 
 /// The tests of a class, its declaration and evaluation, its relations.
 #[tactic(auto, unfolding(crate::specs::Resources::class_title_rule))]
-fn declare_class_title<F: Fn(&mut World<'_>, Goal<'_>, Here, u32) -> Result<Evaluated, Stop>, M: Meaning>(
+fn declare_class_title<
+    F: Fn(&mut World<'_>, Goal<'_>, Here, u32) -> Result<Evaluated, Stop>,
+    M: Meaning,
+>(
     forms: &Forms<F, M>,
     world: &mut World<'_>,
     form: Form,

@@ -82,7 +82,12 @@ fn no_title(alloc: Global, at: &Place) -> Result<Fault, Memory>
 }
 
 #[tactic(auto, unfolding(crate::specs::Checks::lines_checked))]
-pub fn check_lines(alloc: Global, what: &Reference, known: &Texts, lines: &[Line]) -> Result<(), Stop>
+pub fn check_lines(
+    alloc: Global,
+    what: &Reference,
+    known: &Texts,
+    lines: &[Line],
+) -> Result<(), Stop>
     ensures { Answers result (spec.lines_checked what.now known.now (lines_of lines.now)) }
 {
     check_names(alloc, what, known, lines)?;

@@ -71,7 +71,14 @@ fn with_setting<F: Fn(&mut World<'_>, Goal<'_>, Here, u32) -> Result<Evaluated, 
 {
     let value = forms.value(world, &setting.value, here)?;
     let at = world.place(here, setting.at)?;
-    Ok(with_line(world.heap.alloc(), done, &setting.name, setting.append, value, at)?)
+    Ok(with_line(
+        world.heap.alloc(),
+        done,
+        &setting.name,
+        setting.append,
+        value,
+        at,
+    )?)
 }
 
 /// One line more.

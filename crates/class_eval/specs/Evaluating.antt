@@ -148,10 +148,11 @@ names_checked of known [] at = Ok tt
 names_checked of known (x ∷ xs) at = and_then (known_checked of known x at) (λ _. names_checked of known xs at)
 
 abbrev pub given_checked : Class → List Setting → Place → Result ⊤ Fault
-given_checked c given at = names_checked (class_reference (class_name c)) (param_names c.params) (setting_names given) at
+given_checked c given at =
+    names_checked (class_reference (class_name c)) (param_names c.params) (setting_names given) at
 
--- A class is declared at a depth, where some code stands: as by `include`, or with what is given as by `class { }`, where
--- it may not be declared yet.
+-- A class is declared at a depth, where some code stands: as by `include`, or with what is given as by `class { }`,
+-- where it must not be declared already.
 abbrev pub class_given : Inner → Class → Option (List Setting) → Place → Here → Step (Unit {0})
 class_given inner c None at here = declared_once inner c at here.owner
 class_given inner c (Some given) at here = do

@@ -5,3 +5,5 @@ pub mod LayoutLemmas
 pub mod BelowLemmas
 pub mod ExportLemmas
 pub mod RelatingLemmas
+mod Samples
+mod Examples

@@ -61,6 +61,10 @@ module _ {A T F : Type 0} (step : A → T → Result A F) where
 
 -- ---- declarations with their numbers
 
+pub rows_next : (rows : List Row) (n : ℕ) (r : Row) → n < length rows → slice_get rows n ≡ Some r →
+    drop n rows ≡ r ∷ drop (n + 1) rows
+rows_next rows n r h is = rows_from rows n r h is ∙ ap (λ j. r ∷ drop j rows) (sym (add-one n))
+
 pub numbered_next : (rows : List Row) (n : ℕ) (r : Row) → n < length rows → slice_get rows n ≡ Some r →
     numbered n (drop n rows) ≡ (n, r) ∷ numbered (n + 1) (drop (n + 1) rows)
 numbered_next rows n r h is =

@@ -20,6 +20,7 @@ use Rattle.catalog_finish.specs.Containing.{order_checked}
 use Rattle.catalog_finish.specs.EdgeTables.{edges_of}
 use Rattle.catalog_finish.specs.Exporting.{exports}
 use Rattle.catalog_finish.specs.Layouts.{layout_of}
+use Rattle.catalog_finish.specs.Naming.{names_checked}
 use Rattle.catalog_finish.specs.Relating.{related_pairs}
 use Rattle.catalog_finish.specs.Sources.{Sources}
 
@@ -71,5 +72,6 @@ finished s rows related node =
     and_then (lines_checked rows s) (λ _.
     and_then (realized_checked rows related.collectors) (λ _.
     and_then (related_pairs (sources s rows related) related.lines) (λ pairs.
+    and_then (names_checked s rows) (λ _.
     put_together s rows node (resources s (layout_of rows related.containments) rows)
-    (edges_of (length (resources s (layout_of rows related.containments) rows)) pairs))))
+    (edges_of (length (resources s (layout_of rows related.containments) rows)) pairs)))))

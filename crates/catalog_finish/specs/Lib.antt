@@ -10,4 +10,6 @@ pub mod RelationParameters
 pub mod Sources
 pub mod Relating
 pub mod Exporting
+pub mod Naming
+pub mod NameCodes
 pub mod Finishing

@@ -9,6 +9,7 @@ use crate::checks::{check_lines, check_realized};
 use crate::containment::check_order;
 use crate::exporting::exports;
 use crate::layout::Layout;
+use crate::naming::check_names;
 use crate::relating::related_pairs;
 use crate::resources::resources;
 use crate::tables::Tables;
@@ -41,6 +42,7 @@ pub fn finish(
         collectors: relations.collectors(),
     };
     let pairs = related_pairs(alloc, &tables, relations.lines())?;
+    check_names(alloc, &book, &lines)?;
     let resources = resources(alloc, &book, &lines, &layout)?;
     let edges = pairs.into_edges(alloc, resources.len() as u32)?;
     put_together(alloc, &book, &lines, node, resources, edges)

@@ -9,6 +9,8 @@ mod edge_table;
 mod exporting;
 mod finishing;
 mod layout;
+mod named;
+mod naming;
 mod plain_values;
 mod relating;
 mod resources;

@@ -32,14 +32,14 @@ unfolding first_blank
 first_blank_is [] = refl
 first_blank_is (b ∷ bs) =
     rw (one_off b 32 bs, one_off b 9 bs, one_off b 13 bs, one_off b 10 bs)
-        (joined_tests (32 == b) (9 == b) (13 == b) (10 == b) bs)
+    (joined_tests (32 == b) (9 == b) (13 == b) (10 == b) bs)
 
 pub start_more : (t r : List ℕ) → Some r ≡ without_first_blank t → trimmed_start t ≡ trimmed_start r
 unfolding first_blank trimmed_start
 start_more [] r h = absurd (cc (h, first_blank_is []))
 start_more (b ∷ bs) r h =
     elim (is_blank b) as (λ t. Some r ≡ (if t then Some bs else None)
-        → (if t then trimmed_start bs else b ∷ bs) ≡ trimmed_start r) [
+    → (if t then trimmed_start bs else b ∷ bs) ≡ trimmed_start r) [
       | true ↦ λ e. let same : r ≡ bs = cc e in ap trimmed_start (sym same)
       | false ↦ λ e. absurd (cc e)
     ] (h ∙ first_blank_is (b ∷ bs))
@@ -49,7 +49,7 @@ unfolding first_blank trimmed_start
 start_end [] h = refl
 start_end (b ∷ bs) h =
     elim (is_blank b) as (λ t. None ≡ (if t then Some bs else None)
-        → (if t then trimmed_start bs else b ∷ bs) ≡ b ∷ bs) [
+    → (if t then trimmed_start bs else b ∷ bs) ≡ b ∷ bs) [
       | true ↦ λ e. absurd (cc e)
       | false ↦ λ e. refl
     ] (h ∙ first_blank_is (b ∷ bs))
@@ -143,7 +143,7 @@ blank_there t r x y is same none =
 never_blank : (t r : List ℕ) (x : ℕ) → t ≡ r ++ x ∷ [] → (p q s u : Bool) → (32 == x) ≡ p → (9 == x) ≡ q
     → (13 == x) ≡ s → (10 == x) ≡ u → (p || (q || (s || u))) ≡ true
     → None ≡ before_suffix (32 ∷ []) t → None ≡ before_suffix (9 ∷ []) t → None ≡ before_suffix (13 ∷ []) t
-        → None ≡ before_suffix (10 ∷ []) t → ⊥
+    → None ≡ before_suffix (10 ∷ []) t → ⊥
 never_blank t r x is true q s u a b c d h n1 n2 n3 n4 = blank_there t r x 32 is a n1
 never_blank t r x is false true s u a b c d h n1 n2 n3 n4 = blank_there t r x 9 is b n2
 never_blank t r x is false false true u a b c d h n1 n2 n3 n4 = blank_there t r x 13 is c n3
@@ -159,4 +159,4 @@ end_end t h =
     let n3 = none_first (before_suffix (13 ∷ []) t) _ h3 in
     let n4 = none_rest (before_suffix (13 ∷ []) t) _ h3 in
     unblanked t (λ x r blank is. never_blank t r x is (32 == x) (9 == x) (13 == x)
-        (10 == x) refl refl refl refl blank n1 n2 n3 n4)
+    (10 == x) refl refl refl refl blank n1 n2 n3 n4)

@@ -21,9 +21,9 @@ levels ls = Some (config_from ls [])
 folders : (config_read false (codes "{\"version\":5}") ≡ levels [])
     × (config_read false (codes "{\"version\":5,\"hierarchy\":[]}") ≡ levels [])
     × (config_read false (codes "{\"version\":5,\"hierarchy\":[{\"name\":\"a\",\"path\":\"x.json\"}]}")
-        ≡ levels (plain (codes "data") ∷ []))
+    ≡ levels (plain (codes "data") ∷ []))
     × (config_read false (codes "{\"version\":5,\"defaults\":{},\"hierarchy\":[{\"name\":\"a\",\"path\":\"x.json\"}]}")
-        ≡ levels (plain (codes "data") ∷ []))
+    ≡ levels (plain (codes "data") ∷ []))
     × (config_read false (codes "{\"version\":5,\"defaults\":{\"datadir\":\"d\",\"data_hash\":\"json_data\"},\"hierarchy\":[{\"name\":\"a\",\"path\":\"x.json\"}]}") ≡ levels (plain (codes "d") ∷ []))
     × (config_read false (codes "{\"version\":5,\"defaults\":{\"datadir\":\"d\"},\"hierarchy\":[{\"name\":\"a\",\"datadir\":\"e\",\"path\":\"x.json\"}]}") ≡ levels (plain (codes "e") ∷ []))
 unfolding serde_json_on_literals
@@ -33,7 +33,7 @@ folders = (refl, refl, refl, refl, refl, refl)
 forms : (config_read false (codes
     "{\"version\":5,\"hierarchy\":[{\"name\":\"a\",\"paths\":[\"x\",\"y\"]},{\"name\":\"b\",\"paths\":[]}]}")
     ≡ levels (level_of (codes "a") (codes "data") (paths.Templates (codes "x" ∷ codes "y" ∷ []))
-        ∷ level_of (codes "b") (codes "data") (paths.Templates []) ∷ []))
+    ∷ level_of (codes "b") (codes "data") (paths.Templates []) ∷ []))
     × (config_read false (codes "{\"version\":5,\"hierarchy\":[{\"name\":\"a\",\"data_hash\":\"json_data\",\"mapped_paths\":[\"v\",\"n\",\"%{n}\"]}]}")
     ≡ levels (level_of (codes "a") (codes "data") (paths.Mapped (codes "v") (codes "n") (codes "%{n}")) ∷ []))
 unfolding serde_json_on_literals
@@ -93,8 +93,8 @@ refused_levels = (refl, refl, refl, refl, refl, refl, refl, refl, refl, refl, re
 faults : (at : Place) → (config_or_fault (codes "hiera.yaml") (codes "{") layer.Environment at
     ≡ Err (fault at (what.BadData (codes "hiera.yaml"))))
     × (config_or_fault (codes "g") (codes "{\"version\":5,\"default_hierarchy\":[]}") layer.Global at
-        ≡ Err (fault at (what.BadData (codes "g"))))
+    ≡ Err (fault at (what.BadData (codes "g"))))
     × (config_or_fault (codes "m") (codes "{\"version\":5,\"default_hierarchy\":[]}") (layer.Module (codes "m")) at
-        ≡ Ok (config_from [] []))
+    ≡ Ok (config_from [] []))
 unfolding serde_json_on_literals
 faults at = (refl, refl, refl)

@@ -47,7 +47,7 @@ has_end s mark front h = (ends_is Decides-eqb s mark (ends_with nat_eq s mark) r
 no_suffix : (s mark : List ℕ) → FindsTextSuffix mark s None → None ≡ before_suffix mark s
 no_suffix s mark lacks =
     elim (ends_with nat_eq s mark) as
-        (λ b. ends_with nat_eq s mark ≡ b → None ≡ (if b then Some (take (length s - length mark) s) else None)) [
+    (λ b. ends_with nat_eq s mark ≡ b → None ≡ (if b then Some (take (length s - length mark) s) else None)) [
       | true ↦ λ e. absurd (lacks (take (length s - length mark) s) (end_of s mark e))
       | false ↦ λ e. refl
     ] refl
@@ -66,8 +66,8 @@ before_suffix_is s mark (Some x) h = suffix_off s mark x.now h
 pub suffix_of : (s mark x : List ℕ) → Some x ≡ before_suffix mark s → s ≡ x ++ mark
 suffix_of s mark x =
     elim (ends_with nat_eq s mark) as
-        (λ b. ends_with nat_eq s mark ≡ b → Some x ≡ (if b then Some (take (length s - length mark) s) else None)
-        → s ≡ x ++ mark) [
+    (λ b. ends_with nat_eq s mark ≡ b → Some x ≡ (if b then Some (take (length s - length mark) s) else None)
+    → s ≡ x ++ mark) [
       | true ↦ λ e h. let is : x ≡ take (length s - length mark) s = cc h in
           end_of s mark e ∙ ap (λ t. t ++ mark) (sym is)
       | false ↦ λ e h. absurd (cc h)
@@ -80,8 +80,11 @@ not_within : (s mark : List ℕ) → 0 < length mark → ((i : ℕ) → i ≤ le
 unfolding cut_at
 not_within [] mark full lacks = refl
 not_within (b ∷ bs) mark full lacks =
-    rw (lacks_front (b ∷ bs) mark (lacks 0 (omega arith)), not_within bs mark full
-        (λ i le. lacks (suc i) (omega arith))) refl
+    rw (
+      lacks_front (b ∷ bs) mark (lacks 0 (omega arith)),
+      not_within bs mark full
+          (λ i le. lacks (suc i) (omega arith)),
+    ) refl
 
 nothing_there : (mark rest : List ℕ) → 0 < length mark → [] ≡ mark ++ rest → ⊥
 nothing_there [] rest full e = omega arith
@@ -101,15 +104,19 @@ cut_there zero (b ∷ bs) mark rest full lacks found =
     let e : 0 + length mark ≡ length mark = omega arith in rw (has_front (b ∷ bs) mark rest found, e) refl
 cut_there (suc i) (b ∷ bs) mark rest full lacks found =
     let e : suc i + length mark ≡ suc (i + length mark) = omega arith in
-    rw (lacks_front (b ∷ bs) mark (lacks 0 (omega arith)), cut_there i bs mark rest full
-        (λ k lt. lacks (suc k) (omega arith)) found, e) refl
+    rw (
+      lacks_front (b ∷ bs) mark (lacks 0 (omega arith)),
+      cut_there i bs mark rest full
+          (λ k lt. lacks (suc k) (omega arith)) found,
+      e,
+    ) refl
 
 cut_in_two : (s mark front back : List ℕ) → 0 < length mark → SplitsAroundMatch (FindsText mark) s front back
     → Some (front, back) ≡ cut_at mark s
 cut_in_two s mark front back full (i, j, found, front_is, back_is, _, _, _) =
     sym (cut_there i s mark (drop j s) full found.0 found.1.split
     ∙ ap Some (ap (λ x. (x, drop (i + length mark) s)) (sym front_is)
-        ∙ ap (λ x. (front, x)) (ap (λ k. drop k s) (sym found.1.ends) ∙ sym back_is)))
+    ∙ ap (λ x. (front, x)) (ap (λ k. drop k s) (sym found.1.ends) ∙ sym back_is)))
 
 pub cut_at_is : (s mark : List ℕ) (r : Option (Bor (List ℕ) × Bor (List ℕ))) → 0 < length mark
     → MatchOption r (FindsText mark s None) (λ x. SplitsAroundMatch (FindsText mark) s x.0.now x.1.now)

@@ -25,8 +25,8 @@ pub found_text : (es : List Entry) (path : List ℕ)
 found_text [] path = refl
 found_text (e ∷ es) path =
     elim (eq_by_cmp text_cmp path e.0) as
-        (λ b. option_map (λ f. f.text) (cond b (Some e.1) (lookup (is_at (text_cmp path)) es))
-        ≡ cond b (Some e.1.text) (find text_cmp path (filed es))) [
+    (λ b. option_map (λ f. f.text) (cond b (Some e.1) (lookup (is_at (text_cmp path)) es))
+    ≡ cond b (Some e.1.text) (find text_cmp path (filed es))) [
       | true ↦ refl
       | false ↦ found_text es path
     ]
@@ -44,8 +44,8 @@ kept_there : (es : List Entry) (path : List ℕ) → AreKept es
 kept_there [] path all = tt
 kept_there (e ∷ es) path all =
     elim (eq_by_cmp text_cmp path e.0) as
-        (λ b. eq_by_cmp text_cmp path e.0 ≡ b
-        → IfSome (cond b (Some e.1) (lookup (is_at (text_cmp path)) es)) (λ f. IsKept path f)) [
+    (λ b. eq_by_cmp text_cmp path e.0 ≡ b
+    → IfSome (cond b (Some e.1) (lookup (is_at (text_cmp path)) es)) (λ f. IsKept path f)) [
       | true ↦ λ is. subst (λ p. IsKept p e.1) (sym (same_key path e.0 is)) (All-head (λ x. IsKept x.0 x.1) e es all)
       | false ↦ λ is. kept_there es path (All-tail (λ x. IsKept x.0 x.1) e es all)
     ] refl
@@ -62,9 +62,9 @@ pub filed_insert : (es : List Entry) (path : List ℕ) (f : DataFile)
 filed_insert [] path f = refl
 filed_insert (e ∷ es) path f =
     elim (text_cmp path e.0) as (λ r. filed
-        (match_ordering r ((path, f) ∷ e ∷ es) ((e.0, f) ∷ es) (e ∷ insert_entry text_cmp es path f))
+    (match_ordering r ((path, f) ∷ e ∷ es) ((e.0, f) ∷ es) (e ∷ insert_entry text_cmp es path f))
     ≡ by_order r ((path, f.text) ∷ filed (e ∷ es)) ((e.0, f.text) ∷ filed es)
-        ((e.0, e.1.text) ∷ put text_cmp path f.text (filed es))) [
+    ((e.0, e.1.text) ∷ put text_cmp path f.text (filed es))) [
       | Less ↦ refl
       | Equal ↦ refl
       | Greater ↦ ap (λ (l : List File). (e.0, e.1.text) ∷ l) (filed_insert es path f)
@@ -75,11 +75,11 @@ pub kept_insert : (es : List Entry) (path : List ℕ) (f : DataFile) → IsKept 
 kept_insert [] path f kept all = All-cons (λ x. IsKept x.0 x.1) (path, f) [] kept all
 kept_insert (e ∷ es) path f kept all =
     elim (text_cmp path e.0) as (λ r. text_cmp path e.0 ≡ r
-        → AreKept (match_ordering r ((path, f) ∷ e ∷ es) ((e.0, f) ∷ es) (e ∷ insert_entry text_cmp es path f))) [
+    → AreKept (match_ordering r ((path, f) ∷ e ∷ es) ((e.0, f) ∷ es) (e ∷ insert_entry text_cmp es path f))) [
       | Less ↦ λ is. All-cons (λ x. IsKept x.0 x.1) (path, f) (e ∷ es) kept all
       | Equal ↦ λ is.
           All-cons (λ x. IsKept x.0 x.1) (e.0, f) es (subst (λ p. IsKept p f) (same_key path e.0 (ap is_eq is)) kept)
-              (All-tail (λ x. IsKept x.0 x.1) e es all)
+          (All-tail (λ x. IsKept x.0 x.1) e es all)
       | Greater ↦ λ is.
           All-cons (λ x. IsKept x.0 x.1) e (insert_entry text_cmp es path f) (All-head (λ x. IsKept x.0 x.1) e es all)
           (kept_insert es path f kept (All-tail (λ x. IsKept x.0 x.1) e es all))

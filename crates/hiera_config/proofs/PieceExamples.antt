@@ -69,7 +69,7 @@ parts : (pieces (codes "x%{a}y")
     × (pieces (codes "%{}") ≡ piece.Letters [] ∷ piece.Reads [] ∷ piece.Letters [] ∷ [])
     × (pieces (codes "%{lookup('k')}") ≡ piece.Letters [] ∷ piece.Asks (codes "k") ∷ piece.Letters [] ∷ [])
     × (pieces (codes "%{literal('%')}{a}")
-        ≡ piece.Letters [] ∷ piece.Letters (codes "%") ∷ piece.Letters (codes "{a}") ∷ [])
+    ≡ piece.Letters [] ∷ piece.Letters (codes "%") ∷ piece.Letters (codes "{a}") ∷ [])
 unfolding pieces_from form_of method_of cut_at trimmed_start trimmed_end
 parts = (refl, refl, refl, refl, refl)
 
@@ -79,7 +79,7 @@ broken : (pieces (codes "a%{b") ≡ piece.Letters (codes "a") ∷ piece.Broken (
     × (pieces (codes "%{lookup('}')}") ≡ piece.Letters [] ∷ piece.Broken (codes "%{lookup('}')}") ∷ [])
     × (pieces (codes "%{alias('a')}x") ≡ piece.Letters [] ∷ piece.Broken (codes "%{alias('a')}x") ∷ [])
     × (path_pieces (codes "a/%{lookup('b')}")
-        ≡ piece.Letters (codes "a/") ∷ piece.Broken (codes "%{lookup('b')}") ∷ [])
+    ≡ piece.Letters (codes "a/") ∷ piece.Broken (codes "%{lookup('b')}") ∷ [])
 unfolding pieces_from form_of method_of path_form cut_at trimmed_start trimmed_end
 broken = (refl, refl, refl, refl, refl)
 

@@ -26,8 +26,8 @@ unfolding cut_at behind_of
 cut_shorter mark [] c full e = absurd (cc e)
 cut_shorter mark (b ∷ bs) c full e =
     elim (starts_with nat_eq (b ∷ bs) mark) as
-        (λ t. (if t then Some ([], drop (length mark) (b ∷ bs)) else option_map (longer b) (cut_at mark bs)) ≡ Some c
-        → length c.1 < length (b ∷ bs)) [
+    (λ t. (if t then Some ([], drop (length mark) (b ∷ bs)) else option_map (longer b) (cut_at mark bs)) ≡ Some c
+    → length c.1 < length (b ∷ bs)) [
       | true ↦ λ h. let is : drop (length mark) (b ∷ bs) ≡ c.1 = ap behind_of h in
           omega (arith, ap length is, length-drop (length mark) (b ∷ bs))
       | false ↦ λ h. later mark b bs c (λ d is. cut_shorter mark bs d full is) (cut_at mark bs) refl h
@@ -64,7 +64,7 @@ module _ (form : List ℕ → Form) where
   same_opened go go' t (Some c) is each =
       let shorter : length c.1 < length t = cut_shorter (codes "%{") t c (omega arith) is in
       ap (λ ps. piece.Letters c.0 ∷ ps)
-          (same_closed go go' c.1 (cut_at (codes "}") c.1) refl (λ r h. each r (omega arith)))
+      (same_closed go go' c.1 (cut_at (codes "}") c.1) refl (λ r h. each r (omega arith)))
 
   same_turns : (n m : ℕ) (t : List ℕ) → length t < n → length t < m → pieces_from form n t ≡ pieces_from form m t
   unfolding pieces_from
@@ -87,8 +87,8 @@ module _ (form : List ℕ → Form) where
       let shorter : length c.1 < length t = cut_shorter (codes "%{") t c (omega arith) e in
       ap (opened_pieces form (pieces_from form (length t)) t) e
       ∙ ap (λ ps. piece.Letters c.0 ∷ ps)
-          (same_closed (pieces_from form (length t)) (pieces_by form) c.1 (cut_at (codes "}") c.1) refl
-          (λ r h. same_turns (length t) (suc (length r)) r (omega arith) (omega arith)))
+      (same_closed (pieces_from form (length t)) (pieces_by form) c.1 (cut_at (codes "}") c.1) refl
+      (λ r h. same_turns (length t) (suc (length r)) r (omega arith) (omega arith)))
 
   pub pieces_unclosed : (t : List ℕ) (c : Cut) → Some c ≡ cut_at (codes "%{") t → None ≡ cut_at (codes "}") c.1
       → pieces_by form t ≡ piece.Letters c.0 ∷ piece.Broken (codes "%{" ++ c.1) ∷ []

@@ -30,7 +30,7 @@ no_text done json left e = rw e refl
 pub level_read : (folder : List ℕ) (done : List Level) (l : Level) (json : Json) (left : List Json)
     → level_in folder (json_view json) ≡ Some l
     → so_far (done ++ l ∷ []) (levels_from folder (items_view left))
-        ≡ so_far done (levels_from folder (items_view (json ∷ left)))
+    ≡ so_far done (levels_from folder (items_view (json ∷ left)))
 level_read folder done l json left e = step (levels_from folder (items_view left)) done l ∙ sym (rw e refl)
 
 pub no_level : (folder : List ℕ) (done : List Level) (json : Json) (left : List Json)

@@ -32,7 +32,7 @@ one name value = λ x. if bytes_eq name x then Some value else None
 abbrev facts : Variables
 facts = one (codes "f")
     (d.hash (entries_of ((t (codes "a"), t (codes "x")) ∷ (t (codes "odd"), t (codes "%{f.a}"))
-        ∷ (t (codes "l"), list (t (codes "x") ∷ n 7 ∷ [])) ∷ (t (codes "up"), t (codes "../x")) ∷ [])))
+    ∷ (t (codes "l"), list (t (codes "x") ∷ n 7 ∷ [])) ∷ (t (codes "up"), t (codes "../x")) ∷ [])))
 
 -- ---- variables and the texts of paths
 
@@ -61,7 +61,7 @@ documents : (in_file [] (codes "k") [] (codes "x") ≡ Ok [])
     × (in_file (at_x (codes "{\"j\":1}")) (codes "k") [] (codes "x") ≡ Ok [])
     × (in_file (at_x (codes "{\"j\":0.5,\"k\":null}")) (codes "k") [] (codes "x") ≡ Ok ((d.undef, codes "x") ∷ []))
     × (in_file (at_x (codes "{\"k\":[1]}")) (codes "k") ((n 2, codes "y") ∷ []) (codes "x")
-        ≡ Ok ((n 2, codes "y") ∷ (list (n 1 ∷ []), codes "x") ∷ []))
+    ≡ Ok ((n 2, codes "y") ∷ (list (n 1 ∷ []), codes "x") ∷ []))
     × (in_file (at_x (codes "{\"k\":1,\"k\":2}")) (codes "k") [] (codes "x") ≡ Ok ((n 2, codes "x") ∷ []))
 unfolding serde_json_on_literals
 documents = (refl, refl, refl, refl, refl)
@@ -72,7 +72,7 @@ faulty_documents : (in_file (at_x (codes "{\"k\":1")) (codes "k") [] (codes "x")
     × (in_file (at_x (codes "{\"k\":0.5}")) (codes "k") [] (codes "x") ≡ Err (what.BadData (codes "x")))
     × (in_file (at_x (codes "{\"k\":{\"a\":[1e1]}}")) (codes "k") [] (codes "x") ≡ Err (what.BadData (codes "x")))
     × (in_file (at_x (codes "{\"k\":9223372036854775808}")) (codes "k") [] (codes "x")
-        ≡ Err (what.BadData (codes "x")))
+    ≡ Err (what.BadData (codes "x")))
 unfolding serde_json_on_literals
 faulty_documents = (refl, refl, refl, refl, refl)
 
@@ -95,12 +95,12 @@ y_has = (n 2, codes "d/y.json")
 -- paths in their order, absent ones passed over; one that leads out of its folder is no file's
 templates : (found_by (paths.Templates []) ≡ Ok [])
     × (found_by (paths.Templates (codes "y.json" ∷ codes "z.json" ∷ codes "%{f.a}.json" ∷ []))
-        ≡ Ok (y_has ∷ x_has ∷ []))
+    ≡ Ok (y_has ∷ x_has ∷ []))
     × (found_by (paths.Templates (codes "x.json" ∷ codes "x.json" ∷ [])) ≡ Ok (x_has ∷ x_has ∷ []))
     × (found_by (paths.Templates (codes "%{f.up}.json" ∷ [])) ≡ Ok [])
     × (in_levels files (codes "k") [] facts []
-        (level_of (codes "a") (codes "d") (paths.Templates (codes "x.json" ∷ []))
-        ∷ level_of (codes "b") (codes "%{f.up}") (paths.Templates (codes "y.json" ∷ []))
+    (level_of (codes "a") (codes "d") (paths.Templates (codes "x.json" ∷ []))
+    ∷ level_of (codes "b") (codes "%{f.up}") (paths.Templates (codes "y.json" ∷ []))
     ∷ level_of (codes "c") (codes "d") (paths.Templates (codes "y.json" ∷ [])) ∷ []) ≡ Ok (x_has ∷ y_has ∷ []))
 unfolding go_on in_turn in_template in_level pieces_from path_form cut_at trimmed_start trimmed_end digits
     serde_json_on_literals
@@ -111,8 +111,8 @@ faults : (found_by (paths.Templates (codes "x.json" ∷ codes "bad.json" ∷ cod
     ≡ Err (what.BadData (codes "d/bad.json")))
     × (found_by (paths.Templates (codes "%{" ∷ codes "bad.json" ∷ [])) ≡ Err (what.BadInterpolation (codes "%{")))
     × (in_levels files (codes "k") [] facts []
-        (level_of (codes "a") (codes "%{f(") (paths.Templates (codes "%{" ∷ [])) ∷ [])
-        ≡ Err (what.BadInterpolation (codes "%{f(")))
+    (level_of (codes "a") (codes "%{f(") (paths.Templates (codes "%{" ∷ [])) ∷ [])
+    ≡ Err (what.BadInterpolation (codes "%{f(")))
     × (in_levels files (codes "k") [] facts [] (level_of (codes "a") (codes "%{f(") (paths.Templates []) ∷ []) ≡ Ok [])
 unfolding go_on in_turn in_template in_level pieces_from path_form cut_at trimmed_start trimmed_end digits
     serde_json_on_literals
@@ -123,7 +123,7 @@ faults = (refl, refl, refl, refl)
 -- a list's members, a hash's pairs, another value, and nothing for none
 values : (mapped_values (Some (list (n 1 ∷ list [] ∷ []))) ≡ n 1 ∷ list [] ∷ [])
     × (mapped_values (Some (d.hash (entries_of ((t (codes "a"), n 1) ∷ (n 2, n 3) ∷ []))))
-        ≡ list (t (codes "a") ∷ n 1 ∷ []) ∷ list (n 2 ∷ n 3 ∷ []) ∷ [])
+    ≡ list (t (codes "a") ∷ n 1 ∷ []) ∷ list (n 2 ∷ n 3 ∷ []) ∷ [])
     × (mapped_values (Some (t (codes "x"))) ≡ t (codes "x") ∷ []) × (mapped_values (Some (t [])) ≡ t [] ∷ [])
     × (mapped_values (Some d.undef) ≡ []) × (mapped_values None ≡ [])
 values = (refl, refl, refl, refl, refl, refl)
@@ -135,7 +135,7 @@ mapped : (found_by (paths.Mapped (codes "f.l") (codes "p") (codes "%{p}.json")) 
     × (found_by (paths.Mapped (codes "f.none") (codes "p") (codes "%{")) ≡ Ok [])
     × (found_by (paths.Mapped (codes "f(") (codes "p") (codes "x.json")) ≡ Ok [])
     × (found_by (paths.Mapped (codes "f.a") (codes "p") (codes "%{p('x')}"))
-        ≡ Err (what.BadInterpolation (codes "%{p('x')}")))
+    ≡ Err (what.BadInterpolation (codes "%{p('x')}")))
 unfolding go_on in_turn in_template in_mapped in_level pieces_from path_form cut_at trimmed_start trimmed_end digits
     serde_json_on_literals
 mapped = (refl, refl, refl, refl, refl, refl)
@@ -162,11 +162,14 @@ config = codes "{\"version\":5,\"hierarchy\":[{\"name\":\"a\",\"path\":\"c.json\
 abbrev layers : List File
 layers =
     (codes "data/c.json", codes "{\"k\":1,\"m::k\":2}") ∷ (codes "global/data/c.json", codes "{\"k\":3,\"g\":4}")
-        ∷ (codes "global/hiera.yaml", config) ∷ (codes "hiera.yaml", config)
+    ∷ (codes "global/hiera.yaml", config) ∷ (codes "hiera.yaml", config)
     ∷ (codes "modules/m/data/c.json", codes "{\"m::k\":5,\"k\":6}")
-        ∷ (codes "modules/m/data/d.json", codes "{\"m::k\":7,\"m::d\":8}")
-    ∷ (codes "modules/m/hiera.yaml", codes
-        "{\"version\":5,\"hierarchy\":[{\"name\":\"a\",\"path\":\"c.json\"}],\"default_hierarchy\":[{\"name\":\"b\",\"path\":\"d.json\"}]}") ∷ []
+    ∷ (codes "modules/m/data/d.json", codes "{\"m::k\":7,\"m::d\":8}")
+    ∷ (
+      codes "modules/m/hiera.yaml",
+      codes
+          "{\"version\":5,\"hierarchy\":[{\"name\":\"a\",\"path\":\"c.json\"}],\"default_hierarchy\":[{\"name\":\"b\",\"path\":\"d.json\"}]}",
+    ) ∷ []
 
 abbrev of_key : List ℕ → Meant (List Source)
 of_key key = sources layers facts (module_of key) key
@@ -179,8 +182,8 @@ in_layers : (of_key (codes "k") ≡ Ok ((n 3, codes "global/data/c.json") ∷ (n
     × (of_key (codes "::m::d") ≡ Ok [])
     × (of_key (codes "other::k") ≡ Ok [])
     × (sources layers facts (Some (codes "m")) (codes "k")
-        ≡ Ok ((n 3, codes "global/data/c.json") ∷ (n 1, codes "data/c.json") ∷ (n 6, codes "modules/m/data/c.json")
-        ∷ []))
+    ≡ Ok ((n 3, codes "global/data/c.json") ∷ (n 1, codes "data/c.json") ∷ (n 6, codes "modules/m/data/c.json")
+    ∷ []))
 unfolding go_on in_turn in_template in_level in_layer in_module pieces_from path_form cut_at trimmed_start trimmed_end
     digits serde_json_on_literals
 in_layers = (refl, refl, refl, refl, refl, refl, refl)
@@ -189,9 +192,9 @@ in_layers = (refl, refl, refl, refl, refl, refl, refl)
 faulty_layers : (sources ((codes "global/hiera.yaml", codes "{}") ∷ (codes "hiera.yaml", codes "{") ∷ []) facts None
     (codes "k") ≡ Err (what.BadData (codes "global/hiera.yaml")))
     × (sources ((codes "hiera.yaml", codes "{\"version\":5,\"default_hierarchy\":[]}") ∷ []) facts None (codes "k")
-        ≡ Err (what.BadData (codes "hiera.yaml")))
+    ≡ Err (what.BadData (codes "hiera.yaml")))
     × (sources ((codes "modules/m/hiera.yaml", codes "{}") ∷ []) facts (Some (codes "m")) (codes "m::k")
-        ≡ Err (what.BadData (codes "modules/m/hiera.yaml")))
+    ≡ Err (what.BadData (codes "modules/m/hiera.yaml")))
     × (sources ((codes "modules/m/hiera.yaml", codes "{}") ∷ []) facts None (codes "k") ≡ Ok [])
     × (sources [] facts (Some (codes "m")) (codes "m::k") ≡ Ok [])
 unfolding go_on in_turn in_template in_level in_layer in_module pieces_from path_form cut_at trimmed_start trimmed_end
@@ -205,9 +208,9 @@ modules : (module_of (codes "a::b") ≡ Some (codes "a")) × (module_of (codes "
     × (module_of (codes "a-b::c") ≡ Some (codes "a-b"))
     × (module_of (codes "aB::c") ≡ Some (codes "aB"))
     × (module_of (codes "a") ≡ None) × (module_of (codes "::a::b") ≡ None) × (module_of (codes "a/b::c") ≡ None)
-        × (module_of (codes "A::b") ≡ None)
+    × (module_of (codes "A::b") ≡ None)
     × (module_of (codes "1a::b") ≡ None) × (module_of (codes "a-::b") ≡ None) × (module_of (codes "a--b::c") ≡ None)
-        × (module_of (codes "-a::b") ≡ None)
+    × (module_of (codes "-a::b") ≡ None)
     × (module_of (codes "a.b::c") ≡ None) × (module_of (codes "a:b") ≡ None)
 unfolding cut_at
 modules = (refl, refl, refl, refl, refl, refl, refl, refl, refl, refl, refl, refl, refl, refl)

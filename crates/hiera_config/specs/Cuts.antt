@@ -52,9 +52,9 @@ or_text (Some t) other = Some t
 abbrev pub without_first_blank : List ℕ → Option (List ℕ)
 without_first_blank text =
     or_text (after_prefix (32 ∷ []) text)
-        (or_text (after_prefix (9 ∷ []) text) (or_text (after_prefix (13 ∷ []) text) (after_prefix (10 ∷ []) text)))
+    (or_text (after_prefix (9 ∷ []) text) (or_text (after_prefix (13 ∷ []) text) (after_prefix (10 ∷ []) text)))
 
 abbrev pub without_last_blank : List ℕ → Option (List ℕ)
 without_last_blank text =
     or_text (before_suffix (32 ∷ []) text)
-        (or_text (before_suffix (9 ∷ []) text) (or_text (before_suffix (13 ∷ []) text) (before_suffix (10 ∷ []) text)))
+    (or_text (before_suffix (9 ∷ []) text) (or_text (before_suffix (13 ∷ []) text) (before_suffix (10 ∷ []) text)))

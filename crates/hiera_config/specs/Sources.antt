@@ -53,7 +53,7 @@ joined_path folder inner template = folder ++ inner ++ codes "/" ++ template
 abbrev pub path_of : Variables → List ℕ → Level → List ℕ → Meant (List ℕ)
 path_of variables folder level template =
     go_on (path_text variables level.folder)
-        (λ inner. go_on (path_text variables template) (λ path. Ok (joined_path folder inner path)))
+    (λ inner. go_on (path_text variables template) (λ path. Ok (joined_path folder inner path)))
 
 unfoldable pub in_template : List File → List ℕ → List ℕ → Level → Variables → List Source → List ℕ
     → Meant (List Source)
@@ -71,7 +71,7 @@ in_paths files key folder variables level (paths.Templates ts) found =
     in_turn (in_template files key folder level variables) found ts
 in_paths files key folder variables level (paths.Mapped name_read name template) found =
     in_turn (in_mapped files key folder level variables name template) found
-        (mapped_values (variable variables name_read))
+    (mapped_values (variable variables name_read))
 
 unfoldable pub in_level : List File → List ℕ → List ℕ → Variables → List Source → Level → Meant (List Source)
 in_level files key folder variables found level = in_paths files key folder variables level level.paths found
@@ -120,7 +120,7 @@ or_default files key variables folder levels (s ∷ found) = Ok (s ∷ found)
 abbrev pub in_module_config : List File → List ℕ → Variables → List ℕ → List Source → Config → Meant (List Source)
 in_module_config files key variables folder found config =
     go_on (in_levels files key folder variables found config.levels)
-        (or_default files key variables folder config.default_levels)
+    (or_default files key variables folder config.default_levels)
 
 unfoldable pub in_module : List File → List ℕ → Variables → Option (List ℕ) → List Source → Meant (List Source)
 in_module files key variables None found = Ok found

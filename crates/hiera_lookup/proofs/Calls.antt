@@ -30,7 +30,7 @@ fault_of o w e = rw e refl
 pub begun : (files : List File) (V V' : Variables) (busy : List (List ℕ)) (m : Option (List ℕ)) (k key : List ℕ)
     (merge : Option Merge) (r : Result Looked Refused)
     → V ≡ V' → busy ≡ [] → m ≡ module_of k → k ≡ key
-        → MeetsBy looked_view r (look (world_of files V) 200 busy m k merge)
+    → MeetsBy looked_view r (look (world_of files V) 200 busy m k merge)
     → MeetsBy looked_view r (look (world_of files V') 200 [] (module_of key) key merge)
 begun files V V' busy m k key merge r v b o e h =
     subst (λ x. MeetsBy looked_view r (look (world_of files V') 200 [] (module_of x) x merge)) e
@@ -45,7 +45,7 @@ ends_ok w key merge l h = value_of (look w 200 [] (module_of key) key merge) (lo
 
 pub ends_err : (w : World) (key : List ℕ) (merge : Option Merge) (at : Place) (s : Refused) (t : Stop)
     → MeetsBy looked_view (Err s) (look w 200 [] (module_of key) key merge) → Stops at s t
-        → Finds at (Err t) (looked_up w key merge)
+    → Finds at (Err t) (looked_up w key merge)
 ends_err w key merge at (refused.Fault f) (stop.Fault g) h placed =
     (placed.0, fault_of (look w 200 [] (module_of key) key merge) f (h.fault f refl) ∙ ap Err placed.1)
 ends_err w key merge at refused.Memory (stop.Fault g) h placed = absurd placed

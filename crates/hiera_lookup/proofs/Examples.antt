@@ -64,11 +64,11 @@ three key x y z = (key, (x, codes "x") ∷ (y, codes "y") ∷ (z, codes "z") ∷
 asked : (asks (t (codes "a%{lookup('b')}%{v}%{hiera('c')}")) ≡ ask.Key (codes "b") ∷ ask.Key (codes "c") ∷ [])
     × (asks (t (codes "%{alias('a')}")) ≡ ask.Key (codes "a") ∷ [])
     × (asks (list (t (codes "%{lookup('a')}") ∷ n 1 ∷ list (t (codes "%{lookup('b')}") ∷ []) ∷ []))
-        ≡ ask.Key (codes "a") ∷ ask.Key (codes "b") ∷ [])
+    ≡ ask.Key (codes "a") ∷ ask.Key (codes "b") ∷ [])
     × (asks (hash (at (codes "%{lookup('k')}") (t (codes "%{lookup('v')}")) ∷ []))
-        ≡ ask.Key (codes "k") ∷ ask.Key (codes "v") ∷ [])
+    ≡ ask.Key (codes "k") ∷ ask.Key (codes "v") ∷ [])
     × (asks (t (codes "%{lookup('a')}%{f(}%{lookup('b')}"))
-        ≡ ask.Key (codes "a") ∷ ask.Broken (codes "%{f(}%{lookup('b')}") ∷ [])
+    ≡ ask.Key (codes "a") ∷ ask.Broken (codes "%{f(}%{lookup('b')}") ∷ [])
     × (asks (t (codes "%{literal('%')}{lookup('a')}")) ≡ [])
 unfolding pieces_from form_of method_of whole_alias cut_at trimmed_start trimmed_end
 asked = (refl, refl, refl, refl, refl, refl)
@@ -97,9 +97,9 @@ texts = (refl, refl, refl, refl, refl, refl, refl)
 keys : (filled reads looks (hash (at (codes "%{v}") (n 1) ∷ at (codes "a") (n 2) ∷ at (codes "7") (n 3) ∷ []))
     ≡ hash (at (codes "7") (n 3) ∷ at (codes "a") (n 2) ∷ []))
     × (filled reads looks (hash ((n 7, n 1) ∷ at (codes "%{v}") (n 2) ∷ []))
-        ≡ hash ((n 7, n 1) ∷ at (codes "7") (n 2) ∷ []))
+    ≡ hash ((n 7, n 1) ∷ at (codes "7") (n 2) ∷ []))
     × (filled reads looks (hash (at (codes "%{alias('l')}") (t (codes "%{v}")) ∷ []))
-        ≡ hash (at (codes "[1]") (t (codes "7")) ∷ []))
+    ≡ hash (at (codes "[1]") (t (codes "7")) ∷ []))
     × (filled reads (λ k. Some (n 9)) (hash (at (codes "%{alias('k')}") (n 1) ∷ [])) ≡ hash ((n 9, n 1) ∷ []))
     × (filled reads looks (list (t (codes "%{v}") ∷ n 1 ∷ [])) ≡ list (t (codes "7") ∷ n 1 ∷ []))
 unfolding pieces_from form_of method_of whole_alias cut_at trimmed_start trimmed_end digits
@@ -110,16 +110,16 @@ keys = (refl, refl, refl, refl, refl)
 abbrev merging : World
 merging = world (
     three (codes "k") (hash (at (codes "a") (n 1) ∷ []))
-        (hash (at (codes "a") (n 2) ∷ at (codes "c") (hash (at (codes "x") (n 1) ∷ [])) ∷ []))
-        (hash (at (codes "c") (hash (at (codes "y") (n 2) ∷ [])) ∷ []))
+    (hash (at (codes "a") (n 2) ∷ at (codes "c") (hash (at (codes "x") (n 1) ∷ [])) ∷ []))
+    (hash (at (codes "c") (hash (at (codes "y") (n 2) ∷ [])) ∷ []))
     ∷ two (codes "l") (list (n 1 ∷ list (n 2 ∷ []) ∷ [])) (n 2) ∷ one (codes "s") (t (codes "a")) ∷ [])
 
 merges : (found merging None (codes "k") by.First ≡ Ok (Some (hash (at (codes "a") (n 1) ∷ []))))
     × (found merging None (codes "k") by.Hash
-        ≡ Ok (Some (hash (at (codes "c") (hash (at (codes "x") (n 1) ∷ [])) ∷ at (codes "a") (n 1) ∷ []))))
+    ≡ Ok (Some (hash (at (codes "c") (hash (at (codes "x") (n 1) ∷ [])) ∷ at (codes "a") (n 1) ∷ []))))
     × (found merging None (codes "k") by.Deep
-        ≡ Ok (Some (hash (at (codes "c") (hash (at (codes "y") (n 2) ∷ at (codes "x") (n 1) ∷ []))
-        ∷ at (codes "a") (n 1) ∷ []))))
+    ≡ Ok (Some (hash (at (codes "c") (hash (at (codes "y") (n 2) ∷ at (codes "x") (n 1) ∷ []))
+    ∷ at (codes "a") (n 1) ∷ []))))
     × (found merging None (codes "l") by.Unique ≡ Ok (Some (list (n 1 ∷ n 2 ∷ []))))
     × (found merging None (codes "none") by.Deep ≡ Ok None)
 unfolding go_on found found_in
@@ -159,7 +159,7 @@ opted : (by_options unique_options (codes "k") None ≡ Ok (Some (list (n 1 ∷ 
     × (by_options unique_options (codes "k.1") None ≡ Ok (Some (n 2)))
     × (by_options (hash (at (codes "k") (hash []) ∷ [])) (codes "k") None ≡ Ok (Some (list (n 1 ∷ []))))
     × (by_options (hash (at (codes "k.1") (hash (at (codes "merge") (t (codes "unique")) ∷ [])) ∷ []))
-        (codes "k.1") None ≡ Ok None)
+    (codes "k.1") None ≡ Ok None)
     × (looked_up (world (two (codes "k") (n 1) (n 2) ∷ [])) (codes "k") None ≡ Ok (Some (n 1)))
     × (looked_up (world []) (codes "k") None ≡ Ok None)
 unfolding go_on look look_within interpolated answers answer option_for merge_for option_in bad_options found found_in
@@ -175,13 +175,13 @@ options_first : (by_options (n 1) (codes "none") None ≡ Err (what.MergeMismatc
     × (by_options (hash (at (codes "none") bad ∷ [])) (codes "none") None ≡ Err (what.BadData (codes "x")))
     × (by_options (hash (at (codes "k") bad ∷ [])) (codes "k") (Some by.First) ≡ Ok (Some (list (n 1 ∷ []))))
     × (looked_up (world (two options_key (hash (at (codes "j") bad ∷ [])) (hash (at (codes "k") bad ∷ [])) ∷ []))
-        (codes "k") None ≡ Err (what.BadData (codes "y")))
+    (codes "k") None ≡ Err (what.BadData (codes "y")))
     × (looked_up (world (two options_key (hash (at (codes "k") bad ∷ [])) (hash (at (codes "k") (hash []) ∷ [])) ∷ []))
-        (codes "k.a") None ≡ Err (what.BadData (codes "x")))
+    (codes "k.a") None ≡ Err (what.BadData (codes "x")))
     × (looked_up (world (two options_key (hash []) (list []) ∷ [])) options_key None
-        ≡ Err (what.MergeMismatch options_key))
+    ≡ Err (what.MergeMismatch options_key))
     × (looked_up (world (two options_key (hash (at (codes "%{v}") bad ∷ [])) (hash (at (codes "7") bad ∷ [])) ∷ []))
-        (codes "7") None ≡ Err (what.BadData (codes "x")))
+    (codes "7") None ≡ Err (what.BadData (codes "x")))
 unfolding go_on look look_within interpolated answers answer option_for merge_for option_in bad_options found found_in
     pieces_from form_of method_of whole_alias cut_at trimmed_start trimmed_end digits
 options_first = (refl, refl, refl, refl, refl, refl, refl)
@@ -191,11 +191,11 @@ options_first = (refl, refl, refl, refl, refl, refl, refl)
 abbrev texts_world : World
 texts_world = world (
     one (codes "a") (t (codes "%{lookup('a')}")) ∷ one (codes "b") (t (codes "%{lookup('c')}!"))
-        ∷ one (codes "c") (t (codes "%{v}"))
+    ∷ one (codes "c") (t (codes "%{v}"))
     ∷ one (codes "d") (list (t (codes "%{lookup('d.00')}") ∷ [])) ∷ one (codes "e") (t (codes "%{alias('f')}"))
-        ∷ one (codes "f") (list (t (codes "%{v}") ∷ []))
+    ∷ one (codes "f") (list (t (codes "%{v}") ∷ []))
     ∷ one (codes "g") (t (codes "%{lookup('h')}")) ∷ one (codes "h") (t (codes "%{lookup('g')}"))
-        ∷ one (codes "i") (list (t (codes "%{f(") ∷ t (codes "%{lookup('i')}") ∷ []))
+    ∷ one (codes "i") (list (t (codes "%{f(") ∷ t (codes "%{lookup('i')}") ∷ []))
     ∷ one (codes "j") (list (t (codes "%{lookup('j')}") ∷ t (codes "%{f(") ∷ [])) ∷ [])
 
 abbrev in_texts : List ℕ → Meant (Option Datum)
@@ -246,9 +246,9 @@ options_busy : (looked_up (world (option_text (codes "%{lookup('x')}"))) (codes 
     ≡ Err (what.LookupLoop options_key))
     × (looked_up (world (option_text (codes "%{lookup('k')}"))) (codes "k") None ≡ Err (what.LookupLoop (codes "k")))
     × (looked_up (world (option_text (codes "%{lookup('lookup_options')}"))) (codes "k") None
-        ≡ Err (what.LookupLoop options_key))
+    ≡ Err (what.LookupLoop options_key))
     × (looked_up (world (option_text (codes "%{lookup('lookup_options.none')}"))) (codes "k") None
-        ≡ Err (what.BadData (codes "x")))
+    ≡ Err (what.BadData (codes "x")))
     × (looked_up (world (option_text (codes "%{v}"))) (codes "k") None ≡ Err (what.BadData (codes "x")))
 unfolding go_on look look_within interpolated answers answer option_for merge_for option_in bad_options found found_in
     pieces_from form_of method_of whole_alias cut_at trimmed_start trimmed_end digits

@@ -45,15 +45,15 @@ found_more key merge (x ∷ xs) high h at =
     ap (λ ys. dug_or_refused key (merged merge (view x.value) ys))
     (values_of xs ∙ ap (map (λ (s : Source). view s.value)) (sym (behind_first x xs)))
     ∙ ap (λ (y : Source). dug_or_refused key
-        (merged merge (view y.value) (map (λ s. view s.value) (take (length (x ∷ xs) - 1) (drop 1 (x ∷ xs))))))
-        (sym at)
+    (merged merge (view y.value) (map (λ s. view s.value) (take (length (x ∷ xs) - 1) (drop 1 (x ∷ xs))))))
+    (sym at)
 
 -- ---- the file of options that are none
 
 pub path_here : (w : World) (answers : List Answer) (root : List ℕ) (xs : List Source) (i : ℕ) (x : Source)
     → i < length xs → x ≡ get_or xs i x
     → has_options w answers root (view x.value) ≡ true
-        → highest_path w answers root (source_views (drop i xs)) ≡ x.path
+    → highest_path w answers root (source_views (drop i xs)) ≡ x.path
 path_here w answers root [] i x h at e = absurd (omega (arith, h))
 path_here w answers root (y ∷ xs) zero x h at e =
     let there : has_options w answers root (view y.value) ≡ true =
@@ -67,7 +67,7 @@ pub path_later : (w : World) (answers : List Answer) (root : List ℕ) (xs : Lis
     → i < length xs → x ≡ get_or xs i x
     → has_options w answers root (view x.value) ≡ false
     → highest_path w answers root (source_views (drop i xs))
-        ≡ highest_path w answers root (source_views (drop (i + 1) xs))
+    ≡ highest_path w answers root (source_views (drop (i + 1) xs))
 path_later w answers root [] i x h at e = absurd (omega (arith, h))
 path_later w answers root (y ∷ xs) zero x h at e =
     let there : has_options w answers root (view y.value) ≡ false =

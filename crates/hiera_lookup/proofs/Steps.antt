@@ -39,7 +39,7 @@ look_free w (suc n) busy of_module key merge b h = let is : suc n - 1 ≡ n = om
 pub answers_at : (f : Looks) (busy : List (List ℕ)) (done : List Answer) (asked : List Ask) (i : ℕ) (a : Ask)
     → i < length asked → a ≡ get_or asked i a
     → answers f busy done (drop i asked)
-        ≡ go_on (answer f busy a) (λ x. answers f busy (done ++ x ∷ []) (drop (i + 1) asked))
+    ≡ go_on (answer f busy a) (λ x. answers f busy (done ++ x ∷ []) (drop (i + 1) asked))
 unfolding answers
 answers_at f busy done [] i a h at = absurd (omega arith)
 answers_at f busy done (b ∷ asked) zero a h at = rw at refl
@@ -52,12 +52,12 @@ pub answers_made : (f : Looks) (busy : List (List ℕ)) (done : List Answer) (ne
     (a : Ask) → i < length asked → a ≡ get_or asked i a
     → answer f busy a ≡ Ok new
     → (all : List Answer) → all ≡ done ++ new ∷ []
-        → answers f busy all (drop (i + 1) asked) ≡ answers f busy done (drop i asked)
+    → answers f busy all (drop (i + 1) asked) ≡ answers f busy done (drop i asked)
 unfolding go_on
 answers_made f busy done new asked i a h at made all is =
     ap (λ xs. answers f busy xs (drop (i + 1) asked)) is
     ∙ sym (answers_at f busy done asked i a h at
-        ∙ ap (λ o. go_on o (λ x. answers f busy (done ++ x ∷ []) (drop (i + 1) asked))) made)
+    ∙ ap (λ o. go_on o (λ x. answers f busy (done ++ x ∷ []) (drop (i + 1) asked))) made)
 
 pub answers_end : (f : Looks) (busy : List (List ℕ)) (done : List Answer) (left : List Ask) → left ≡ []
     → answers f busy done left ≡ Ok done
@@ -66,7 +66,7 @@ answers_end f busy done left is = rw is refl
 
 pub interpolated_by : (w : World) (f : Looks) (busy : List (List ℕ)) (d : Datum) (asked : List Ask) → asked ≡ asks d
     → interpolated w f busy (Some d)
-        ≡ go_on (answers f busy [] asked) (λ table. Ok (Some (filled w.reads (answer_to table) d), table))
+    ≡ go_on (answers f busy [] asked) (λ table. Ok (Some (filled w.reads (answer_to table) d), table))
 unfolding interpolated
 interpolated_by w f busy d asked is =
     ap (λ xs. go_on (answers f busy [] xs) (λ table. Ok (Some (filled w.reads (answer_to table) d), table))) (sym is)
@@ -81,6 +81,6 @@ option_hash w f busy of_module root h = rw h refl
 pub option_looked : (w : World) (f : Looks) (busy : List (List ℕ)) (of_module : Option (List ℕ)) (root : List ℕ)
     → bytes_eq root options_key ≡ false
     → option_for w f busy of_module root
-        ≡ go_on (f busy of_module options_key (Some by.Hash)) (option_in w of_module root)
+    ≡ go_on (f busy of_module options_key (Some by.Hash)) (option_in w of_module root)
 unfolding option_for
 option_looked w f busy of_module root h = rw h refl

@@ -16,13 +16,13 @@ loop-before-preserved c =
           (c.in_ok-add_form.ensures.added
           ∙ ap (λ (ps : List Piece). ps ++ piece_in c.in-Some.behind.now form ∷ []) c.in_ok-push.ensures.items)
           ∙ two_more c.loop-before.pieces.items (piece.Letters c.in_ok-from_str.field-0)
-              (piece_in c.in-Some.behind.now form) rest
+          (piece_in c.in-Some.behind.now form) rest
           ∙ ap (λ t. c.loop-before.pieces.items ++ (piece.Letters t ∷ piece_in c.in-Some.behind.now form ∷ rest))
-              c.in_ok-from_str.ensures
+          c.in_ok-from_str.ensures
           ∙ ap (λ ps. c.loop-before.pieces.items ++ ps)
-              (sym (pieces_more (form_by c.args.in_path) _ _ _ form c.in-Some.ensures c.in-Some-cut_at.ensures
-              (c.form_by.ensures ∙ ap (form_by c.args.in_path) c.trimmed.ensures)
-              (sym c.in_ok-add_form.ensures.goes_on ∙ c.if-not-branch.false)))
+          (sym (pieces_more (form_by c.args.in_path) _ _ _ form c.in-Some.ensures c.in-Some-cut_at.ensures
+          (c.form_by.ensures ∙ ap (form_by c.args.in_path) c.trimmed.ensures)
+          (sym c.in_ok-add_form.ensures.goes_on ∙ c.if-not-branch.false)))
           ∙ c.loop-before.invariant.1,
     )
 
@@ -36,21 +36,21 @@ returns-in_default-cut_at c =
     ∙ two_last c.loop-before.pieces.items (piece.Letters c.in_ok-from_str.field-0) broken
     ∙ ap (λ t. c.loop-before.pieces.items ++ (piece.Letters t ∷ broken ∷ [])) c.in_ok-from_str.ensures
     ∙ ap (λ ps. c.loop-before.pieces.items ++ ps)
-        (sym (pieces_unclosed (form_by c.args.in_path) _ _ c.in-Some.ensures c.in_default-cut_at.ensures))
+    (sym (pieces_unclosed (form_by c.args.in_path) _ _ c.in-Some.ensures c.in_default-cut_at.ensures))
     ∙ c.loop-before.invariant.1
 
 pub returns-then-not-branch : goal.returns-then-not-branch
 returns-then-not-branch c =
     let form = form_view c.form_by.result in
     c.in_ok-add_form.ensures.added
-        ∙ ap (λ (ps : List Piece). ps ++ piece_in c.in-Some.behind.now form ∷ []) c.in_ok-push.ensures.items
+    ∙ ap (λ (ps : List Piece). ps ++ piece_in c.in-Some.behind.now form ∷ []) c.in_ok-push.ensures.items
     ∙ two_last c.loop-before.pieces.items (piece.Letters c.in_ok-from_str.field-0) (piece_in c.in-Some.behind.now form)
     ∙ ap (λ t. c.loop-before.pieces.items ++ (piece.Letters t ∷ piece_in c.in-Some.behind.now form ∷ []))
-        c.in_ok-from_str.ensures
+    c.in_ok-from_str.ensures
     ∙ ap (λ ps. c.loop-before.pieces.items ++ ps)
-        (sym (pieces_last (form_by c.args.in_path) _ _ _ form c.in-Some.ensures c.in-Some-cut_at.ensures
-        (c.form_by.ensures ∙ ap (form_by c.args.in_path) c.trimmed.ensures)
-        (sym c.in_ok-add_form.ensures.goes_on ∙ c.if-not-branch.true)))
+    (sym (pieces_last (form_by c.args.in_path) _ _ _ form c.in-Some.ensures c.in-Some-cut_at.ensures
+    (c.form_by.ensures ∙ ap (form_by c.args.in_path) c.trimmed.ensures)
+    (sym c.in_ok-add_form.ensures.goes_on ∙ c.if-not-branch.true)))
     ∙ c.loop-before.invariant.1
 
 pub returns : goal.returns

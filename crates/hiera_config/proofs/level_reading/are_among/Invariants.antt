@@ -6,4 +6,4 @@ use Rattle.hiera_config.proofs.level_reading.are_among.Given as goal
 abbrev pub invariant-loop-name : goal.invariant-loop-name
 invariant-loop-name l =
     are_among (map (λ n. n.now) l.names) (members_view l.members.entries)
-        ≡ are_among (map (λ n. n.now) l.names) (members_view l.name-iterator)
+    ≡ are_among (map (λ n. n.now) l.names) (members_view l.name-iterator)

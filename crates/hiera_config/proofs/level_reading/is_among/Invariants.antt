@@ -6,4 +6,4 @@ use Rattle.hiera_config.proofs.level_reading.is_among.Given as goal
 abbrev pub invariant-loop-other : goal.invariant-loop-other
 invariant-loop-other l =
     list_any (bytes_eq l.name) (map (λ n. n.now) l.names)
-        ≡ list_any (bytes_eq l.name) (map (λ n. n.now) (drop l.other-index l.names))
+    ≡ list_any (bytes_eq l.name) (map (λ n. n.now) (drop l.other-index l.names))

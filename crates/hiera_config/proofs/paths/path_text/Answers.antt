@@ -10,7 +10,7 @@ use Rattle.hiera_config.proofs.paths.path_text.Goals as goal
 pub loop-piece-preserved : goal.loop-piece-preserved
 loop-piece-preserved c =
     step_made _ _ _ _ _ _ c.loop-piece-test.true c.piece-item.is (c.in_ok-write_piece.ensures.ok _ refl)
-        ∙ c.loop-piece.invariant
+    ∙ c.loop-piece.invariant
 
 pub returns-in_err-write_piece : goal.returns-in_err-write_piece
 returns-in_err-write_piece c =

@@ -9,6 +9,6 @@ unfolding in_mapped
 returns c =
     same_meets
     (ap (λ vs. in_template c.args.search.now.files.now c.args.search.now.key.now c.args.search.now.folder.now
-        c.args.mapped.now.level.now vs (source_views c.args.found.now.items) c.args.mapped.now.template.now)
+    c.args.mapped.now.level.now vs (source_views c.args.found.now.items) c.args.mapped.now.template.now)
     (sym c.hiding-names.ensures))
     c.add_from_template.ensures

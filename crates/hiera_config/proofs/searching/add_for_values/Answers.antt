@@ -7,12 +7,12 @@ use Rattle.hiera_config.proofs.searching.add_for_values.Goals as goal
 pub loop-value-preserved : goal.loop-value-preserved
 loop-value-preserved c =
     turn_made _ view _ _ _ _ _ c.loop-value-test.true c.value-item.is (c.in_ok-add_for_value.ensures.ok _ refl)
-        ∙ c.loop-value.invariant
+    ∙ c.loop-value.invariant
 
 pub returns-in_err-add_for_value : goal.returns-in_err-add_for_value
 returns-in_err-add_for_value c =
     same_meets (sym c.loop-value.invariant ∙ turn_at _ view _ _ _ _ c.loop-value-test.true c.value-item.is)
-        (after_err _ c.in_err-add_for_value.ensures c.from_residual.ensures.1)
+    (after_err _ c.in_err-add_for_value.ensures c.from_residual.ensures.1)
 
 pub returns : goal.returns
 returns c =

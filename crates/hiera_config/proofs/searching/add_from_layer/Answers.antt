@@ -14,4 +14,4 @@ unfolding in_layer
 returns c =
     after_ok _ c.in_ok-config.ensures
     (same_meets (ap (in_levels c.args.files.now c.args.key.now c.args.folder.now (seen c.args.variables.now)
-        (source_views c.args.found.now.items)) (sym c.levels_of.ensures)) c.add_from_levels.ensures)
+    (source_views c.args.found.now.items)) (sym c.levels_of.ensures)) c.add_from_levels.ensures)

@@ -6,12 +6,12 @@ use Rattle.hiera_config.proofs.searching.add_from_levels.Goals as goal
 pub loop-level-preserved : goal.loop-level-preserved
 loop-level-preserved c =
     step_made _ _ _ _ _ _ c.loop-level-test.true c.level-item.is (c.in_ok-add_from_level.ensures.ok _ refl)
-        ∙ c.loop-level.invariant
+    ∙ c.loop-level.invariant
 
 pub returns-in_err-add_from_level : goal.returns-in_err-add_from_level
 returns-in_err-add_from_level c =
     same_meets (sym c.loop-level.invariant ∙ step_at _ _ _ _ _ c.loop-level-test.true c.level-item.is)
-        (after_err _ c.in_err-add_from_level.ensures c.from_residual.ensures.1)
+    (after_err _ c.in_err-add_from_level.ensures c.from_residual.ensures.1)
 
 pub returns : goal.returns
 returns c =

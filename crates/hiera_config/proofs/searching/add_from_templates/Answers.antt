@@ -9,13 +9,13 @@ use Rattle.hiera_config.proofs.searching.add_from_templates.Goals as goal
 pub loop-template-preserved : goal.loop-template-preserved
 loop-template-preserved c =
     step_made _ _ _ _ _ _ c.loop-template-test.true c.template-item.is (c.in_ok-add_from_template.ensures.ok _ refl)
-        ∙ c.loop-template.invariant
+    ∙ c.loop-template.invariant
 
 pub returns-in_err-add_from_template : goal.returns-in_err-add_from_template
 returns-in_err-add_from_template c =
     same_meets
     (ap (λ vs. in_turn (in_template c.args.search.now.files.now c.args.search.now.key.now c.args.search.now.folder.now
-        c.args.level.now vs) (source_views c.args.found.now.items) c.args.templates.now) (sym c.plain-names.ensures)
+    c.args.level.now vs) (source_views c.args.found.now.items) c.args.templates.now) (sym c.plain-names.ensures)
     ∙ sym c.loop-template.invariant ∙ step_at _ _ _ _ _ c.loop-template-test.true c.template-item.is)
     (after_err _ c.in_err-add_from_template.ensures c.from_residual.ensures.1)
 
@@ -23,6 +23,6 @@ pub returns : goal.returns
 returns c =
     gives
     (ap (λ vs. in_turn (in_template c.args.search.now.files.now c.args.search.now.key.now c.args.search.now.folder.now
-        c.args.level.now vs) (source_views c.args.found.now.items) c.args.templates.now) (sym c.plain-names.ensures)
+    c.args.level.now vs) (source_views c.args.found.now.items) c.args.templates.now) (sym c.plain-names.ensures)
     ∙ sym c.loop-template.invariant
-        ∙ turns_end _ _ _ (drop_of_length-le c.args.templates.now c.loop-template-test.false))
+    ∙ turns_end _ _ _ (drop_of_length-le c.args.templates.now c.loop-template-test.false))

@@ -18,7 +18,7 @@ decreases-add_pairs l = pairs_size (pair_views l.pairs.now)
 abbrev pub invariant-add_list-loop-item : goal.invariant-add_list-loop-item
 invariant-add_list-loop-item l =
     l.asked.items ++ list_asks (data_of (views (drop l.item-index l.items)))
-        ≡ l.initial.asked.items ++ list_asks (data_of (views l.items))
+    ≡ l.initial.asked.items ++ list_asks (data_of (views l.items))
 
 abbrev pub invariant-add_pairs-loop-key : goal.invariant-add_pairs-loop-key
 invariant-add_pairs-loop-key l =

@@ -11,14 +11,28 @@ use Rattle.hiera_lookup.proofs.Lists.{list_filled-data_of}
 use Rattle.hiera_lookup.proofs.filling.+fill.Goals as goal
 
 pub fill-fill_list-requires : goal.fill-fill_list-requires
-fill-fill_list-requires t c =
-    (omega (arith, c.decreases, ap data_size c.as_slice.ensures,
-        ap (λ x. datum_size (view x)) c.in-List.is, inner_size-data_of c.in-List.items), tt)
+fill-fill_list-requires t c = (
+  omega (
+    arith,
+    c.decreases,
+    ap data_size c.as_slice.ensures,
+    ap (λ x. datum_size (view x)) c.in-List.is,
+    inner_size-data_of c.in-List.items,
+  ),
+  tt,
+)
 
 pub fill-fill_pairs-requires : goal.fill-fill_pairs-requires
-fill-fill_pairs-requires t c =
-    (omega (arith, c.decreases, ap pairs_size c.as_slice-in-Hash.ensures.pairs,
-        ap (λ x. datum_size (view x)) c.in-Hash.is, entries_size-entries_of c.in-Hash.pairs), tt)
+fill-fill_pairs-requires t c = (
+  omega (
+    arith,
+    c.decreases,
+    ap pairs_size c.as_slice-in-Hash.ensures.pairs,
+    ap (λ x. datum_size (view x)) c.in-Hash.is,
+    entries_size-entries_of c.in-Hash.pairs,
+  ),
+  tt,
+)
 
 pub fill_list-fill-requires : goal.fill_list-fill-requires
 fill_list-fill-requires t c =
@@ -35,6 +49,6 @@ fill_pairs-fill-requires-in-loop-key t c =
 pub fill_list-returns : goal.fill_list-returns
 fill_list-returns t c =
     let made : c.from_vec.result ≡ map (filled ((seen c.args.world.now).reads) (answer_to c.args.answers.now))
-        (views c.args.items.now) =
+    (views c.args.items.now) =
     grind (arith, common_steps) in
     ap data_of made ∙ sym (list_filled-data_of _ _ _)

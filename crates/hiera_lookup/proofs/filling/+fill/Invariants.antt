@@ -20,10 +20,10 @@ decreases-fill_pairs l = pairs_size (pair_views l.pairs.now)
 abbrev pub invariant-fill_list-loop-item : goal.invariant-fill_list-loop-item
 invariant-fill_list-loop-item l =
     views l.filled.items ≡ map (filled ((seen l.world).reads) (answer_to l.answers))
-        (views (take l.item-index l.items))
+    (views (take l.item-index l.items))
 
 abbrev pub invariant-fill_pairs-loop-key : goal.invariant-fill_pairs-loop-key
 invariant-fill_pairs-loop-key l =
     pairs_filled ((seen l.world).reads) (answer_to l.answers)
-        (entries_of (pair_views (drop l.key-index l.pairs))) l.filled
+    (entries_of (pair_views (drop l.key-index l.pairs))) l.filled
     ≡ pairs_filled ((seen l.world).reads) (answer_to l.answers) (entries_of (pair_views l.pairs)) []

@@ -8,5 +8,5 @@ use Rattle.hiera_lookup.proofs.filling.write_pieces.Given as goal
 abbrev pub invariant-loop-piece : goal.invariant-loop-piece
 invariant-loop-piece l =
     string_bytes l.out ++ flat_map (piece_text ((seen l.world).reads) (answer_to l.answers))
-        (drop l.piece-index l.pieces)
+    (drop l.piece-index l.pieces)
     ≡ string_bytes l.initial.out ++ flat_map (piece_text ((seen l.world).reads) (answer_to l.answers)) l.pieces

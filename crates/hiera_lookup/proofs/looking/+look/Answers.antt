@@ -24,7 +24,7 @@ unfolding look_within
 look_within-returns t c =
     after_ok _ c.in_ok-merge.ensures
     (after_ok _ c.in_ok-value.ensures
-        (rw (option_seen c.as_ref.result c.in_ok-value.value c.as_ref.ensures.value) at c.interpolated.ensures))
+    (rw (option_seen c.as_ref.result c.in_ok-value.value c.as_ref.ensures.value) at c.interpolated.ensures))
 
 pub option_for-returns-then-eq : goal.option_for-returns-then-eq
 option_for-returns-then-eq t c = same_meets (option_hash _ _ _ _ _ (sym c.eq.ensures ∙ c.if-eq.true)) (gives refl)
@@ -32,12 +32,12 @@ option_for-returns-then-eq t c = same_meets (option_hash _ _ _ _ _ (sym c.eq.ens
 pub option_for-returns-in_err-options : goal.option_for-returns-in_err-options
 option_for-returns-in_err-options t c =
     same_meets (option_looked _ _ _ _ _ (sym c.eq.ensures ∙ c.if-eq.false))
-        (after_err _ c.in_err-options.ensures c.from_residual.ensures.1)
+    (after_err _ c.in_err-options.ensures c.from_residual.ensures.1)
 
 pub option_for-returns : goal.option_for-returns
 option_for-returns t c =
     same_meets (option_looked _ _ _ _ _ (sym c.eq.ensures ∙ c.if-eq.false))
-        (after_ok _ c.in_ok-options.ensures c.option_in.ensures)
+    (after_ok _ c.in_ok-options.ensures c.option_in.ensures)
 
 pub look-returns-then-is_busy : goal.look-returns-then-is_busy
 look-returns-then-is_busy t c =
@@ -51,18 +51,18 @@ look-returns-then-left-eq0 t c =
 pub look-returns : goal.look-returns
 look-returns t c =
     same_meets (look_free _ _ _ _ _ _ (sym c.is_busy.ensures ∙ c.if-is_busy.false) c.if-left-eq0.false)
-        (rw c.in_ok-busy.ensures at c.look_within.ensures)
+    (rw c.in_ok-busy.ensures at c.look_within.ensures)
 
 pub answers-loop-ask-preserved : goal.answers-loop-ask-preserved
 answers-loop-ask-preserved t c =
     answers_made (look (seen c.args.world.now) c.args.left) _ _ _ _ _ _ c.loop-ask-test.true c.ask-item.is
-        (c.in_ok-answer.ensures.ok _ refl) _ c.in_ok-push.ensures.ok
+    (c.in_ok-answer.ensures.ok _ refl) _ c.in_ok-push.ensures.ok
     ∙ c.loop-ask.invariant
 
 pub answers-returns-in_err-answer : goal.answers-returns-in_err-answer
 answers-returns-in_err-answer t c =
     same_meets (sym c.loop-ask.invariant ∙ answers_at _ _ _ _ _ _ c.loop-ask-test.true c.ask-item.is)
-        (after_err _ c.in_err-answer.ensures c.from_residual.ensures.1)
+    (after_err _ c.in_err-answer.ensures c.from_residual.ensures.1)
 
 pub answers-returns : goal.answers-returns
 answers-returns t c =
@@ -79,35 +79,35 @@ pub interpolated_value-returns-in_err-answers : goal.interpolated_value-returns-
 interpolated_value-returns-in_err-answers t c =
     let asked : c.deref.result.now ≡ asks (view c.args.value.now) =
     c.deref.ensures.value ∙ c.in_ok-add_asks.ensures
-        ∙ ap (λ xs. xs ++ asks (view c.args.value.now)) c.new-asked.ensures.items in
+    ∙ ap (λ xs. xs ++ asks (view c.args.value.now)) c.new-asked.ensures.items in
     same_meets (interpolated_by _ _ _ _ c.deref.result.now asked)
-        (after_err _ c.in_err-answers.ensures c.from_residual-in_err-answers.ensures.1)
+    (after_err _ c.in_err-answers.ensures c.from_residual-in_err-answers.ensures.1)
 
 pub interpolated_value-returns : goal.interpolated_value-returns
 interpolated_value-returns t c =
     let asked : c.deref.result.now ≡ asks (view c.args.value.now) =
     c.deref.ensures.value ∙ c.in_ok-add_asks.ensures
-        ∙ ap (λ xs. xs ++ asks (view c.args.value.now)) c.new-asked.ensures.items in
+    ∙ ap (λ xs. xs ++ asks (view c.args.value.now)) c.new-asked.ensures.items in
     same_meets (interpolated_by _ _ _ _ c.deref.result.now asked)
     (after_ok _ c.in_ok-answers.ensures
-        (gives (ap (λ d. Ok (Some d, c.in_ok-answers.answers)) (sym c.in_ok-value.ensures))))
+    (gives (ap (λ d. Ok (Some d, c.in_ok-answers.answers)) (sym c.in_ok-value.ensures))))
 
 pub answer-returns-in_err-looked-in-Key : goal.answer-returns-in_err-looked-in-Key
 unfolding answer
 answer-returns-in_err-looked-in-Key t c =
     let looked = rw (c.module_of.ensures, c.as_str.ensures.text, c.as_str-in-Key.ensures.text) at
-        c.in_err-looked-in-Key.ensures in
+    c.in_err-looked-in-Key.ensures in
     rw c.in-Key.is (after_err _ looked c.from_residual.ensures.1)
 
 pub answer-returns-in_ok-copy-in-Key : goal.answer-returns-in_ok-copy-in-Key
 unfolding answer
 answer-returns-in_ok-copy-in-Key t c =
     let looked = rw (c.module_of.ensures, c.as_str.ensures.text, c.as_str-in-Key.ensures.text) at
-        c.in_ok-looked-in-Key.ensures in
+    c.in_ok-looked-in-Key.ensures in
     rw c.in-Key.is
     (after_ok _ looked
     (gives (ap Ok (sym (c.new.ensures
-        ∙ ap (λ k. (k, option_map view c.in_ok-looked-in-Key.looked.value)) c.in_ok-copy-in-Key.ensures)))))
+    ∙ ap (λ k. (k, option_map view c.in_ok-looked-in-Key.looked.value)) c.in_ok-copy-in-Key.ensures)))))
 
 pub answer-returns-in-Broken : goal.answer-returns-in-Broken
 unfolding answer

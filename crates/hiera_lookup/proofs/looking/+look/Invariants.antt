@@ -32,4 +32,4 @@ decreases-answer l = 8 * l.left + 1
 abbrev pub invariant-answers-loop-ask : goal.invariant-answers-loop-ask
 invariant-answers-loop-ask l =
     answers (look (seen l.world) l.left) l.busy l.done (drop l.ask-index l.asked)
-        ≡ answers (look (seen l.world) l.left) l.busy [] l.asked
+    ≡ answers (look (seen l.world) l.left) l.busy [] l.asked

@@ -17,5 +17,5 @@ returns c =
     (refuses _ _ c.bad_data.ensures
     (ap (λ p. Err (what.BadData p))
     (sym (c.in_ok-path.ensures ∙ ap
-        (λ xs. highest_path (seen c.args.world.now) c.args.answers.now c.args.root.now (source_views xs))
-        c.deref.ensures.value))))
+    (λ xs. highest_path (seen c.args.world.now) c.args.answers.now c.args.root.now (source_views xs))
+    c.deref.ensures.value))))

@@ -10,6 +10,6 @@ use Rattle.hiera_lookup.proofs.option_reading.has_key.Given as goal
 abbrev pub invariant-loop-other : goal.invariant-loop-other
 invariant-loop-other l =
     list_any (λ p. same_key (view l.key) (as_key (filled ((seen l.world).reads) (answer_to l.answers) p.0)))
-        (pair_views l.pairs)
+    (pair_views l.pairs)
     ≡ list_any (λ p. same_key (view l.key) (as_key (filled ((seen l.world).reads) (answer_to l.answers) p.0)))
-        (pair_views (drop l.other-index l.pairs))
+    (pair_views (drop l.other-index l.pairs))

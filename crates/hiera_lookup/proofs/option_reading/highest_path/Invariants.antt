@@ -10,5 +10,5 @@ use Rattle.hiera_lookup.proofs.option_reading.highest_path.Given as goal
 abbrev pub invariant-loop-source : goal.invariant-loop-source
 invariant-loop-source l =
     (highest_path (seen l.world) l.answers l.root (source_views l.sources)
-        ≡ highest_path (seen l.world) l.answers l.root (source_views (drop l.source-index l.sources)))
+    ≡ highest_path (seen l.world) l.answers l.root (source_views (drop l.source-index l.sources)))
     × (view l.key ≡ text l.root)

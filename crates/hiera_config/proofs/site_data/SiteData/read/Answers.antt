@@ -9,7 +9,7 @@ pub invariant_of-self-2 : goal.invariant_of-self-2
 invariant_of-self-2 c =
     subst AreKept (sym c.in_ok-insert.ensures.entries)
     (kept_insert c.self.inside.by_path.entries c.args.path c.in_ok-file.file
-        (subst (λ p. IsKept p c.in_ok-file.file) c.as_str.ensures.text c.in_ok-file.ensures.kept) c.self.invariant)
+    (subst (λ p. IsKept p c.in_ok-file.file) c.as_str.ensures.text c.in_ok-file.ensures.kept) c.self.invariant)
 
 pub returns : goal.returns
 returns c =

@@ -21,9 +21,10 @@ module _ (behind levels more : ℕ) where
 
   pub main_exactly : (i j : Input) (found : Found)
       → main_manifest (within_to behind levels more) i ≡ Ok (found, j) ↔ IsMain (LevelsTo behind levels more) i found.statements found.definitions j
-  main_exactly i j found =
-      (sound.main_sound (within_to behind levels more) (LevelsTo behind levels more) all_sound (once levels more) i j found,
-       main_complete (within_to behind levels more) (LevelsTo behind levels more) (within_complete behind levels more) i j found.statements found.definitions)
+  main_exactly i j found = (
+    sound.main_sound (within_to behind levels more) (LevelsTo behind levels more) all_sound (once levels more) i j found,
+    main_complete (within_to behind levels more) (LevelsTo behind levels more) (within_complete behind levels more) i j found.statements found.definitions,
+  )
 
   pub module_stands : (i j : Input) (found : Found)
       → module_file (within_to behind levels more) i ≡ Ok (found, j) → (found.statements ≡ []) × IsModule (LevelsTo behind levels more) i found.definitions j

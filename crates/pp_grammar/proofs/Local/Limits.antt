@@ -54,12 +54,12 @@ files_follow false deeper a b i I = (module_file_local I {d = false}).follows re
 -- as many levels up to a place, and more from there on, or from an earlier place on
 pub sooner : (main : Bool) (first behind levels more greater : ℕ) (i : Input) → first ≤ behind → more < greater
     → Follows (twice (λ k. not (ltb behind k))) (if main then main_manifest (within_to first levels more) i else module_file (within_to first levels more) i)
-      (if main then main_manifest (within_to behind levels greater) i else module_file (within_to behind levels greater) i)
+    (if main then main_manifest (within_to behind levels greater) i else module_file (within_to behind levels greater) i)
 sooner main first behind levels more greater i h k =
     files_follow main (λ n. not (ltb behind n)) (within_to first levels more) (within_to behind levels greater) i (more_behind first behind levels more greater h k)
 
 -- more than all of them everywhere
 pub wider : (main : Bool) (behind levels more n : ℕ) (i : Input) → levels + more < n
     → Follows (twice (λ k. true)) (if main then main_manifest (within_to behind levels more) i else module_file (within_to behind levels more) i)
-      (if main then main_manifest (within n) i else module_file (within n) i)
+    (if main then main_manifest (within n) i else module_file (within n) i)
 wider main behind levels more n i h = files_follow main (λ k. true) (within_to behind levels more) (within n) i (more_levels (twice (λ k. true)) behind levels more n (λ k. refl) h)

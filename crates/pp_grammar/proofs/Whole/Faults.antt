@@ -84,7 +84,7 @@ module _ (path : List ℕ) where
     deep_with : (other : List Token) (further : ℕ) → reader path (limit max_levels (length other) (suc further)) (start (front ++ t ∷ other)) ≡ Err (refusals.Deep (length (t ∷ other)))
     deep_with other further =
         let d = deep_too (λ n. not (ltb (length other) n)) (reader path (everywhere max_levels) (start (front ++ t ∷ other))) (reader path (limit max_levels (length other) (suc further)) (start (front ++ t ∷ other))) (length (t ∷ other)) (stays (t ∷ other) refl)
-                (more_later path (front ++ t ∷ other) 0 (length other) max_levels 0 (suc further) (omega arith) (omega arith)) in
+        (more_later path (front ++ t ∷ other) 0 (length other) max_levels 0 (suc further) (omega arith) (omega arith)) in
         subst (λ (b : Bool). Deepens (not b) (length (t ∷ other)) (reader path (limit max_levels (length other) (suc further)) (start (front ++ t ∷ other)))) (lt-ltb (length other) (length (t ∷ other)) (omega arith)) d
 
     no_file : (other : List Token) (further : ℕ) (found : Found) (key : Option ℕ) → IsFile (up_to other further) path (front ++ t ∷ other) found key → ⊥

@@ -1,7 +1,7 @@
 -- The reader reads exactly what stands there.
 use Rattle.std.proofs.Common.{◌≡◌, ◌↔◌, ℕ, List, [], Ok}
 use Rattle.pp_tree.specs.declared.definition.Definition.{Definition}
-use Rattle.pp_parser.specs.Input.{Input}
+use Rattle.pp_grammar.proofs.Reader.Input.{Input}
 use Rattle.pp_parser.specs.declared.found.Found.{Found}
 use Rattle.pp_grammar.proofs.Reader.Definitions.{main_manifest, module_file}
 use Rattle.pp_grammar.proofs.Reader.Levels.{within_to}

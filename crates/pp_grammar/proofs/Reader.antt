@@ -1,5 +1,9 @@
-pub mod Inner
-pub mod Expressions
-pub mod Statements
 pub mod Definitions
+pub mod Expressions
+pub mod Inner
+pub mod Input
+pub mod Keys
 pub mod Levels
+pub mod Manifest
+pub mod Params
+pub mod Statements

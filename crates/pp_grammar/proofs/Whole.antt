@@ -1,8 +1,10 @@
 pub mod Cuts
 pub mod Faults
 pub mod Goes
+pub mod Keys
 pub mod Limits
 pub mod Parser
 pub mod Places
 pub mod Reads
+pub mod Rules
 pub mod Trees

@@ -20,15 +20,15 @@ use Rattle.pp_tree.specs.declared.param.Param.{Param}
 use Rattle.pp_tree.specs.declared.statement.Statement.{Statement}
 use Rattle.pp_tree.specs.declared.conditions.CaseOption.{CaseOption}
 use Rattle.pp_tree.specs.declared.conditions.Elsif.{Elsif}
-use Rattle.pp_tree.specs.Building.{expr_at, pair as pair_of, operation, call as call_of, lambda as lambda_of, param as param_of, elsif as elsif_of, if_of, unless_of, case_of, case_option as option_of_case}
+use Rattle.pp_tree.specs.Building.{expr_at, line_of, pair as pair_of, operation, call as call_of, lambda as lambda_of, param as param_of, elsif as elsif_of, if_of, unless_of, case_of, case_option as option_of_case}
 use Rattle.pp_parser.specs.declared.goal.Goal.TheVariants as goal
 use Rattle.pp_parser.specs.declared.goal.Part.TheVariants as part
-use Rattle.pp_parser.specs.Input.{Input, kind, line_at}
-use Rattle.pp_parser.specs.Keys.{doubled_key, earlier_line}
-use Rattle.pp_parser.specs.Kinds.{is_kind, is_name, is_bar}
-use Rattle.pp_parser.specs.Params.{is_simple}
-use Rattle.pp_parser.specs.Expressions.{operator_at, loosest, chained, postfixed, pieces}
-use Rattle.pp_grammar.specs.Places.{Phrase, Stands, Within, Opens, Many, Separated, SeparatedSome, Maybe, Begins, before}
+use Rattle.pp_parser.specs.Input.{Input}
+use Rattle.pp_grammar.specs.Keys.{doubled_key, earlier_line}
+use Rattle.pp_grammar.specs.Kinds.{is_kind, is_name, is_bar}
+use Rattle.pp_grammar.specs.Names.{is_simple}
+use Rattle.pp_grammar.specs.Operators.{operator_at, loosest, prefix_at}
+use Rattle.pp_grammar.specs.Places.{kind, line_at, Phrase, Stands, Within, Opens, Many, Separated, SeparatedSome, Maybe, Begins, before}
 
 -- a token that begins a lambda: within the bars of a lambda's parameters, one that `{` follows ends them
 abbrev pub begins_lambda : Bool → Option Kind → Bool
@@ -66,11 +66,19 @@ follows_variable (Some k.OpenBracket) = true
 follows_variable (Some k.Dot) = true
 follows_variable _ = false
 
-abbrev pub prefix_at : Option Kind → Option PrefixOperator
-prefix_at (Some k.Bang) = Some prefix.Not
-prefix_at (Some k.Minus) = Some prefix.Negate
-prefix_at (Some k.Star) = Some prefix.Splat
-prefix_at _ = None
+-- an operand alone is no chain
+abbrev pub chained : Expr → List (Operation Expr) → Expr
+chained first [] = first
+chained first (o ∷ os) = expr_at (line_of first) (form.Binary first (o ∷ os))
+
+abbrev pub postfixed : Expr → List Postfix → Expr
+postfixed base [] = base
+postfixed base (p ∷ ps) = expr_at (line_of base) (form.Postfix base (p ∷ ps))
+
+-- the pieces of a text whose first run of characters is this, if it has one
+abbrev pub pieces : List ℕ → List (Piece Expr) → List (Piece Expr)
+pieces [] more = more
+pieces (b ∷ bs) more = piece.Text (b ∷ bs) ∷ more
 
 -- a hash literal of these pairs ends here
 abbrev pub noted : List (Pair Expr) → Input → Input

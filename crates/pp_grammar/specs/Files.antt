@@ -15,10 +15,10 @@ use Rattle.pp_parser.specs.declared.goal.Goal.{Goal}
 use Rattle.pp_parser.specs.declared.goal.Goal.TheVariants as goal
 use Rattle.pp_parser.specs.declared.goal.Part.{Part}
 use Rattle.pp_parser.specs.declared.goal.Part.TheVariants as part
-use Rattle.pp_parser.specs.Input.{Input, kind}
-use Rattle.pp_parser.specs.Kinds.{is_kind, is_name}
-use Rattle.pp_parser.specs.Definitions.{node_name}
-use Rattle.pp_grammar.specs.Places.{Phrase, Stands, Within, Opens, Separated, Maybe}
+use Rattle.pp_parser.specs.Input.{Input}
+use Rattle.pp_grammar.specs.Kinds.{is_kind, is_name}
+use Rattle.pp_grammar.specs.Names.{node_name}
+use Rattle.pp_grammar.specs.Places.{kind, Phrase, Stands, Within, Opens, Separated, Maybe}
 use Rattle.pp_grammar.specs.Expressions.{InnerParam, IsBlock, IsWhole, IsOperand, IsInterpolated, IsParam, IsCaseOption}
 use Rattle.pp_grammar.specs.Statements.{IsStatement, IsEnd, AreStatements, IsQuery}
 
@@ -67,11 +67,6 @@ module _ (N : Within) where
     -- node = "node" name { "," name } block
     node : (i j l m : Input) (t : Token) (names : List NodeName) (ss : List Statement) → Stands (is_kind k.Node) i t j → AreNodeNames j names l → IsBlock N l ss m
         → IsDefinition i (definitions.Node (node_of names ss t.line)) m
-
-  abbrev begins_definition : Option Kind → Bool
-  begins_definition (Some k.Define) = true
-  begins_definition (Some k.Node) = true
-  begins_definition _ = false
 
   -- A main manifest: statements and definitions, each with at most one `;` behind it, up to the end of the file.
   pub data IsMain : Input → List Statement → List Definition → Input → Type 0 where

@@ -1,19 +1,30 @@
 -- What holds between the text of a manifest, its tree and its fault, in the words of the grammar.
-use Rattle.std.specs.Prelude.{◌≡◌, ◌≢◌, ℕ, List, [], ◌∷◌, ◌++◌, length, Option, Some, None, Ok}
+use Rattle.std.specs.Prelude.{◌≡◌, ◌≢◌, ℕ, List, [], ◌∷◌, ◌++◌, length, Option, Some, None, Result, Ok, Err}
 use Rattle.pp_values.specs.declared.fault.Fault.{Fault}
+use Rattle.pp_values.specs.declared.fault.What.{What}
 use Rattle.pp_values.specs.declared.fault.What.TheVariants.{Syntax, DepthLimit}
+use Rattle.pp_values.specs.declared.place.TheConstants.{MAIN_MANIFEST}
 use Rattle.pp_lexer.specs.declared.token.Token.{Token}
 use Rattle.pp_lexer.specs.Bytes.{end_line}
 use Rattle.pp_lexer.specs.Tokens.{tokens}
 use Rattle.pp_tree.specs.declared.definition.Definition.{Definition}
 use Rattle.pp_tree.specs.declared.file.File.{File}
-use Rattle.pp_tree.specs.Tables.{table_of}
+use Rattle.pp_tree.specs.declared.table.TableStop.{TableStop}
+use Rattle.pp_tree.specs.declared.table.TableStop.TheVariants.{Doubled}
+use Rattle.pp_tree.specs.Tables.{Entries, table_of}
 use Rattle.pp_parser.specs.Input.{Input}
-use Rattle.pp_parser.specs.Keys.{earlier_line}
 use Rattle.pp_parser.specs.declared.found.Found.{Found}
-use Rattle.pp_parser.specs.Manifest.{main_path, start, line_from, fault_at, doubled_name}
+use Rattle.pp_grammar.specs.Keys.{earlier_line}
 use Rattle.pp_grammar.specs.Places.{Within}
 use Rattle.pp_grammar.specs.Files.{IsMain, IsModule, LevelsTo}
+
+-- the path of the main manifest; all other manifests are module files
+abbrev pub main_path : List ℕ
+main_path = MAIN_MANIFEST.now
+
+-- the beginning of a file: no key stands twice so far
+abbrev pub start : List Token → Input
+start ts = record { left = ts; doubled = None }
 
 -- the end of a file, with the line of the first key that stands a second time in its hash literal, if one does
 abbrev pub the_end : Option ℕ → Input
@@ -59,6 +70,19 @@ pub record IsTree (path text : List ℕ) (file : File) : Type 0 where
   pub table : table_of definitions ≡ Ok file.definitions
 
 -- ---- faults
+
+-- the line of the token that comes next, or that of the end of the file
+unfoldable pub line_from : ℕ → List Token → ℕ
+line_from end [] = end
+line_from end (t ∷ ts) = t.line
+
+abbrev pub fault_at : List ℕ → What → ℕ → Fault
+fault_at path what line = record { at = record { file = path; line = line }; what = what }
+
+-- the line of the first name that is defined twice
+abbrev pub doubled_name : Result Entries TableStop → Option ℕ
+doubled_name (Err (Doubled line)) = Some line
+doubled_name _ = None
 
 -- the first token, if there is one
 abbrev pub first_token : List Token → Option Token

@@ -1,5 +1,9 @@
 pub mod Expressions
 pub mod Files
+pub mod Keys
+pub mod Kinds
 pub mod Laws
+pub mod Names
+pub mod Operators
 pub mod Places
 pub mod Statements

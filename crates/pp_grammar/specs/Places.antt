@@ -1,11 +1,28 @@
 -- What stands between two places of a file. A place is what is left to read from it on.
-use Rattle.std.specs.Prelude.{◌≡◌, Bool, true, false, List, [], ◌∷◌, Option, Some, None}
+use Rattle.std.specs.Prelude.{◌≡◌, ℕ, Bool, true, false, List, [], ◌∷◌, Option, Some, None}
 use Rattle.pp_lexer.specs.declared.kind.Kind.{Kind}
 use Rattle.pp_lexer.specs.declared.token.Token.{Token}
 use Rattle.pp_parser.specs.declared.goal.Goal.{Goal}
 use Rattle.pp_parser.specs.declared.goal.Part.{Part}
-use Rattle.pp_parser.specs.Input.{Input, kind}
-use Rattle.pp_parser.specs.Kinds.{is_kind}
+use Rattle.pp_parser.specs.Input.{Input}
+use Rattle.pp_grammar.specs.Kinds.{is_kind}
+
+-- ---- the next token
+
+unfoldable pub kind_at : List Token → Option Kind
+kind_at [] = None
+kind_at (t ∷ ts) = Some t.kind
+
+-- its kind, or none at the end of the file
+unfoldable pub kind : Input → Option Kind
+kind i = kind_at i.left
+
+-- its line, or 0 at the end of the file
+unfoldable pub line_at : List Token → ℕ
+line_at [] = 0
+line_at (t ∷ ts) = t.line
+
+-- ---- phrases
 
 -- a sort of phrase: which of its sort stand from one place to another
 abbrev pub Phrase : Type 0 → Type 1

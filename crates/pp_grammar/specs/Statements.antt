@@ -25,10 +25,10 @@ use Rattle.pp_tree.specs.declared.collector.Test.TheVariants as test_form
 use Rattle.pp_tree.specs.Building.{chain as chain_of, link as link_of, words as words_of, resource as resource_of, body as body_of, setting as setting_of, splat as splat_of, reference as reference_of, override as override_of, defaults as defaults_of, collector as collector_of, query as query_of, conjunction as conjunction_of, comparison as comparison_of}
 use Rattle.pp_parser.specs.declared.goal.Goal.TheVariants as goal
 use Rattle.pp_parser.specs.declared.goal.Part.TheVariants as part
-use Rattle.pp_parser.specs.Input.{Input, kind, line_at}
-use Rattle.pp_parser.specs.Kinds.{is_kind, is_name, is_word, begins_expression, ends_body}
-use Rattle.pp_parser.specs.Statements.{arrow_at, names_resource}
-use Rattle.pp_grammar.specs.Places.{Phrase, Stands, Within, Opens, Many, Separated, SeparatedSome, Maybe, Begins}
+use Rattle.pp_parser.specs.Input.{Input}
+use Rattle.pp_grammar.specs.Kinds.{is_kind, is_name, is_word, begins_expression, ends_body, names_resource}
+use Rattle.pp_grammar.specs.Operators.{arrow_at}
+use Rattle.pp_grammar.specs.Places.{kind, line_at, Phrase, Stands, Within, Opens, Many, Separated, SeparatedSome, Maybe, Begins}
 use Rattle.pp_grammar.specs.Expressions.{Inner, IsWhole, IsValue}
 
 -- `=>`, or `+>` where it may stand, and whether it appends

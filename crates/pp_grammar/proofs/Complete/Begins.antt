@@ -9,11 +9,12 @@ use Rattle.pp_tree.specs.declared.expr.Form.{Form}
 use Rattle.pp_tree.specs.declared.expr.Form.TheVariants as form
 use Rattle.pp_tree.specs.declared.expr.Postfix.{Postfix}
 use Rattle.pp_tree.specs.Building.{expr_at}
-use Rattle.pp_parser.specs.Input.{Input, kind, line_at}
-use Rattle.pp_parser.specs.Kinds.{is_kind, is_name, begins_expression}
+use Rattle.pp_grammar.proofs.Reader.Input.{Input, kind, line_at}
+use Rattle.pp_grammar.specs.Kinds.{is_kind, is_name, begins_expression}
 use Rattle.pp_grammar.proofs.Reader.Expressions.{postfixed}
 use Rattle.pp_grammar.specs.Places.{Within, Stands, Many}
-use Rattle.pp_grammar.specs.Expressions.{begins_postfix, is_variable, is_bracket, prefix_at, IsCallOrName, IsQuoted, IsCondition, IsPrimary, IsPostfix, IsValue, IsOperand, IsBinary, IsWhole}
+use Rattle.pp_grammar.specs.Operators.{prefix_at}
+use Rattle.pp_grammar.specs.Expressions.{begins_postfix, is_variable, is_bracket, IsCallOrName, IsQuoted, IsCondition, IsPrimary, IsPostfix, IsValue, IsOperand, IsBinary, IsWhole}
 use Rattle.pp_grammar.proofs.Complete.Steps.{word_there, fits_there}
 
 -- what a value begins with that is no name, type or variable

@@ -11,9 +11,9 @@ use Rattle.pp_tree.specs.declared.definition.NodeName.{NodeName}
 use Rattle.pp_tree.specs.declared.definition.Definition.{Definition}
 use Rattle.pp_tree.specs.declared.definition.Definition.TheVariants as definitions
 use Rattle.pp_tree.specs.Building.{class_of, define_of, node_of}
-use Rattle.pp_parser.specs.Input.{Input, ◌<$>◌, kind, turns}
+use Rattle.pp_grammar.proofs.Reader.Input.{Input, ◌<$>◌, kind, turns}
 use Rattle.pp_grammar.proofs.Reader.Inner.{Inner, param_in}
-use Rattle.pp_parser.specs.Kinds.{is_kind, same_kind, is_name}
+use Rattle.pp_grammar.specs.Kinds.{is_kind, same_kind, is_name}
 use Rattle.pp_grammar.proofs.Reader.Definitions.{name_rule, params, params_by, optional_params, inherits_by, optional_inherits, class, define, plain_text, taken_text, node_name_by, node_name_rule, node_names_from, node_names, node}
 use Rattle.pp_grammar.specs.Places.{Within, Stands, Maybe}
 use Rattle.pp_grammar.specs.Expressions.{InnerParam, IsBlock}

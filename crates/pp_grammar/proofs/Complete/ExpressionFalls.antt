@@ -15,8 +15,8 @@ use Rattle.pp_tree.specs.declared.conditions.CaseOption.{CaseOption}
 use Rattle.pp_tree.specs.declared.conditions.Elsif.{Elsif}
 use Rattle.pp_parser.specs.declared.goal.Goal.TheVariants as goal
 use Rattle.pp_parser.specs.declared.goal.Part.TheVariants as part
-use Rattle.pp_parser.specs.Input.{Input}
-use Rattle.pp_parser.specs.Kinds.{is_kind, is_bar}
+use Rattle.pp_grammar.proofs.Reader.Input.{Input}
+use Rattle.pp_grammar.specs.Kinds.{is_kind, is_bar}
 use Rattle.pp_grammar.specs.Places.{Within, Separated, SeparatedSome, Maybe}
 use Rattle.pp_grammar.specs.Expressions.{begins_lambda, begins_piece, begins_postfix, Inner, InnerParam, InnerOption, IsBlock, AreArguments, OptionalArguments, IsLambda, IsCallOrName, IsPiece, IsFirstRun, IsQuoted, IsCondition, IsElsif, IsElse, IsPair, IsPrimary, IsPostfix, IsValue, IsOperand, IsBinary, AreOperations, IsWhole, IsNameThere, IsValueThere, IsBinaryThere, IsInterpolated, IsDefault, IsParam, IsCaseOption}
 use Rattle.pp_grammar.proofs.Complete.Steps.{stands_falls}

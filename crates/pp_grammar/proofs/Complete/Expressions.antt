@@ -14,13 +14,14 @@ use Rattle.pp_tree.specs.Building.{expr_at, operation}
 use Rattle.pp_parser.specs.declared.goal.Goal.TheVariants as goal
 use Rattle.pp_parser.specs.declared.goal.Part.TheVariants as part
 use Rattle.pp_parser.specs.declared.started.Started.{Started}
-use Rattle.pp_parser.specs.Input.{Input, Parser, ◌<$>◌, kind, line_at, take, repeat, repeat_from, turns}
+use Rattle.pp_grammar.proofs.Reader.Input.{Input, Parser, ◌<$>◌, kind, line_at, take, repeat, repeat_from, turns}
 use Rattle.pp_grammar.proofs.Reader.Inner.{Inner}
-use Rattle.pp_parser.specs.Keys.{noting}
-use Rattle.pp_parser.specs.Kinds.{is_kind, is_name}
+use Rattle.pp_grammar.proofs.Reader.Keys.{noting}
+use Rattle.pp_grammar.specs.Kinds.{is_kind, is_name}
 use Rattle.pp_grammar.proofs.Reader.Expressions.{operator_at, chained, postfixed, started, access, list, pair_rule, hash, parentheses, named, elsif_rule, if_rule, unless_rule, case_options, case_rule, primary_by, primary, method, selector, postfix_by, postfix_rule, postfixes, value, prefixed, operand_by, operand, operand_from, operation_rule, chain}
 use Rattle.pp_grammar.specs.Places.{Within, Stands, Opens, Many, SeparatedSome, before}
-use Rattle.pp_grammar.specs.Expressions.{begins_postfix, is_variable, is_bracket, prefix_at, Inner as InnerExpr, InnerOption, IsCallOrName, IsElsif, IsPair, IsPrimary, IsPostfix, IsValue, IsOperand, IsBinary, AreOperations}
+use Rattle.pp_grammar.specs.Operators.{prefix_at}
+use Rattle.pp_grammar.specs.Expressions.{begins_postfix, is_variable, is_bracket, Inner as InnerExpr, InnerOption, IsCallOrName, IsElsif, IsPair, IsPrimary, IsPostfix, IsValue, IsOperand, IsBinary, AreOperations}
 use Rattle.pp_grammar.proofs.Complete.Steps.{stands_falls, kind_there, line_there, word_there, fits_there, take_gives, expect_gives, expect_any_gives}
 use Rattle.pp_grammar.proofs.Complete.Lists.{GivenSome, Stops, one_more, repeat_more, repeat_end, repeat_gives, separated_gives, some_gives}
 use Rattle.pp_grammar.proofs.Complete.Within.{IsComplete, inner_option_falls, open_gives, whole_in_gives, operand_in_gives}
@@ -69,7 +70,7 @@ module _ (inner : Inner) (N : Within) (c : IsComplete inner N) where
   primary_read {bars = bars} (IsPrimary.list i j l m bracket opener closer xs e o ds s) =
       rw (word_there o.token, by_bracket bars bracket i e, open_gives inner N c bracket o, wholes_complete inner N c k.CloseBracket ds, expect_gives k.CloseBracket s) refl
   primary_read (IsPrimary.hash i j l m opener closer ps o ds s) =
-      rw (word_there o.token, open_gives inner N c k.OpenBrace o, separated_gives (IsPair N) (λ g h p d. pair_falls N c.falling g h p d) (is_kind k.CloseBrace) k.Comma (pair_rule inner) (pair_complete inner N c) ds, expect_gives k.CloseBrace s) refl
+      rw (word_there o.token, open_gives inner N c k.OpenBrace o, separated_gives (IsPair N) (λ g h p d. pair_falls N c.falling g h p d) (is_kind k.CloseBrace) k.Comma (pair_rule inner) (pair_complete inner N c) ds, expect_gives k.CloseBrace s, c.keys) refl
   primary_read (IsPrimary.parentheses i j l m opener closer x o d s) = rw (word_there o.token, open_gives inner N c k.OpenParen o, whole_in_gives inner N c false j l x d, expect_gives k.CloseParen s) refl
   primary_read (IsPrimary.if_word i j l m n x ss es last d b ds e) =
       rw (condition_begins N d, condition_complete inner N c k.If d, block_complete inner N c b, repeat_gives (IsElsif N) (λ g h y r. elsif_falls N c.falling g h y r) (is_kind k.Elsif) (elsif_rule inner) (elsif_stops inner N c) (elsif_given inner N c) ds, otherwise_complete inner N c e) refl

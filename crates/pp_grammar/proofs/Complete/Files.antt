@@ -23,13 +23,13 @@ use Rattle.pp_parser.specs.declared.goal.Part.{Part}
 use Rattle.pp_parser.specs.declared.goal.Part.TheVariants as part
 use Rattle.pp_parser.specs.declared.item.Item.{Item}
 use Rattle.pp_parser.specs.declared.item.Item.TheVariants as item
-use Rattle.pp_parser.specs.Input.{Input, Outcome, ◌<$>◌, kind, line_at, eat, turns}
+use Rattle.pp_grammar.proofs.Reader.Input.{Input, Outcome, ◌<$>◌, kind, line_at, eat, turns}
 use Rattle.pp_grammar.proofs.Reader.Inner.{Inner}
-use Rattle.pp_parser.specs.Kinds.{is_kind, same_kind, is_name, begins_expression}
+use Rattle.pp_grammar.specs.Kinds.{is_kind, same_kind, is_name, begins_expression}
 use Rattle.pp_grammar.proofs.Reader.Statements.{Read, name_of, names_resource, resource, chain_from, statement_rule}
 use Rattle.pp_parser.specs.declared.found.Found.{Found}
 use Rattle.pp_grammar.proofs.Reader.Definitions.{nothing_yet, with_statement, with_definition, class, read_of, class_item_by, class_item, item_by, item_rule, ends_file, manifest_from, main_manifest, module_item, module_from, module_file}
-use Rattle.pp_grammar.proofs.Reader.Levels.{part_by, within_to}
+use Rattle.pp_grammar.proofs.Reader.Levels.{part_by, within_to, deepest_to, read_to}
 use Rattle.pp_grammar.specs.Places.{Within, Stands, Many}
 use Rattle.pp_grammar.specs.Statements.{marks, is_arrow, IsResource, IsCollector, IsReference, IsExpressionOperand, IsOperand, IsLink, IsChain, IsStatement}
 use Rattle.pp_grammar.specs.Files.{IsName, IsClassOrDefine, IsDefinition, IsMain, IsModule, IsPart, LevelsTo}
@@ -366,12 +366,12 @@ part_complete inner N c goal.Query i j (part.Query x) d = rw (query_complete inn
 part_complete inner N c _ i j _ d = absurd d
 
 pub within_complete : (behind levels more : ℕ) → IsComplete (within_to behind levels more) (LevelsTo behind levels more)
-unfolding within_to LevelsTo
-within_complete behind zero zero = record { deepest = refl; reads = λ g i j p d. absurd d; falling = levels_fall behind zero zero }
+unfolding deepest_to read_to LevelsTo
+within_complete behind zero zero = record { deepest = refl; keys = refl; reads = λ g i j p d. absurd d; falling = levels_fall behind zero zero }
 within_complete behind zero (suc more) =
-    record { deepest = refl; reads = part_complete (within_to behind zero more) (LevelsTo behind zero more) (within_complete behind zero more); falling = levels_fall behind zero (suc more) }
+    record { deepest = refl; keys = refl; reads = part_complete (within_to behind zero more) (LevelsTo behind zero more) (within_complete behind zero more); falling = levels_fall behind zero (suc more) }
 within_complete behind (suc levels) more =
-    record { deepest = refl; reads = part_complete (within_to behind levels more) (LevelsTo behind levels more) (within_complete behind levels more); falling = levels_fall behind (suc levels) more }
+    record { deepest = refl; keys = refl; reads = part_complete (within_to behind levels more) (LevelsTo behind levels more) (within_complete behind levels more); falling = levels_fall behind (suc levels) more }
 
 -- ---- files
 

@@ -1,7 +1,7 @@
 -- Lists: what stands as a list is read as that list, where each item is, and takes a token.
 use Rattle.std.proofs.Common.{◌≡◌, ℕ, zero, suc, ◌<◌, ◌≤◌, Bool, true, false, List, [], ◌∷◌, ◌++◌, length, Option, Some, None, Ok, refl, ap, ◌∙◌, append_assoc, append-nil, arith}
 use Rattle.pp_lexer.specs.declared.kind.Kind.{Kind}
-use Rattle.pp_parser.specs.Input.{Input, Parser, kind, repeat_from, repeat, separated_from, separated, separated_some, turns}
+use Rattle.pp_grammar.proofs.Reader.Input.{Input, Parser, kind, repeat_from, repeat, separated_from, separated, separated_some, turns}
 use Rattle.pp_grammar.specs.Places.{Phrase, Many, Separated, SeparatedSome, Maybe}
 use Rattle.pp_grammar.proofs.Complete.Steps.{eat_gives, eat_leaves, stands_falls}
 

@@ -19,9 +19,9 @@ use Rattle.pp_tree.specs.declared.resource.Attribute.{Attribute}
 use Rattle.pp_tree.specs.declared.collector.Query.{Query}
 use Rattle.pp_tree.specs.declared.collector.Collector.{Collector}
 use Rattle.pp_tree.specs.Building.{expr_at, chain as chain_of, resource as resource_of, collector as collector_of}
-use Rattle.pp_parser.specs.Input.{Input, ◌>>=◌, ◌<$>◌, kind}
+use Rattle.pp_grammar.proofs.Reader.Input.{Input, ◌>>=◌, ◌<$>◌, kind}
 use Rattle.pp_grammar.proofs.Reader.Inner.{Inner}
-use Rattle.pp_parser.specs.Kinds.{is_kind, same_kind, is_name, begins_expression}
+use Rattle.pp_grammar.specs.Kinds.{is_kind, same_kind, is_name, begins_expression}
 use Rattle.pp_grammar.proofs.Reader.Expressions.{loosest, started, call_or_name, chain, whole}
 use Rattle.pp_grammar.proofs.Reader.Statements.{arrow_at, names_resource, name_of, taken_name, marked, collector, expression_from, behind_name_by, behind_name, behind_type_by, behind_type, operand_by, operand_rule, link_rule, chain_from}
 use Rattle.pp_grammar.specs.Places.{Within, Stands, Opens, Many, Maybe, Begins, before}

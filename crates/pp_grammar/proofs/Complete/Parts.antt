@@ -11,9 +11,9 @@ use Rattle.pp_tree.specs.declared.expr.Lambda.{Lambda}
 use Rattle.pp_tree.specs.declared.param.Param.{Param}
 use Rattle.pp_tree.specs.declared.statement.Statement.{Statement}
 use Rattle.pp_tree.specs.Building.{lambda as lambda_of}
-use Rattle.pp_parser.specs.Input.{Input, ◌>>=◌, ◌>>◌, ◌<$>◌, pure, kind, expect, repeat, separated, separated_some}
+use Rattle.pp_grammar.proofs.Reader.Input.{Input, ◌>>=◌, ◌>>◌, ◌<$>◌, pure, kind, expect, repeat, separated, separated_some}
 use Rattle.pp_grammar.proofs.Reader.Inner.{Inner, whole_in, param_in, case_option_in}
-use Rattle.pp_parser.specs.Kinds.{is_kind, same_kind, is_bar}
+use Rattle.pp_grammar.specs.Kinds.{is_kind, same_kind, is_bar}
 use Rattle.pp_grammar.proofs.Reader.Expressions.{pieces, block, arguments, arguments_by, optional_arguments, pair_rule, lambda_from, lambda_by, optional_lambda, call_or_name_by, call_or_name, interpolation, piece_by, piece_rule, text_by, text_after, quoted_by, quoted, otherwise_by, otherwise, condition, elsif_by, elsif_rule, case_options_by, case_options}
 use Rattle.pp_grammar.specs.Places.{Within, Stands, Opens, Many, Separated, SeparatedSome, Maybe}
 use Rattle.pp_grammar.specs.Expressions.{begins_lambda, begins_piece, Inner as InnerExpr, InnerParam, InnerOption, IsBlock, AreArguments, OptionalArguments, IsLambda, IsCallOrName, IsPiece, IsFirstRun, IsQuoted, IsCondition, IsElsif, IsElse, IsPair}

@@ -12,9 +12,9 @@ use Rattle.pp_tree.specs.declared.collector.Query.{Query}
 use Rattle.pp_tree.specs.declared.resource.Attribute.TheVariants as attribute_form
 use Rattle.pp_tree.specs.declared.collector.Test.TheVariants as test_form
 use Rattle.pp_tree.specs.Building.{setting as setting_of, comparison as comparison_of, resource as resource_of, collector as collector_of}
-use Rattle.pp_parser.specs.Input.{Input, Parser, kind, take}
+use Rattle.pp_grammar.proofs.Reader.Input.{Input, Parser, kind, take}
 use Rattle.pp_grammar.proofs.Reader.Inner.{Inner}
-use Rattle.pp_parser.specs.Kinds.{is_kind, same_kind, is_word, ends_body}
+use Rattle.pp_grammar.specs.Kinds.{is_kind, same_kind, is_word, ends_body}
 use Rattle.pp_grammar.proofs.Reader.Statements.{assigns_by, assigns, setting_rule, splat_rule, attribute_by, attribute, attributes, body, resource, compares_by, compares, comparison_rule, query_in_parentheses, test_by, test_rule, another_by, another, conjunction_rule, query, optional_query, settings_by, optional_settings, collector}
 use Rattle.pp_grammar.specs.Places.{Phrase, Within, Stands, Opens, Maybe}
 use Rattle.pp_grammar.specs.Expressions as phrase

@@ -13,8 +13,8 @@ use Rattle.pp_tree.specs.declared.collector.Collector.{Collector}
 use Rattle.pp_tree.specs.declared.collector.Query.{Query}
 use Rattle.pp_parser.specs.declared.goal.Goal.TheVariants as goal
 use Rattle.pp_parser.specs.declared.goal.Part.TheVariants as part
-use Rattle.pp_parser.specs.Input.{Input}
-use Rattle.pp_parser.specs.Kinds.{is_kind, ends_body}
+use Rattle.pp_grammar.proofs.Reader.Input.{Input}
+use Rattle.pp_grammar.specs.Kinds.{is_kind, ends_body}
 use Rattle.pp_grammar.specs.Places.{Phrase, Within}
 use Rattle.pp_grammar.specs.Expressions.{Inner}
 use Rattle.pp_grammar.specs.Statements.{closes_query, is_arrow, IsAttribute, AreAttributes, IsBody, AreBodies, IsResource, IsTest, IsJoined, IsConjunction, IsQuery, InnerQuery, AreSettings, IsCollector, IsReference, IsExpressionOperand, IsOperand, IsLink, IsChain, AreWords, IsStatement, IsEnd, AreStatements}

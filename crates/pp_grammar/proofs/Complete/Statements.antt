@@ -17,9 +17,9 @@ use Rattle.pp_tree.specs.declared.resource.Attribute.{Attribute}
 use Rattle.pp_tree.specs.declared.resource.Reference.{Reference}
 use Rattle.pp_tree.specs.Building.{expr_at, reference as reference_of, chain as chain_of, words as words_of, override as override_of, defaults as defaults_of}
 use Rattle.pp_parser.specs.declared.started.Started.{Started}
-use Rattle.pp_parser.specs.Input.{Input, Outcome, ◌>>=◌, kind, line_at, eat, turns}
+use Rattle.pp_grammar.proofs.Reader.Input.{Input, Outcome, ◌>>=◌, kind, line_at, eat, turns}
 use Rattle.pp_grammar.proofs.Reader.Inner.{Inner}
-use Rattle.pp_parser.specs.Kinds.{is_kind, same_kind, is_name}
+use Rattle.pp_grammar.specs.Kinds.{is_kind, same_kind, is_name}
 use Rattle.pp_grammar.proofs.Reader.Expressions.{loosest, postfixed, access, operand_from, chain}
 use Rattle.pp_grammar.proofs.Reader.Statements.{Read, name_of, expression_from, behind_name, behind_type, operand_rule, chain_from, defaults_rule, override_rule, reference_by, reference_rule, typed_by, typed, words, function_by, function, statement_by, statement_rule, ends_block, statements_from, statements}
 use Rattle.pp_grammar.specs.Places.{Within, Stands, Many, Begins}

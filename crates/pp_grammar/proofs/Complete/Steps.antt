@@ -4,9 +4,9 @@ use denote.Enum.Bare.{same_true, true_same}
 use Rattle.pp_lexer.specs.declared.kind.Kind.{Kind}
 use Rattle.pp_lexer.specs.contracts.kind.Kind.{the_type}
 use Rattle.pp_lexer.specs.declared.token.Token.{Token}
-use Rattle.pp_parser.specs.Input.{Input, kind, kind_at, line_at, take, sees, expect, expect_any, eat, open_level}
+use Rattle.pp_grammar.proofs.Reader.Input.{Input, kind, kind_at, line_at, take, sees, expect, expect_any, eat, open_level}
 use Rattle.pp_grammar.proofs.Reader.Inner.{Inner, opening}
-use Rattle.pp_parser.specs.Kinds.{is_kind, same_kind}
+use Rattle.pp_grammar.specs.Kinds.{is_kind, same_kind}
 use Rattle.pp_grammar.specs.Places.{Stands, Within, Opens}
 
 -- a kind that is this one

@@ -12,10 +12,10 @@ use Rattle.pp_tree.specs.declared.param.Param.{Param}
 use Rattle.pp_tree.specs.declared.conditions.CaseOption.{CaseOption}
 use Rattle.pp_tree.specs.Building.{expr_at}
 use Rattle.pp_parser.specs.declared.started.Started.{Started}
-use Rattle.pp_parser.specs.Input.{Input, kind, line_at, turns}
+use Rattle.pp_grammar.proofs.Reader.Input.{Input, kind, line_at, turns}
 use Rattle.pp_grammar.proofs.Reader.Inner.{Inner}
-use Rattle.pp_parser.specs.Kinds.{is_kind, same_kind, is_name}
-use Rattle.pp_parser.specs.Params.{param_from}
+use Rattle.pp_grammar.specs.Kinds.{is_kind, same_kind, is_name}
+use Rattle.pp_grammar.proofs.Reader.Params.{param_from}
 use Rattle.pp_grammar.proofs.Reader.Expressions.{loosest, chained, postfixed, started, call_or_name, operand_from, operation_rule, chain, assigned_by, assigned, whole_by, whole, variable_or_call_by, variable_or_call, begun_by_name, interpolated, default_by, default_rule, typed_param, param_by, param_rule, case_option}
 use Rattle.pp_grammar.specs.Places.{Within, Stands, Begins}
 use Rattle.pp_grammar.specs.Expressions.{is_variable, follows_variable, AreOperations, IsWhole, IsNameThere, IsValueThere, IsBinaryThere, IsInterpolated, IsDefault, AsParam, IsParam, IsCaseOption}

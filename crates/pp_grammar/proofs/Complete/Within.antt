@@ -8,8 +8,9 @@ use Rattle.pp_parser.specs.declared.goal.Goal.{Goal}
 use Rattle.pp_parser.specs.declared.goal.Goal.TheVariants as goal
 use Rattle.pp_parser.specs.declared.goal.Part.{Part}
 use Rattle.pp_parser.specs.declared.goal.Part.TheVariants as part
-use Rattle.pp_parser.specs.Input.{Input}
+use Rattle.pp_grammar.proofs.Reader.Input.{Input}
 use Rattle.pp_grammar.proofs.Reader.Inner.{Inner, opening, whole_in, operand_in, interpolated_in, param_in, statements_in, case_option_in, query_in}
+use Rattle.pp_grammar.specs.Keys.{doubled_key}
 use Rattle.pp_grammar.specs.Places.{Within, Opens}
 use Rattle.pp_grammar.specs.Expressions as phrase
 use Rattle.pp_grammar.specs.Statements.{InnerQuery}
@@ -27,6 +28,7 @@ pub record IsFalling (N : Within) : Type 0 where
 -- what stands there by the relation, the function reads
 pub record IsComplete (inner : Inner) (N : Within) : Type 0 where
   pub deepest : inner.is_deepest ≡ N.is_deepest
+  pub keys : inner.doubled_key ≡ doubled_key
   pub reads : (g : Goal) (i j : Input) (p : Part) → N.reads g i p j → inner.read g i ≡ Ok (p, j)
   pub falling : IsFalling N
 

@@ -7,9 +7,9 @@ use Rattle.pp_tree.specs.declared.definition.Name.{Name}
 use Rattle.pp_tree.specs.declared.expr.Expr.{Expr}
 use Rattle.pp_tree.specs.Building.{expr_at}
 use Rattle.pp_parser.specs.declared.argument.WordArgument.TheVariants as argument
-use Rattle.pp_parser.specs.Input.{Input, Outcome, ◌>>=◌, pure, kind, kind_at}
+use Rattle.pp_grammar.proofs.Reader.Input.{Input, Outcome, ◌>>=◌, pure, kind, kind_at}
 use Rattle.pp_grammar.proofs.Reader.Inner.{Inner}
-use Rattle.pp_parser.specs.Kinds.{is_kind, same_kind, is_name, begins_expression}
+use Rattle.pp_grammar.specs.Kinds.{is_kind, same_kind, is_name, begins_expression}
 use Rattle.pp_grammar.proofs.Reader.Expressions.{loosest, started, call_or_name, chain}
 use Rattle.pp_grammar.proofs.Reader.Statements.{name_of, argument_from_by, argument_from, argument_rule, words_from}
 use Rattle.pp_grammar.specs.Places.{Within, Stands, Begins}

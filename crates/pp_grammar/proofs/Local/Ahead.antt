@@ -2,8 +2,8 @@
 use Rattle.std.specs.Prelude.{◌≡◌, ◌≢◌, ℕ, ◌≤◌, ◌<◌, List, ◌++◌, length, Ok, Err}
 use Rattle.pp_lexer.specs.declared.token.Token.{Token}
 use Rattle.pp_parser.specs.declared.refusal.Refusal.TheVariants as refusals
-use Rattle.pp_parser.specs.Input.{Input, Outcome, Parser}
-use Rattle.pp_parser.specs.Manifest.{start}
+use Rattle.pp_grammar.proofs.Reader.Input.{Input, Outcome, Parser}
+use Rattle.pp_grammar.proofs.Reader.Manifest.{start}
 use Rattle.pp_grammar.specs.Laws.{SameHead}
 
 -- it goes on past a place

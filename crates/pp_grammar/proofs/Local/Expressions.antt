@@ -1,18 +1,21 @@
 -- Expressions look at the next token alone.
-use Rattle.std.proofs.Common.{ℕ, zero, suc, Bool, true, false, List, [], Option, Some, None}
+use Rattle.std.proofs.Common.{subst, ℕ, zero, suc, Bool, true, false, List, [], Option, Some, None}
 use Rattle.pp_lexer.specs.declared.kind.Kind.{Kind}
 use Rattle.pp_lexer.specs.declared.kind.Kind.TheVariants as k
-use Rattle.pp_parser.specs.Input.{Parser}
+use Rattle.pp_grammar.proofs.Reader.Input.{Parser}
 use Rattle.pp_grammar.proofs.Reader.Inner.{Inner}
-use Rattle.pp_parser.specs.Kinds.{is_name}
+use Rattle.pp_grammar.specs.Kinds.{is_name}
 use Rattle.pp_tree.specs.Layers.{FormLayer}
-use Rattle.pp_parser.specs.Params.{is_simple, param_by_form, param_from}
+use Rattle.pp_grammar.proofs.Reader.Params.{param_by_form, param_from}
+use Rattle.pp_grammar.specs.Names.{is_simple}
 use Rattle.pp_parser.specs.declared.started.Started.{Started}
 use Rattle.pp_tree.specs.declared.operators.BinaryOperator.{BinaryOperator}
 use Rattle.pp_tree.specs.declared.operators.PrefixOperator.{PrefixOperator}
 use Rattle.pp_tree.specs.declared.operators.PrefixOperator.TheVariants as prefix
 use Rattle.pp_tree.specs.declared.collector.Test.TheOpen.{Form-F}
 use Rattle.pp_tree.specs.declared.expr.Expr.{Expr}
+use Rattle.pp_tree.specs.declared.expr.Pair.{Pair}
+use Rattle.pp_grammar.proofs.Reader.Keys.{noting}
 use Rattle.pp_tree.specs.declared.expr.Form.{out-Form}
 use Rattle.pp_tree.specs.declared.expr.Form.TheVariants as form
 use Rattle.pp_tree.specs.Building.{expr_at, form_of, case_option as option_of_case}
@@ -59,9 +62,12 @@ module _ {c : Cut} {a b : Inner} (I : InnerLocal c a b) where
   unfolding pair_rule
   pair_rule_local = bind_local (whole_in_local I false) (λ _. bind_local (expect_local _) (λ _. bind_local (whole_in_local I false) (λ _. pure_local _)))
 
+  noted_local : {d : Bool} (pairs : List (Pair Expr)) → IsLocal c d any (noting a.doubled_key pairs) (noting b.doubled_key pairs)
+  noted_local {d = d} pairs = subst (λ (keys : List (Pair Expr) → Option ℕ). IsLocal c d any (noting a.doubled_key pairs) (noting keys pairs)) I.keys (noting_local a.doubled_key pairs)
+
   pub hash_local : {d : Bool} → IsLocal c d one (hash a) (hash b)
   unfolding hash
-  hash_local = opening_local I k.OpenBrace (λ _. bind_local (separated_local _ _ pair_rule_local) (λ pairs. bind_local (expect_local _) (λ _. bind_local (noting_local pairs) (λ _. pure_local _))))
+  hash_local = opening_local I k.OpenBrace (λ _. bind_local (separated_local _ _ pair_rule_local) (λ pairs. bind_local (expect_local _) (λ _. bind_local (noted_local pairs) (λ _. pure_local _))))
 
   pub parentheses_local : {d : Bool} → IsLocal c d one (parentheses a) (parentheses b)
   unfolding parentheses

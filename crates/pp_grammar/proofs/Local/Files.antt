@@ -9,7 +9,7 @@ use Rattle.pp_tree.specs.declared.resource.ResourceForm.TheVariants as resource_
 use Rattle.pp_tree.specs.Building.{node_name as node_name_at}
 use Rattle.pp_parser.specs.declared.item.Item.{Item}
 use Rattle.pp_parser.specs.declared.item.Item.TheVariants as item
-use Rattle.pp_parser.specs.Input.{Input, Parser, ◌>>=◌, ◌>>◌, pure, kind, eat}
+use Rattle.pp_grammar.proofs.Reader.Input.{Input, Parser, ◌>>=◌, ◌>>◌, pure, kind, eat}
 use Rattle.pp_grammar.proofs.Reader.Inner.{Inner}
 use Rattle.pp_parser.specs.declared.found.Found.{Found}
 use Rattle.pp_grammar.proofs.Reader.Definitions.{nothing_yet, with_definition, found_with, pending_of, taken_text, name_rule, params, params_by, optional_params, inherits_by, optional_inherits, class, define, plain_by, plain_text, node_name_by, node_name_rule, node_names_from, node_names, node, read_of, class_item_by, class_item, item_by, item_rule, ends_file, manifest_from, main_manifest, module_item_by, module_item, module_from, module_file}

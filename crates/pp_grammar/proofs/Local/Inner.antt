@@ -6,7 +6,7 @@ use Rattle.pp_parser.specs.declared.goal.Goal.{Goal}
 use Rattle.pp_parser.specs.declared.goal.Goal.TheVariants as goal
 use Rattle.pp_parser.specs.declared.goal.Part.{Part}
 use Rattle.pp_parser.specs.declared.goal.Part.TheVariants as part
-use Rattle.pp_parser.specs.Input.{Parser, ◌>>=◌}
+use Rattle.pp_grammar.proofs.Reader.Input.{Parser, ◌>>=◌}
 use Rattle.pp_grammar.proofs.Reader.Inner.{Inner, opening, expr_of, param_of, block_of, case_option_of, query_of, whole_in, operand_in, interpolated_in, param_in, statements_in, case_option_in, query_in}
 use Rattle.pp_grammar.proofs.Local.Steps.{Cut, IsLocal, any, one, bind_local, first_local, Opening, open_local, pure_local, refuse_local}
 
@@ -14,6 +14,7 @@ pub record InnerLocal (c : Cut) (inner outer : Inner) : Type 0 where
   -- the first one may open no level anywhere
   pub deepest : Bool
   pub opening : Opening c deepest inner.is_deepest outer.is_deepest
+  pub keys : inner.doubled_key ≡ outer.doubled_key
   pub reads : (goal : Goal) → IsLocal c deepest any (inner.read goal) (outer.read goal)
   -- an option of a case takes a token
   pub options : IsLocal c deepest one (inner.read goal.CaseOption) (outer.read goal.CaseOption)

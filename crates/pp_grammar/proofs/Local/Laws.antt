@@ -4,10 +4,10 @@ use Rattle.std.proofs.lemmas.List.{take-append-drop}
 use Rattle.std.proofs.Math.Decide.{dec_le}
 use Rattle.pp_lexer.specs.declared.token.Token.{Token}
 use Rattle.pp_parser.specs.declared.refusal.Refusal.TheVariants as refusals
-use Rattle.pp_parser.specs.Input.{Input, Outcome, Parser}
+use Rattle.pp_grammar.proofs.Reader.Input.{Input, Outcome, Parser}
 use Rattle.pp_grammar.proofs.Reader.Levels.{within}
 use Rattle.pp_grammar.proofs.Reader.Definitions.{main_manifest, module_file}
-use Rattle.pp_parser.specs.Manifest.{start}
+use Rattle.pp_grammar.proofs.Reader.Manifest.{start}
 use Rattle.pp_grammar.specs.Laws.{SameHead}
 use Rattle.pp_grammar.proofs.Local.Ahead.{Past, RefusedAt, DeepAt, LooksAtNext}
 use Rattle.pp_grammar.proofs.Local.Steps.{Cut, Alike, at_it, before_it, AlikeAt, Falls, Follows, Deepens, IsLocal, any}

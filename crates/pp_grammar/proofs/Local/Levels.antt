@@ -4,9 +4,9 @@ use Rattle.std.proofs.lemmas.Bool.{lt-ltb, ltb-true, le-ltb, ltb-false}
 use Rattle.pp_parser.specs.declared.goal.Goal.{Goal}
 use Rattle.pp_parser.specs.declared.goal.Goal.TheVariants as goal
 use Rattle.pp_parser.specs.declared.goal.Part.{Part}
-use Rattle.pp_parser.specs.Input.{Input, refuse}
+use Rattle.pp_grammar.proofs.Reader.Input.{Input, refuse}
 use Rattle.pp_grammar.proofs.Reader.Inner.{Inner}
-use Rattle.pp_grammar.proofs.Reader.Levels.{part_by, within_to, within}
+use Rattle.pp_grammar.proofs.Reader.Levels.{part_by, within_to, within, deepest_to, read_to}
 use Rattle.pp_grammar.proofs.Local.Steps.{Cut, AlikeAt, IsLocal, any, one, Opening, same_length, bind_local, first_local, pure_local, refuse_local}
 use Rattle.pp_grammar.proofs.Local.Inner.{InnerLocal}
 use Rattle.pp_grammar.proofs.Local.Expressions.{whole_local, operand_local, interpolated_local, param_rule_local, case_option_local}
@@ -46,17 +46,19 @@ same_opening deepest x shut alike = record {
 }
 
 pub itself : (behind levels more : ℕ) → InnerLocal nowhere (within_to behind levels more) (within_to behind levels more)
-unfolding within_to
-itself behind zero zero = record { deepest = true; opening = same_opening true (λ _. true) (λ e i. refl) (λ i j e. refl); reads = λ g. refuse_local; options = refuse_local }
+unfolding deepest_to read_to
+itself behind zero zero = record { deepest = true; opening = same_opening true (λ _. true) (λ e i. refl) (λ i j e. refl); keys = refl; reads = λ g. refuse_local; options = refuse_local }
 itself behind zero (suc more) = record {
   deepest = false;
   opening = same_opening false (λ i. ltb behind (length i.left)) (λ e i. absurd cc) (λ i j e. ap (ltb behind) e);
+  keys = refl;
   reads = part_local (itself behind zero more);
   options = option_local (itself behind zero more);
 }
 itself behind (suc levels) more = record {
   deepest = false;
   opening = same_opening false (λ _. false) (λ e i. absurd cc) (λ i j e. refl);
+  keys = refl;
   reads = part_local (itself behind levels more);
   options = option_local (itself behind levels more);
 }
@@ -80,25 +82,26 @@ open_both = record { shut = λ e i. absurd cc; opens = λ i j h e. refl; deeper 
 -- ---- as many levels everywhere, or more
 
 equal_levels : (c : Cut) (n : ℕ) → ((k : ℕ) → c.deeper k ≡ false) → InnerLocal c (within n) (within n)
-unfolding within_to
+unfolding deepest_to read_to
 equal_levels c zero same = record {
   deepest = true;
   opening = record { shut = λ e i. refl; opens = λ i j h e. e; deeper = λ i j h e. let w = same (length i.left) in absurd cc; equal = λ i j h e. refl };
+  keys = refl;
   reads = λ g. refuse_local;
   options = refuse_local;
 }
-equal_levels c (suc n) same = let I = equal_levels c n same in record { deepest = false; opening = open_both; reads = part_local I; options = option_local I }
+equal_levels c (suc n) same = let I = equal_levels c n same in record { deepest = false; opening = open_both; keys = refl; reads = part_local I; options = option_local I }
 
 -- Levels up to a place and behind it, and more levels than these everywhere.
 pub more_levels : (c : Cut) (behind levels more n : ℕ) → ((k : ℕ) → c.deeper k ≡ true) → levels + more < n → InnerLocal c (within_to behind levels more) (within n)
-unfolding within_to
+unfolding deepest_to read_to
 more_levels c behind zero zero zero all h = absurd (omega arith)
-more_levels c behind zero zero (suc n) all h = record { deepest = true; opening = open_all true (λ _. true) (λ e i. refl) all; reads = refused_reads 0 (suc n) 0; options = refused_options 0 (suc n) 0 }
+more_levels c behind zero zero (suc n) all h = record { deepest = true; opening = open_all true (λ _. true) (λ e i. refl) all; keys = refl; reads = refused_reads 0 (suc n) 0; options = refused_options 0 (suc n) 0 }
 more_levels c behind zero (suc more) zero all h = absurd (omega arith)
 more_levels c behind zero (suc more) (suc n) all h = let I = more_levels c behind zero more n all (omega arith) in
-    record { deepest = false; opening = open_all false (λ i. ltb behind (length i.left)) (λ e i. absurd cc) all; reads = part_local I; options = option_local I }
+    record { deepest = false; opening = open_all false (λ i. ltb behind (length i.left)) (λ e i. absurd cc) all; keys = refl; reads = part_local I; options = option_local I }
 more_levels c behind (suc levels) more zero all h = absurd (omega arith)
-more_levels c behind (suc levels) more (suc n) all h = let I = more_levels c behind levels more n all (omega arith) in record { deepest = false; opening = open_both; reads = part_local I; options = option_local I }
+more_levels c behind (suc levels) more (suc n) all h = let I = more_levels c behind levels more n all (omega arith) in record { deepest = false; opening = open_both; keys = refl; reads = part_local I; options = option_local I }
 
 pub within_local : (c : Cut) (n m : ℕ) → n ≤ m → ((k : ℕ) → c.deeper k ≡ true) × (n < m) ⊎ ((k : ℕ) → c.deeper k ≡ false) × (n ≡ m) → InnerLocal c (within n) (within m)
 within_local c n m h (inl w) = more_levels c 0 n 0 m w.0 (omega (arith, w.1))
@@ -136,18 +139,20 @@ open_sooner deepest x first behind shut late early h = record {
 }
 
 pub more_behind : (first behind levels more greater : ℕ) → first ≤ behind → more < greater → InnerLocal (from_place behind) (within_to first levels more) (within_to behind levels greater)
-unfolding within_to
+unfolding deepest_to read_to
 more_behind first behind zero more zero h k = absurd (omega arith)
 more_behind first behind zero zero (suc greater) h k = record {
   deepest = true;
   opening = open_sooner true (λ _. true) behind behind (λ e i. refl) (λ i e. absurd cc) (λ i e. refl) (omega arith);
+  keys = refl;
   reads = refused_reads behind zero (suc greater);
   options = refused_options behind zero (suc greater);
 }
 more_behind first behind zero (suc more) (suc greater) h k = let I = more_behind first behind zero more greater h (omega arith) in record {
   deepest = false;
   opening = open_sooner false (λ i. ltb first (length i.left)) first behind (λ e i. absurd cc) (λ i e. e) (λ i e. e) h;
+  keys = refl;
   reads = part_local I;
   options = option_local I;
 }
-more_behind first behind (suc levels) more greater h k = let I = more_behind first behind levels more greater h k in record { deepest = false; opening = open_both; reads = part_local I; options = option_local I }
+more_behind first behind (suc levels) more greater h k = let I = more_behind first behind levels more greater h k in record { deepest = false; opening = open_both; keys = refl; reads = part_local I; options = option_local I }

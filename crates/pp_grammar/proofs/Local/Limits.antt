@@ -2,8 +2,8 @@
 use Rattle.std.proofs.Common.{◌≡◌, ℕ, ◌+◌, ◌<◌, ◌≤◌, ltb, Bool, true, false, not, if◌then◌else◌, [], length, Ok, Err, refl, sym, ap, subst, ◌∙◌, arith}
 use Rattle.pp_lexer.specs.declared.token.Token.{Token}
 use Rattle.pp_parser.specs.declared.refusal.Refusal.TheVariants as refusals
-use Rattle.pp_parser.specs.Input.{Input, Outcome}
-use Rattle.pp_parser.specs.Manifest.{start}
+use Rattle.pp_grammar.proofs.Reader.Input.{Input, Outcome}
+use Rattle.pp_grammar.proofs.Reader.Manifest.{start}
 use Rattle.pp_parser.specs.declared.found.Found.{Found}
 use Rattle.pp_grammar.proofs.Reader.Inner.{Inner}
 use Rattle.pp_grammar.proofs.Reader.Levels.{within_to, within}

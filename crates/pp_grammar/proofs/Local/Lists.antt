@@ -1,7 +1,7 @@
 -- Lists look at the next token alone, however many turns they have.
 use Rattle.std.proofs.Common.{◌≡◌, ℕ, zero, suc, ◌+◌, ◌<◌, ◌≤◌, Bool, true, false, if◌then◌else◌, List, [], ◌∷◌, ◌++◌, length, Option, Some, None, Ok, Err, refl, ap, subst, arith}
 use Rattle.pp_lexer.specs.declared.kind.Kind.{Kind}
-use Rattle.pp_parser.specs.Input.{Input, Outcome, Parser, and_then, ◌>>=◌, pure, kind, eat, turns, more_or_done, repeat_from, repeat, separated_from, separated, separated_some}
+use Rattle.pp_grammar.proofs.Reader.Input.{Input, Outcome, Parser, and_then, ◌>>=◌, pure, kind, eat, turns, more_or_done, repeat_from, repeat, separated_from, separated, separated_some}
 use Rattle.pp_grammar.proofs.Local.Steps.{Cut, Falls, Follows, IsLocal, any, if_given, if_true, bind_local, pure_local, refuse_local, peek_local, if_local, eat_local, eat_falls}
 
 -- ---- how many turns there are makes no difference, as long as there are more than tokens

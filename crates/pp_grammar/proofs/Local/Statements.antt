@@ -15,9 +15,9 @@ use Rattle.pp_tree.specs.declared.definition.Name.{Name}
 use Rattle.pp_tree.specs.Building.{body as body_of, words as words_of}
 use Rattle.pp_parser.specs.declared.argument.WordArgument.{WordArgument}
 use Rattle.pp_parser.specs.declared.argument.WordArgument.TheVariants as argument
-use Rattle.pp_parser.specs.Input.{Input, Parser, ◌>>=◌, ◌>>◌, pure, kind, eat}
+use Rattle.pp_grammar.proofs.Reader.Input.{Input, Parser, ◌>>=◌, ◌>>◌, pure, kind, eat}
 use Rattle.pp_grammar.proofs.Reader.Inner.{Inner}
-use Rattle.pp_parser.specs.Kinds.{is_name, begins_expression, ends_body}
+use Rattle.pp_grammar.specs.Kinds.{is_name, begins_expression, ends_body}
 use Rattle.pp_grammar.proofs.Reader.Expressions.{loosest, is_at}
 use Rattle.pp_grammar.proofs.Reader.Statements.{Read, arrow_at, taken_name, assigns_by, assigns, setting_rule, splat_rule, attribute_by, attribute, attributes, body, resource, marked, compares_by, compares, comparison_rule, query_in_parentheses, test_by, test_rule, another_by, another, conjunction_rule, query, optional_query, settings_by, optional_settings, collector, expression_from, behind_name_by, behind_name, behind_type_by, behind_type, operand_by, operand_rule, link_by, link_rule, chain_from, defaults_rule, override_rule, reference_by, reference_rule, typed_by, typed, argument_from_by, argument_from, argument_rule, argument_then, words_from, words, function_by, function, statement_by, statement_rule, ends_block, statements_from, statements}
 use Rattle.pp_grammar.proofs.Local.Steps.{Cut, IsLocal, Falls, any, one, if_given, if_true, bind_by, bind_local, first_local, loose_local, given_local, map_by, none_local, pure_by, pure_local, refuse_local, peek_local, here_local, if_local, take_local, expect_local, expect_any_local, eat_local, eat_falls}

@@ -5,11 +5,12 @@ use Rattle.std.proofs.Math.Decide.{dec_le}
 use Rattle.pp_lexer.specs.declared.kind.Kind.{Kind}
 use Rattle.pp_lexer.specs.declared.token.Token.{Token}
 use Rattle.pp_parser.specs.declared.refusal.Refusal.TheVariants as refusals
-use Rattle.pp_parser.specs.Input.{Input, Outcome, Parser, and_then, ◌>>=◌, ◌<$>◌, pure, kind_at, kind, line_at, peek, here, refuse, taken, take, sees, expect, expect_any, eat, open_level}
-use Rattle.pp_parser.specs.Kinds.{is_kind}
+use Rattle.pp_grammar.proofs.Reader.Input.{Input, Outcome, Parser, and_then, ◌>>=◌, ◌<$>◌, pure, kind_at, kind, line_at, peek, here, refuse, taken, take, sees, expect, expect_any, eat, open_level}
+use Rattle.pp_grammar.specs.Kinds.{is_kind}
 use Rattle.pp_grammar.specs.Laws.{SameHead}
 use Rattle.pp_grammar.proofs.Local.Ahead.{Past}
-use Rattle.pp_parser.specs.Keys.{earlier_line, doubled_key, noting}
+use Rattle.pp_grammar.specs.Keys.{earlier_line, doubled_key}
+use Rattle.pp_grammar.proofs.Reader.Keys.{noting}
 use Rattle.pp_tree.specs.declared.expr.Expr.{Expr}
 use Rattle.pp_tree.specs.declared.expr.Pair.{Pair}
 
@@ -345,12 +346,12 @@ eat_local {c = c} k = record {
   follows = λ s i j h. subst (λ (n : Option Kind). Follows c (if is_kind k (kind i) then and_then (take i) (λ _. pure true) else Ok (false, i)) (if is_kind k n then and_then (take j) (λ _. pure true) else Ok (false, j))) (same_kind c i j h) (eaten_follows c (is_kind k (kind i)) i j h);
 }
 
-pub noting_local : {c : Cut} {deepest : Bool} (pairs : List (Pair Expr)) → IsLocal c deepest any (noting pairs) (noting pairs)
+pub noting_local : {c : Cut} {deepest : Bool} (keys : List (Pair Expr) → Option ℕ) (pairs : List (Pair Expr)) → IsLocal c deepest any (noting keys pairs) (noting keys pairs)
 unfolding noting
-noting_local {c = c} pairs = record {
+noting_local {c = c} keys pairs = record {
   falls = λ i. omega arith;
   falls_too = λ i. omega arith;
-  follows = λ s i j h m. (record { left = j.left; doubled = earlier_line j.doubled (doubled_key pairs) }, refl, record { left = h.left; doubled = ap (λ (d : Option ℕ). earlier_line d (doubled_key pairs)) h.doubled });
+  follows = λ s i j h m. (record { left = j.left; doubled = earlier_line j.doubled (keys pairs) }, refl, record { left = h.left; doubled = ap (λ (d : Option ℕ). earlier_line d (keys pairs)) h.doubled });
 }
 
 -- ---- levels

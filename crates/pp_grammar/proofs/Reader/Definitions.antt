@@ -15,12 +15,39 @@ use Rattle.pp_tree.specs.Building.{class_of, define_of, node_of, node_name as no
 use Rattle.pp_parser.specs.declared.found.Found.{Found}
 use Rattle.pp_parser.specs.declared.item.Item.{Item}
 use Rattle.pp_parser.specs.declared.item.Item.TheVariants as item
-use Rattle.pp_parser.specs.Input.{Parser, ◌>>=◌, ◌>>◌, ◌<$>◌, pure, peek, here, take, refuse, expect, expect_any, eat, turns, separated}
+use Rattle.pp_grammar.proofs.Reader.Input.{Parser, ◌>>=◌, ◌>>◌, ◌<$>◌, pure, peek, here, take, refuse, expect, expect_any, eat, turns, separated}
 use Rattle.pp_grammar.proofs.Reader.Inner.{Inner, opening, param_in}
-use Rattle.pp_parser.specs.Kinds.{is_name}
-pub use Rattle.pp_parser.specs.Definitions.{nothing_yet, with_statement, with_definition, found_with, pending_of, node_name, ends_file, taken_text}
+use Rattle.pp_grammar.specs.Kinds.{is_name}
+pub use Rattle.pp_grammar.specs.Names.{node_name}
 use Rattle.pp_grammar.proofs.Reader.Expressions.{block, is_at}
 use Rattle.pp_grammar.proofs.Reader.Statements.{Read, name_of, taken_name, resource, chain_from, statement_rule}
+
+abbrev pub nothing_yet : Found
+nothing_yet = record { statements = []; definitions = [] }
+
+abbrev pub with_statement : Found → Statement → Found
+with_statement found s = record { statements = found.statements ++ s ∷ []; definitions = found.definitions }
+
+abbrev pub with_definition : Found → Definition → Found
+with_definition found d = record { statements = found.statements; definitions = found.definitions ++ d ∷ [] }
+
+abbrev pub found_with : Found → Item → Found
+found_with found (item.Definition d) = with_definition found d
+found_with found (item.Statement s pending) = with_statement found s
+
+-- the name behind an item that begins the next one
+abbrev pub pending_of : Item → Option Name
+pending_of (item.Definition d) = None
+pending_of (item.Statement s pending) = pending
+
+-- the end of a file, unless the name that begins the next statement was taken already
+abbrev pub ends_file : Option Name → Option Kind → Bool
+ends_file None None = true
+ends_file _ _ = false
+
+-- the next token as a text
+abbrev pub taken_text : Parser (List ℕ)
+taken_text = (λ t. t.text) <$> take
 
 module _ (inner : Inner) where
   unfoldable pub name_rule : Parser Name

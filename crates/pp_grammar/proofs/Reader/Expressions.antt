@@ -22,13 +22,21 @@ use Rattle.pp_tree.specs.declared.conditions.CaseOption.{CaseOption}
 use Rattle.pp_tree.specs.declared.conditions.Elsif.{Elsif}
 use Rattle.pp_tree.specs.Building.{expr_at, line_of, pair, operation, call, lambda, param, elsif, if_of, unless_of, case_of, case_option as option_of_case}
 use Rattle.pp_parser.specs.declared.started.Started.{Started}
-use Rattle.pp_parser.specs.Input.{Parser, ◌>>=◌, ◌>>◌, ◌<$>◌, pure, peek, here, take, refuse, expect, expect_any, repeat, separated, separated_some}
+use Rattle.pp_grammar.proofs.Reader.Input.{Parser, ◌>>=◌, ◌>>◌, ◌<$>◌, pure, peek, here, take, refuse, expect, expect_any, repeat, separated, separated_some}
 use Rattle.pp_grammar.proofs.Reader.Inner.{Inner, opening, whole_in, operand_in, interpolated_in, param_in, statements_in, case_option_in}
-use Rattle.pp_parser.specs.Keys.{noting}
-use Rattle.pp_parser.specs.Kinds.{is_kind, is_name, is_bar}
-unfoldable pub use Rattle.pp_parser.specs.Expressions.{operator_at}
-pub use Rattle.pp_parser.specs.Expressions.{binds, binary_operator, loosest, chained, postfixed, started, is_at, pieces}
-use Rattle.pp_parser.specs.Params.{param_from}
+use Rattle.pp_grammar.proofs.Reader.Keys.{noting}
+use Rattle.pp_grammar.specs.Kinds.{is_kind, is_name, is_bar}
+unfoldable pub use Rattle.pp_grammar.specs.Operators.{operator_at}
+pub use Rattle.pp_grammar.specs.Operators.{strength, binary_operator, loosest}
+pub use Rattle.pp_grammar.specs.Expressions.{chained, postfixed, pieces}
+use Rattle.pp_grammar.proofs.Reader.Params.{param_from}
+
+-- a value and nothing behind it yet
+abbrev pub started : Expr → Started
+started x = record { base = x; postfixes = [] }
+
+abbrev pub is_at : Kind → Option Kind → Bool
+is_at = is_kind
 
 -- The flag `bars` says that the rule stands directly within the bars of a lambda's parameters.
 module _ (inner : Inner) where
@@ -87,7 +95,7 @@ module _ (inner : Inner) where
     opening inner k.OpenBrace
     pairs ← separated (is_at k.CloseBrace) k.Comma pair_rule
     expect k.CloseBrace
-    noting pairs
+    noting inner.doubled_key pairs
     pure (form.Hash pairs)
 
   unfoldable pub parentheses : Parser Form

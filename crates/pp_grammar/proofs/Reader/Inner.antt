@@ -1,8 +1,9 @@
 -- What a rule asks of the readers one level further in.
-use Rattle.std.specs.Prelude.{Bool, List}
+use Rattle.std.specs.Prelude.{ℕ, Bool, List, Option}
 use Rattle.pp_lexer.specs.declared.kind.Kind.{Kind}
 use Rattle.pp_lexer.specs.declared.token.Token.{Token}
 use Rattle.pp_tree.specs.declared.expr.Expr.{Expr}
+use Rattle.pp_tree.specs.declared.expr.Pair.{Pair}
 use Rattle.pp_tree.specs.declared.param.Param.{Param}
 use Rattle.pp_tree.specs.declared.statement.Statement.{Statement}
 use Rattle.pp_tree.specs.declared.conditions.CaseOption.{CaseOption}
@@ -11,13 +12,15 @@ use Rattle.pp_parser.specs.declared.goal.Goal.{Goal}
 use Rattle.pp_parser.specs.declared.goal.Goal.TheVariants as goal
 use Rattle.pp_parser.specs.declared.goal.Part.{Part}
 use Rattle.pp_parser.specs.declared.goal.Part.TheVariants as part
-use Rattle.pp_parser.specs.Input.{Input, Parser, ◌>>=◌, pure, refuse, open_level}
+use Rattle.pp_grammar.proofs.Reader.Input.{Input, Parser, ◌>>=◌, pure, refuse, open_level}
 
 pub record Inner : Type 0 where
   -- whether no level may be opened any more by a token that stands here
   pub is_deepest : Input → Bool
   -- what is read there for a goal
   pub read : Goal → Parser Part
+  -- the line of the first key of these pairs that stands a second time
+  pub doubled_key : List (Pair Expr) → Option ℕ
 
 -- a token of this kind, which opens a level
 abbrev pub opening : Inner → Kind → Parser Token

@@ -28,11 +28,33 @@ use Rattle.pp_parser.specs.declared.argument.WordArgument.TheVariants as argumen
 use Rattle.pp_tree.specs.Building.{expr_at, name_at, reference, chain as chain_of, link, words as words_of, resource as resource_of, body as body_of, setting, splat, override as override_of, defaults as defaults_of, collector as collector_of, query as query_of, conjunction, comparison}
 use Rattle.pp_tree.specs.declared.resource.Attribute.TheVariants as attribute_form
 use Rattle.pp_tree.specs.declared.collector.Test.TheVariants as test_form
-use Rattle.pp_parser.specs.Input.{Parser, ◌>>=◌, ◌>>◌, ◌<$>◌, pure, peek, here, take, refuse, expect, expect_any, eat, repeat, turns, separated, separated_some}
+use Rattle.pp_grammar.proofs.Reader.Input.{Parser, ◌>>=◌, ◌>>◌, ◌<$>◌, pure, peek, here, take, refuse, expect, expect_any, eat, repeat, turns, separated, separated_some}
 use Rattle.pp_grammar.proofs.Reader.Inner.{Inner, opening, whole_in, query_in}
-use Rattle.pp_parser.specs.Kinds.{is_name, is_word, begins_expression, ends_body}
-pub use Rattle.pp_parser.specs.Statements.{arrow_at, names_resource, name_of, taken_name, Read, alone, ends_block}
+use Rattle.pp_grammar.specs.Kinds.{is_name, is_word, begins_expression, ends_body}
+pub use Rattle.pp_grammar.specs.Operators.{arrow_at}
+pub use Rattle.pp_grammar.specs.Kinds.{names_resource}
 use Rattle.pp_grammar.proofs.Reader.Expressions.{started, loosest, access, call_or_name, chain, value, whole, is_at}
+
+-- a name and where it stands
+abbrev pub name_of : Token → Name
+name_of t = name_at t.text t.line
+
+-- the next token as a name
+abbrev pub taken_name : Parser Name
+taken_name = name_of <$> take
+
+-- a statement, and the name behind it that begins the next one
+abbrev pub Read : Type 0
+Read = Statement × Option Name
+
+-- an operand that no arrow may follow
+abbrev pub alone : ℕ → Operand → Read
+alone at only = (statement.Chain (chain_of only [] at), None)
+
+-- the end of a block, unless the name that begins the next statement was taken already
+abbrev pub ends_block : Option Name → Option Kind → Bool
+ends_block None (Some k.CloseBrace) = true
+ends_block _ _ = false
 
 module _ (inner : Inner) where
   -- ---- attributes

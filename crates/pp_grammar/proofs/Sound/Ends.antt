@@ -9,8 +9,8 @@ use Rattle.pp_parser.specs.declared.goal.Goal.{Goal}
 use Rattle.pp_parser.specs.declared.goal.Goal.TheVariants as goal
 use Rattle.pp_parser.specs.declared.goal.Part.{Part}
 use Rattle.pp_parser.specs.declared.goal.Part.TheVariants as part
-use Rattle.pp_parser.specs.Input.{Input, kind}
-use Rattle.pp_parser.specs.Kinds.{is_kind}
+use Rattle.pp_grammar.proofs.Reader.Input.{Input, kind}
+use Rattle.pp_grammar.specs.Kinds.{is_kind}
 use Rattle.pp_grammar.specs.Places.{Phrase, Within, Stands, Separated, SeparatedSome}
 use Rattle.pp_grammar.specs.Expressions.{Inner}
 use Rattle.pp_grammar.specs.Statements.{IsReference}

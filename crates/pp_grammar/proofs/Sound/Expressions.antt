@@ -4,6 +4,7 @@ use Rattle.pp_lexer.specs.declared.kind.Kind.{Kind}
 use Rattle.pp_lexer.specs.declared.kind.Kind.TheVariants as k
 use Rattle.pp_lexer.specs.declared.token.Token.{Token}
 use Rattle.pp_tree.specs.declared.expr.Expr.{Expr}
+use Rattle.pp_tree.specs.declared.expr.Pair.{Pair}
 use Rattle.pp_tree.specs.declared.collector.Test.TheOpen.{Form-F}
 use Rattle.pp_tree.specs.declared.expr.Form.{Form, out-Form, roll-Form, roll-out-Form}
 use Rattle.pp_tree.specs.declared.expr.Form.TheVariants as form
@@ -16,15 +17,18 @@ use Rattle.pp_tree.specs.declared.operators.PrefixOperator.{PrefixOperator}
 use Rattle.pp_tree.specs.declared.operators.PrefixOperator.TheVariants as prefix
 use Rattle.pp_tree.specs.Building.{expr_at, line_of, form_of, param as param_of, operation as operation_of}
 use Rattle.pp_parser.specs.declared.started.Started.{Started}
-use Rattle.pp_parser.specs.Input.{Input, Parser, kind, kind_at, line_at, pure, refuse, ◌<$>◌}
+use Rattle.pp_grammar.proofs.Reader.Input.{Input, Parser, kind, kind_at, line_at, pure, refuse, ◌<$>◌}
 use Rattle.pp_grammar.proofs.Reader.Inner.{Inner}
-use Rattle.pp_parser.specs.Keys.{noting}
-use Rattle.pp_parser.specs.Kinds.{is_kind, same_kind, is_name, is_bar}
+use Rattle.pp_grammar.specs.Keys.{earlier_line}
+use Rattle.pp_grammar.proofs.Reader.Keys.{noting}
+use Rattle.pp_grammar.specs.Kinds.{is_kind, same_kind, is_name, is_bar}
 use Rattle.pp_tree.specs.Layers.{FormLayer}
-use Rattle.pp_parser.specs.Params.{is_simple, param_by_form, param_from}
+use Rattle.pp_grammar.proofs.Reader.Params.{param_by_form, param_from}
+use Rattle.pp_grammar.specs.Names.{is_simple}
 use Rattle.pp_grammar.proofs.Reader.Expressions as rule
 use Rattle.pp_grammar.specs.Places.{Phrase, Within, Opens, Stands, Many, SeparatedSome, Maybe, before}
-use Rattle.pp_grammar.specs.Expressions.{begins_lambda, begins_piece, begins_postfix, is_variable, is_bracket, follows_variable, prefix_at, InnerParam, InnerOption, IsBlock, AreArguments, OptionalArguments, IsLambda, IsCallOrName, IsPiece, IsFirstRun, IsQuoted, IsCondition, IsElsif, IsElse, IsPair, IsPrimary, IsPostfix, IsValue, IsOperand, IsBinary, AreOperations, IsWhole, IsNameThere, IsValueThere, IsBinaryThere, IsInterpolated, IsDefault, AsParam, IsParam, IsCaseOption}
+use Rattle.pp_grammar.specs.Operators.{prefix_at}
+use Rattle.pp_grammar.specs.Expressions.{begins_lambda, begins_piece, begins_postfix, is_variable, is_bracket, follows_variable, InnerParam, InnerOption, IsBlock, AreArguments, OptionalArguments, IsLambda, IsCallOrName, IsPiece, IsFirstRun, IsQuoted, IsCondition, IsElsif, IsElse, IsPair, IsPrimary, IsPostfix, IsValue, IsOperand, IsBinary, AreOperations, IsWhole, IsNameThere, IsValueThere, IsBinaryThere, IsInterpolated, IsDefault, AsParam, IsParam, IsCaseOption}
 use Rattle.pp_grammar.specs.Expressions.{Inner as WholeIn}
 use Rattle.pp_grammar.proofs.Sound.Steps.{Meets, Sound, bind, done, refused, either_at, weaker, take_is, take_at, take_sound, is_kind_is, expect_sound, expect_any_sound, at_next, not_begins, not_before, line_of_stands}
 use Rattle.pp_grammar.proofs.Sound.Lists.{repeat_sound, separated_sound, separated_some_sound}
@@ -220,7 +224,8 @@ module _ (inner : Inner) (N : Within) (s : IsSound inner N) where
   unfolding rule.hash noting
   hash_sound bars i = bind (opening_sound inner N s k.OpenBrace i) λ opener j o.
       bind (separated_sound (is_kind k.CloseBrace) k.Comma (IsPair N) _ pair_sound j) λ ps l b.
-      bind (expect_sound k.CloseBrace l) λ closer m c. done (IsPrimary.hash i j l m opener closer ps o b c)
+      bind (expect_sound k.CloseBrace l) λ closer m c.
+      done (subst (λ (keys : List (Pair Expr) → Option ℕ). IsPrimary N bars i (form.Hash ps) (record { left = m.left; doubled = earlier_line m.doubled (keys ps) })) (sym s.keys) (IsPrimary.hash i j l m opener closer ps o b c))
 
   parentheses_sound : (bars : Bool) → Sound (rule.parentheses inner) (IsPrimary N bars)
   unfolding rule.parentheses

@@ -11,9 +11,9 @@ use Rattle.pp_tree.specs.declared.resource.ResourceForm.TheVariants as resource_
 use Rattle.pp_tree.specs.Building.{node_name as node_name_at}
 use Rattle.pp_parser.specs.declared.item.Item.{Item}
 use Rattle.pp_parser.specs.declared.item.Item.TheVariants as item
-use Rattle.pp_parser.specs.Input.{Input, kind, line_at, turns, pure, eat}
+use Rattle.pp_grammar.proofs.Reader.Input.{Input, kind, line_at, turns, pure, eat}
 use Rattle.pp_grammar.proofs.Reader.Inner.{Inner}
-use Rattle.pp_parser.specs.Kinds.{is_kind, same_kind, is_name}
+use Rattle.pp_grammar.specs.Kinds.{is_kind, same_kind, is_name}
 use Rattle.pp_grammar.proofs.Reader.Statements.{Read, name_of, names_resource}
 use Rattle.pp_parser.specs.declared.found.Found.{Found}
 use Rattle.pp_grammar.proofs.Reader.Definitions.{nothing_yet, with_statement, with_definition, node_name}

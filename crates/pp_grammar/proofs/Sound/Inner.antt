@@ -5,14 +5,16 @@ use Rattle.pp_parser.specs.declared.goal.Goal.{Goal}
 use Rattle.pp_parser.specs.declared.goal.Goal.TheVariants as goal
 use Rattle.pp_parser.specs.declared.goal.Part.{Part}
 use Rattle.pp_parser.specs.declared.goal.Part.TheVariants as part
-use Rattle.pp_parser.specs.Input.{Input}
+use Rattle.pp_grammar.proofs.Reader.Input.{Input}
 use Rattle.pp_grammar.proofs.Reader.Inner.{Inner, opening, expr_of, param_of, block_of, case_option_of, query_of, whole_in, operand_in, interpolated_in, param_in, statements_in, case_option_in, query_in}
+use Rattle.pp_grammar.specs.Keys.{doubled_key}
 use Rattle.pp_grammar.specs.Places.{Within, Opens}
 use Rattle.pp_grammar.proofs.Sound.Steps.{Meets, Sound, met, bind, done, refused, open_sound}
 
 -- what the readers one level further in read, stands there
 pub record IsSound (inner : Inner) (N : Within) : Type 0 where
   pub deepest : inner.is_deepest ≡ N.is_deepest
+  pub keys : inner.doubled_key ≡ doubled_key
   pub reads : (g : Goal) (i j : Input) (p : Part) → inner.read g i ≡ Ok (p, j) → N.reads g i p j
 
 module _ (inner : Inner) (N : Within) (s : IsSound inner N) where

@@ -3,11 +3,11 @@ use Rattle.std.proofs.Common.{◌≡◌, ℕ, zero, suc, [], Ok, Err, refl, sym,
 use Rattle.pp_parser.specs.declared.goal.Goal.{Goal}
 use Rattle.pp_parser.specs.declared.goal.Goal.TheVariants as goal
 use Rattle.pp_parser.specs.declared.goal.Part.{Part}
-use Rattle.pp_parser.specs.Input.{Input, Outcome, Parser}
+use Rattle.pp_grammar.proofs.Reader.Input.{Input, Outcome, Parser}
 use Rattle.pp_grammar.proofs.Reader.Inner.{Inner}
 use Rattle.pp_parser.specs.declared.found.Found.{Found}
 use Rattle.pp_grammar.proofs.Reader.Definitions.{main_manifest, module_file}
-use Rattle.pp_grammar.proofs.Reader.Levels.{part_by, within_to}
+use Rattle.pp_grammar.proofs.Reader.Levels.{part_by, within_to, deepest_to, read_to}
 use Rattle.pp_grammar.specs.Places.{Within}
 use Rattle.pp_grammar.specs.Files.{IsMain, IsModule, IsPart, LevelsTo}
 use Rattle.pp_grammar.proofs.Sound.Steps.{Sound, bind, done, reads}
@@ -30,8 +30,8 @@ part_sound inner N s once goal.Query i = bind (query_sound inner N s i) λ x j h
 
 -- where no level may be opened, nothing is read and nothing stands
 deepest_sound : (behind : ℕ) → IsSound (within_to behind zero zero) (LevelsTo behind zero zero)
-unfolding within_to LevelsTo
-deepest_sound behind = record { deepest = refl; reads = λ g i j p e. absurd cc }
+unfolding deepest_to read_to LevelsTo
+deepest_sound behind = record { deepest = refl; keys = refl; reads = λ g i j p e. absurd cc }
 
 place_of : Input → Outcome Part → Input
 place_of d (Ok x) = x.1
@@ -43,12 +43,12 @@ unfolding place_of
 ends_once read N gives = record { ends = λ g i j l p q a b. ap (place_of j) (sym (gives g i j p a) ∙ gives g i l q b) }
 
 pub within_sound : (behind : ℕ) → ((levels more : ℕ) → EndsOnce (LevelsTo behind levels more)) → (levels more : ℕ) → IsSound (within_to behind levels more) (LevelsTo behind levels more)
-unfolding within_to LevelsTo
+unfolding deepest_to read_to LevelsTo
 within_sound behind once zero zero = deepest_sound behind
 within_sound behind once zero (suc more) =
-    record { deepest = refl; reads = λ g i j p e. reads (part_sound (within_to behind zero more) (LevelsTo behind zero more) (within_sound behind once zero more) (once zero more) g) i j p e }
+    record { deepest = refl; keys = refl; reads = λ g i j p e. reads (part_sound (within_to behind zero more) (LevelsTo behind zero more) (within_sound behind once zero more) (once zero more) g) i j p e }
 within_sound behind once (suc levels) more =
-    record { deepest = refl; reads = λ g i j p e. reads (part_sound (within_to behind levels more) (LevelsTo behind levels more) (within_sound behind once levels more) (once levels more) g) i j p e }
+    record { deepest = refl; keys = refl; reads = λ g i j p e. reads (part_sound (within_to behind levels more) (LevelsTo behind levels more) (within_sound behind once levels more) (once levels more) g) i j p e }
 
 -- What is read of a main manifest and of a module file, stands there.
 pub main_sound : (inner : Inner) (N : Within) → IsSound inner N → EndsOnce N

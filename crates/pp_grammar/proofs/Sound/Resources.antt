@@ -9,9 +9,9 @@ use Rattle.pp_tree.specs.declared.resource.Body.{Body}
 use Rattle.pp_tree.specs.declared.resource.Attribute.TheVariants as attribute_form
 use Rattle.pp_tree.specs.declared.collector.Test.TheVariants as test_form
 use Rattle.pp_tree.specs.Building.{resource as resource_of, setting as setting_of, comparison as comparison_of}
-use Rattle.pp_parser.specs.Input.{Input, Parser, kind, pure, refuse, take, ◌>>◌}
+use Rattle.pp_grammar.proofs.Reader.Input.{Input, Parser, kind, pure, refuse, take, ◌>>◌}
 use Rattle.pp_grammar.proofs.Reader.Inner.{Inner}
-use Rattle.pp_parser.specs.Kinds.{is_kind, same_kind, is_word, ends_body}
+use Rattle.pp_grammar.specs.Kinds.{is_kind, same_kind, is_word, ends_body}
 use Rattle.pp_grammar.proofs.Reader.Statements as rule
 use Rattle.pp_grammar.proofs.Reader.Statements.{names_resource}
 use Rattle.pp_grammar.specs.Places.{Phrase, Within, Stands, Maybe}

@@ -19,9 +19,9 @@ use Rattle.pp_tree.specs.declared.definition.Name.{Name}
 use Rattle.pp_tree.specs.Building.{expr_at, chain as chain_of, words as words_of, reference as reference_of, override as override_of}
 use Rattle.pp_parser.specs.declared.argument.WordArgument.{WordArgument}
 use Rattle.pp_parser.specs.declared.argument.WordArgument.TheVariants as word_argument
-use Rattle.pp_parser.specs.Input.{Input, kind, kind_at, line_at, turns, pure, eat}
+use Rattle.pp_grammar.proofs.Reader.Input.{Input, kind, kind_at, line_at, turns, pure, eat}
 use Rattle.pp_grammar.proofs.Reader.Inner.{Inner}
-use Rattle.pp_parser.specs.Kinds.{is_kind, same_kind, is_name, begins_expression}
+use Rattle.pp_grammar.specs.Kinds.{is_kind, same_kind, is_name, begins_expression}
 use Rattle.pp_grammar.proofs.Reader.Expressions.{loosest, started, chain}
 use Rattle.pp_grammar.proofs.Reader.Statements.{Read, name_of, names_resource, arrow_at}
 use Rattle.pp_grammar.proofs.Reader.Statements as rule

@@ -1,8 +1,8 @@
 -- What it is that some text goes on where a text is refused. A reader of files is one for each number of levels.
 use Rattle.std.specs.Prelude.{◌≡◌, ℕ, ◌≤◌, List, [], ◌++◌, length, Ok}
 use Rattle.pp_lexer.specs.declared.token.Token.{Token}
-use Rattle.pp_parser.specs.Input.{Input, Parser}
-use Rattle.pp_parser.specs.Manifest.{start}
+use Rattle.pp_grammar.proofs.Reader.Input.{Input, Parser}
+use Rattle.pp_grammar.proofs.Reader.Manifest.{start}
 
 -- A text is refused at the token from which so many are left, or at its end. The tokens before that begin a text that is read
 -- to its end, with so many levels or more.

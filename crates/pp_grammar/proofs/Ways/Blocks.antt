@@ -8,11 +8,12 @@ use Rattle.pp_tree.specs.declared.statement.Operand.{Operand}
 use Rattle.pp_tree.specs.Building.{chain as chain_of}
 use Rattle.pp_tree.specs.declared.resource.ResourceForm.TheVariants as resource_form
 use Rattle.pp_tree.specs.declared.definition.Name.{Name}
-use Rattle.pp_parser.specs.Input.{Input, Outcome, Parser, and_then, ◌>>=◌, ◌>>◌, pure, kind, take, eat, sees, turns, repeat}
+use Rattle.pp_grammar.proofs.Reader.Input.{Input, Outcome, Parser, and_then, ◌>>=◌, ◌>>◌, pure, kind, take, eat, sees, turns, repeat}
 use Rattle.pp_grammar.proofs.Reader.Inner.{Inner}
-use Rattle.pp_parser.specs.Kinds.{is_kind, same_kind}
+use Rattle.pp_grammar.specs.Kinds.{is_kind, same_kind}
 use Rattle.pp_grammar.proofs.Reader.Levels.{within}
 use Rattle.pp_grammar.proofs.Reader.Statements.{Read, resource, behind_name_by, behind_name, link_rule, chain_from, statement_rule, ends_block, statements_from, statements}
+use Rattle.pp_grammar.specs.Keys.{doubled_key}
 use Rattle.pp_grammar.specs.Places.{Within}
 use Rattle.pp_grammar.proofs.Sound.Steps.{Meets, bind, done, met, weaker, is_kind_is}
 use Rattle.pp_grammar.proofs.Sound.Inner.{IsSound}
@@ -38,9 +39,9 @@ Fits (Some name) i = kind i ≡ Some k.OpenBrace
 itself : Inner → Within
 itself inner = record { is_deepest = inner.is_deepest; reads = λ g i p j. inner.read g i ≡ Ok (p, j) }
 
-itself_sound : (inner : Inner) → IsSound inner (itself inner)
+itself_sound : (inner : Inner) → inner.doubled_key ≡ doubled_key → IsSound inner (itself inner)
 unfolding itself
-itself_sound inner = record { deepest = refl; reads = λ g i j p e. e }
+itself_sound inner keys = record { deepest = refl; keys = keys; reads = λ g i j p e. e }
 
 itself_once : (inner : Inner) → EndsOnce (itself inner)
 unfolding itself
@@ -58,8 +59,8 @@ pends_fits _ i j (Pends.name _ _ t st e) = kind_is k.OpenBrace (kind j) e
 read_fits : (inner : Inner) (i : Input) (r : Read) (j : Input) → IsRead (itself inner) i r j → Fits r.1 j
 read_fits inner i r j (IsRead.read l _ s p h w) = pends_fits p l j w
 
-pub statement_fits : (inner : Inner) (i : Input) → Meets (statement_rule inner None i) (λ r j. Fits r.1 j)
-statement_fits inner i = weaker (statement_sound inner (itself inner) (itself_sound inner) (itself_once inner) None i i (Pends.nothing i)) (λ r j h. read_fits inner i r j h)
+pub statement_fits : (inner : Inner) → inner.doubled_key ≡ doubled_key → (i : Input) → Meets (statement_rule inner None i) (λ r j. Fits r.1 j)
+statement_fits inner keys i = weaker (statement_sound inner (itself inner) (itself_sound inner keys) (itself_once inner) None i i (Pends.nothing i)) (λ r j h. read_fits inner i r j h)
 
 pub chain_none : (inner : Inner) (at : ℕ) (first : Operand) (i : Input) → Meets (chain_from inner at first i) (λ r j. r.1 ≡ None)
 unfolding chain_from
@@ -114,18 +115,18 @@ chosen_same true false p q q2 i e h = absurd cc
 chosen_same false true p q q2 i e h = absurd cc
 chosen_same false false p q q2 i e h = h
 
-statements_as : (inner : Inner) (n : ℕ) (found : List Statement) (p : Option Name) (i : Input) → Fits p i → statements_from inner n found p i ≡ loop closes_block add_read read_next (statement_rule inner None) (taken_up inner) n found p i
+statements_as : (inner : Inner) → inner.doubled_key ≡ doubled_key → (n : ℕ) (found : List Statement) (p : Option Name) (i : Input) → Fits p i → statements_from inner n found p i ≡ loop closes_block add_read read_next (statement_rule inner None) (taken_up inner) n found p i
 unfolding statements_from
-statements_as inner zero found p i h = refl
-statements_as inner (suc n) found None i h =
+statements_as inner keys zero found p i h = refl
+statements_as inner keys (suc n) found None i h =
     chosen_same (ends_block None (kind i)) (closes_block (kind i)) (pure found)
     (statement_rule inner None >>= (λ read. eat k.Semicolon >> statements_from inner n (found ++ read.0 ∷ []) read.1)) (statement_rule inner None >>= (λ read. eat k.Semicolon >> loop closes_block add_read read_next (statement_rule inner None) (taken_up inner) n (found ++ read.0 ∷ []) read.1)) i (block_ends (kind i))
     (same_reads (statement_rule inner None i) (λ read. eat k.Semicolon >> statements_from inner n (found ++ read.0 ∷ []) read.1) (λ read. eat k.Semicolon >> loop closes_block add_read read_next (statement_rule inner None) (taken_up inner) n (found ++ read.0 ∷ []) read.1)
-    (λ read j e. same_behind_read read.1 j ((statement_fits inner i).holds read j e) _ _ (λ l w. statements_as inner n (found ++ read.0 ∷ []) read.1 l w)))
-statements_as inner (suc n) found (Some name) i h =
+    (λ read j e. same_behind_read read.1 j ((statement_fits inner keys i).holds read j e) _ _ (λ l w. statements_as inner keys n (found ++ read.0 ∷ []) read.1 l w)))
+statements_as inner keys (suc n) found (Some name) i h =
     ap (λ (o : Outcome Read). and_then o (λ read. eat k.Semicolon >> statements_from inner n (found ++ read.0 ∷ []) read.1)) (taken_up_is inner name i h)
     ∙ same_reads (taken_up inner name i) (λ read. eat k.Semicolon >> statements_from inner n (found ++ read.0 ∷ []) read.1) (λ read. eat k.Semicolon >> loop closes_block add_read read_next (statement_rule inner None) (taken_up inner) n (found ++ read.0 ∷ []) read.1)
-    (λ read j e. same_behind_read read.1 j (none_fits read.1 j ((taken_up_none inner name i).holds read j e)) _ _ (λ l w. statements_as inner n (found ++ read.0 ∷ []) read.1 l w))
+    (λ read j e. same_behind_read read.1 j (none_fits read.1 j ((taken_up_none inner name i).holds read j e)) _ _ (λ l w. statements_as inner keys n (found ++ read.0 ∷ []) read.1 l w))
   where
     none_fits : (p : Option Name) (j : Input) → p ≡ None → Fits p j
     none_fits p j e = subst (λ (x : Option Name). Fits x j) (sym e) tt
@@ -145,10 +146,10 @@ unfolding is_kind same_kind
 block_apart (Some k.CloseBrace) e = refl
 block_apart _ e = absurd cc
 
-pub statements_is : (inner : Inner) (i : Input) → on closes_block add_read read_next (statement_rule inner None) (taken_up inner) [] None i ≡ statements inner i
+pub statements_is : (inner : Inner) → inner.doubled_key ≡ doubled_key → (i : Input) → on closes_block add_read read_next (statement_rule inner None) (taken_up inner) [] None i ≡ statements inner i
 unfolding statements
-statements_is inner i = sym (statements_as inner (turns i) [] None i tt)
+statements_is inner keys i = sym (statements_as inner keys (turns i) [] None i tt)
 
 pub statements_goes : {n : ℕ} → InnerGoes n → Rule n None (always closes_block) (statements (within n)) (λ m. statements (within m))
-statements_goes {n = n} I = same_rule (statements_is (within n)) (λ m i. statements_is (within m) i)
+statements_goes {n = n} I = same_rule (statements_is (within n) refl) (λ m i. statements_is (within m) refl i)
     (on_goes closes_block add_read read_next (λ m. statement_rule (within m) None) (λ m. taken_up (within m)) statement_falls taken_up_falls (λ m name i r e. (taken_up_none (within m) name i).holds r.0 r.1 e) block_statement block_apart (statement_rule_goes I) (pending_goes I) [])

@@ -3,12 +3,14 @@ use Rattle.std.proofs.Common.{◌≡◌, ℕ, zero, suc, Bool, true, false, if�
 use Rattle.pp_lexer.specs.declared.kind.Kind.{Kind}
 use Rattle.pp_lexer.specs.declared.kind.Kind.TheVariants as k
 use Rattle.pp_lexer.specs.declared.token.Token.{Token}
-use Rattle.pp_parser.specs.Input.{Input, Parser, and_then, ◌>>=◌, pure, refuse, peek, take, kind}
+use Rattle.pp_grammar.proofs.Reader.Input.{Input, Parser, and_then, ◌>>=◌, pure, refuse, peek, take, kind}
 use Rattle.pp_grammar.proofs.Reader.Inner.{Inner}
-use Rattle.pp_parser.specs.Kinds.{is_kind, same_kind, is_name, is_bar}
+use Rattle.pp_grammar.specs.Kinds.{is_kind, same_kind, is_name, is_bar}
 use Rattle.pp_grammar.proofs.Reader.Levels.{within}
 use Rattle.pp_tree.specs.Layers.{FormLayer}
-use Rattle.pp_parser.specs.Params.{is_simple, param_by_form, param_from}
+use Rattle.pp_grammar.proofs.Reader.Params.{param_by_form, param_from}
+use Rattle.pp_grammar.specs.Keys.{doubled_key}
+use Rattle.pp_grammar.specs.Names.{is_simple}
 use Rattle.pp_parser.specs.declared.started.Started.{Started}
 use Rattle.pp_tree.specs.declared.operators.BinaryOperator.{BinaryOperator}
 use Rattle.pp_tree.specs.declared.operators.PrefixOperator.{PrefixOperator}
@@ -195,7 +197,7 @@ module _ {n : ℕ} (I : InnerGoes n) where
   hash_goes : {E : Form → Option Kind → Bool} → Rule n (Some k.OpenBrace) E (hash (within n)) (λ m. hash (within m))
   unfolding hash is_kind same_kind
   hash_goes = first_any (opening_goes k.OpenBrace refl) (λ _. after (until k.CloseBrace k.Comma _ (λ m. (pair_rule_local (here_too m)).falls) refl refl pair_rule_goes)
-      (λ pairs. first_any (expect_goes k.CloseBrace refl) (λ _. after (noting_goes {E = everything} pairs) (λ _. pure_goes _) (λ _ _ _ _. refl))) (λ _. refl))
+      (λ pairs. first_any (expect_goes k.CloseBrace refl) (λ _. after (noting_goes {E = everything} doubled_key pairs) (λ _. pure_goes _) (λ _ _ _ _. refl))) (λ _. refl))
 
   parentheses_goes : {E : Form → Option Kind → Bool} → Rule n (Some k.OpenParen) E (parentheses (within n)) (λ m. parentheses (within m))
   unfolding parentheses is_kind same_kind

@@ -11,9 +11,10 @@ use Rattle.pp_tree.specs.declared.resource.ResourceForm.TheVariants as resource_
 use Rattle.pp_tree.specs.Building.{node_name as node_name_at}
 use Rattle.pp_parser.specs.declared.item.Item.{Item}
 use Rattle.pp_parser.specs.declared.item.Item.TheVariants as item
-use Rattle.pp_parser.specs.Input.{Input, Outcome, Parser, and_then, ◌>>=◌, ◌>>◌, pure, kind, take, expect, eat, turns}
+use Rattle.pp_grammar.specs.Keys.{doubled_key}
+use Rattle.pp_grammar.proofs.Reader.Input.{Input, Outcome, Parser, and_then, ◌>>=◌, ◌>>◌, pure, kind, take, expect, eat, turns}
 use Rattle.pp_grammar.proofs.Reader.Inner.{Inner}
-use Rattle.pp_parser.specs.Kinds.{is_kind, same_kind, is_name}
+use Rattle.pp_grammar.specs.Kinds.{is_kind, same_kind, is_name}
 use Rattle.pp_grammar.proofs.Reader.Levels.{within}
 use Rattle.pp_grammar.proofs.Reader.Statements.{taken_name, resource, chain_from, statement_rule}
 use Rattle.pp_parser.specs.declared.found.Found.{Found}
@@ -112,16 +113,16 @@ class_fits : (inner : Inner) (word : Name) (next : Option Kind) (j : Input) → 
 class_fits inner word (Some k.OpenBrace) j = behind_any (resource inner resource_form.Plain word.text word.at j) _ (λ first l. sound.bind {o = chain_from inner word.at first l} {f = λ read. pure (read_of inner read)} (chain_none inner word.at first l) (λ read w e. sound.done (none_fits read.1 w e)))
 class_fits inner word _ j = behind_any (class inner word.at j) (λ d. pure (item.Definition d)) (λ d l. sound.done tt)
 
-item_by_fits : (inner : Inner) (next : Option Kind) (i : Input) → sound.Meets (item_by inner next i) (λ x j. Fits (pending_of x) j)
+item_by_fits : (inner : Inner) → inner.doubled_key ≡ doubled_key → (next : Option Kind) (i : Input) → sound.Meets (item_by inner next i) (λ x j. Fits (pending_of x) j)
 unfolding class_item
-item_by_fits inner (Some k.Class) i = behind_any (taken_name i) (class_item inner) (λ word j. class_fits inner word (kind j) j)
-item_by_fits inner (Some k.Define) i = behind_any (take i) (λ t. define inner t.line >>= (λ d. pure (item.Definition d))) (λ t j. behind_any (define inner t.line j) (λ d. pure (item.Definition d)) (λ d l. sound.done tt))
-item_by_fits inner (Some k.Node) i = behind_any (take i) (λ t. node inner t.line >>= (λ d. pure (item.Definition d))) (λ t j. behind_any (node inner t.line j) (λ d. pure (item.Definition d)) (λ d l. sound.done tt))
-item_by_fits inner _ i = sound.bind {o = statement_rule inner None i} {f = λ read. pure (read_of inner read)} (statement_fits inner i) (λ read j h. sound.done h)
+item_by_fits inner keys (Some k.Class) i = behind_any (taken_name i) (class_item inner) (λ word j. class_fits inner word (kind j) j)
+item_by_fits inner keys (Some k.Define) i = behind_any (take i) (λ t. define inner t.line >>= (λ d. pure (item.Definition d))) (λ t j. behind_any (define inner t.line j) (λ d. pure (item.Definition d)) (λ d l. sound.done tt))
+item_by_fits inner keys (Some k.Node) i = behind_any (take i) (λ t. node inner t.line >>= (λ d. pure (item.Definition d))) (λ t j. behind_any (node inner t.line j) (λ d. pure (item.Definition d)) (λ d l. sound.done tt))
+item_by_fits inner keys _ i = sound.bind {o = statement_rule inner None i} {f = λ read. pure (read_of inner read)} (statement_fits inner keys i) (λ read j h. sound.done h)
 
-item_fits : (inner : Inner) (i : Input) → sound.Meets (item_rule inner None i) (λ x j. Fits (pending_of x) j)
+item_fits : (inner : Inner) → inner.doubled_key ≡ doubled_key → (i : Input) → sound.Meets (item_rule inner None i) (λ x j. Fits (pending_of x) j)
 unfolding item_rule
-item_fits inner i = item_by_fits inner (kind i) i
+item_fits inner keys i = item_by_fits inner keys (kind i) i
 
 file_end : (next : Option Kind) → ends_file None next ≡ file_ends next
 file_end None = refl
@@ -130,21 +131,21 @@ file_end (Some x) = refl
 abbrev items : Inner → ℕ → Found → Option Name → Parser Found
 items inner = loop file_ends found_with pending_of (item_rule inner None) (taken_item inner)
 
-manifest_as : (inner : Inner) (n : ℕ) (found : Found) (p : Option Name) (i : Input) → Fits p i → manifest_from inner n found p i ≡ items inner n found p i
+manifest_as : (inner : Inner) → inner.doubled_key ≡ doubled_key → (n : ℕ) (found : Found) (p : Option Name) (i : Input) → Fits p i → manifest_from inner n found p i ≡ items inner n found p i
 unfolding manifest_from item_rule
-manifest_as inner zero found p i h = refl
-manifest_as inner (suc n) found None i h =
+manifest_as inner keys zero found p i h = refl
+manifest_as inner keys (suc n) found None i h =
     chosen_same (ends_file None (kind i)) (file_ends (kind i)) (pure found) (item_rule inner None >>= (λ read. eat k.Semicolon >> manifest_from inner n (found_with found read) (pending_of read))) (item_rule inner None >>= (λ read. eat k.Semicolon >> items inner n (found_with found read) (pending_of read))) i (file_end (kind i))
     (same_reads (item_rule inner None i) (λ read. eat k.Semicolon >> manifest_from inner n (found_with found read) (pending_of read)) (λ read. eat k.Semicolon >> items inner n (found_with found read) (pending_of read))
-    (λ read j e. same_behind_read (pending_of read) j ((item_fits inner i).holds read j e) _ _ (λ l w. manifest_as inner n (found_with found read) (pending_of read) l w)))
-manifest_as inner (suc n) found (Some name) i h =
+    (λ read j e. same_behind_read (pending_of read) j ((item_fits inner keys i).holds read j e) _ _ (λ l w. manifest_as inner keys n (found_with found read) (pending_of read) l w)))
+manifest_as inner keys (suc n) found (Some name) i h =
     ap (λ (o : Outcome _). and_then (and_then o (λ read. pure (read_of inner read))) (λ read. eat k.Semicolon >> manifest_from inner n (found_with found read) (pending_of read))) (taken_up_is inner name i h)
     ∙ same_reads (taken_item inner name i) (λ read. eat k.Semicolon >> manifest_from inner n (found_with found read) (pending_of read)) (λ read. eat k.Semicolon >> items inner n (found_with found read) (pending_of read))
-    (λ read j e. same_behind_read (pending_of read) j (none_fits (pending_of read) j ((taken_item_none inner name i).holds read j e)) _ _ (λ l w. manifest_as inner n (found_with found read) (pending_of read) l w))
+    (λ read j e. same_behind_read (pending_of read) j (none_fits (pending_of read) j ((taken_item_none inner name i).holds read j e)) _ _ (λ l w. manifest_as inner keys n (found_with found read) (pending_of read) l w))
 
-manifest_is : (inner : Inner) (i : Input) → on file_ends found_with pending_of (item_rule inner None) (taken_item inner) nothing_yet None i ≡ main_manifest inner i
+manifest_is : (inner : Inner) → inner.doubled_key ≡ doubled_key → (i : Input) → on file_ends found_with pending_of (item_rule inner None) (taken_item inner) nothing_yet None i ≡ main_manifest inner i
 unfolding main_manifest
-manifest_is inner i = sym (manifest_as inner (turns i) nothing_yet None i tt)
+manifest_is inner keys i = sym (manifest_as inner keys (turns i) nothing_yet None i tt)
 
 item_falls : (m : ℕ) (i : Input) → Falls one i (item_rule (within m) None i)
 item_falls m i = falls_less _ one i (item_rule (within m) None i) (λ x. omega arith) ((item_rule_local (here_too m) {d = true} None).falls i)
@@ -291,7 +292,7 @@ module _ {n : ℕ} (I : InnerGoes n) where
   -- ---- files
 
   pub main_manifest_goes : Rule n None (always file_ends) (main_manifest (within n)) (λ m. main_manifest (within m))
-  main_manifest_goes = same_rule (manifest_is (within n)) (λ m i. manifest_is (within m) i)
+  main_manifest_goes = same_rule (manifest_is (within n) refl) (λ m i. manifest_is (within m) refl i)
       (on_goes file_ends found_with pending_of (λ m. item_rule (within m) None) (λ m. taken_item (within m)) item_falls taken_item_falls (λ m name i r e. (taken_item_none (within m) name i).holds r.0 r.1 e) file_statement file_apart item_rule_goes taken_item_goes nothing_yet)
 
   pub module_file_goes : Rule n None (always file_ends) (module_file (within n)) (λ m. module_file (within m))

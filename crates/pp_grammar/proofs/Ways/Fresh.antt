@@ -2,10 +2,10 @@
 use Rattle.std.proofs.Common.{◌≡◌, ℕ, zero, suc, Bool, true, false, not, List, [], ◌∷◌, Option, Some, None, refl, sym, ap, subst}
 use Rattle.pp_lexer.specs.declared.kind.Kind.{Kind}
 use Rattle.pp_lexer.specs.declared.kind.Kind.TheVariants as k
-use Rattle.pp_parser.specs.Input.{Parser, ◌>>=◌, ◌>>◌, pure, peek, take, expect, separated_some}
-use Rattle.pp_parser.specs.Kinds.{is_kind, same_kind, is_word}
+use Rattle.pp_grammar.proofs.Reader.Input.{Parser, ◌>>=◌, ◌>>◌, pure, peek, take, expect, separated_some}
+use Rattle.pp_grammar.specs.Kinds.{is_kind, same_kind, is_word}
 use Rattle.pp_grammar.proofs.Reader.Levels.{within}
-use Rattle.pp_parser.specs.Params.{param_from}
+use Rattle.pp_grammar.proofs.Reader.Params.{param_from}
 use Rattle.pp_parser.specs.declared.started.Started.{Started}
 use Rattle.pp_tree.specs.declared.expr.Expr.{Expr}
 use Rattle.pp_tree.specs.declared.expr.Form.TheVariants as form
@@ -115,7 +115,7 @@ param_rule_fresh bars = here_fresh k.Name (λ at m. whole (within m) false bars 
 -- ---- no statements, and an option of a case
 
 pub statements_fresh : Fresh None (always closes_block) (λ m. statements (within m))
-statements_fresh = same_fresh (λ m i. statements_is (within m) i)
+statements_fresh = same_fresh (λ m i. statements_is (within m) refl i)
     (none_fresh closes_block add_read read_next (λ m. statement_rule (within m) None) (λ m. taken_up (within m)) statement_falls taken_up_falls (λ m name i r e. (taken_up_none (within m) name i).holds r.0 r.1 e) block_statement block_apart [])
 
 -- with what stands one level further in given

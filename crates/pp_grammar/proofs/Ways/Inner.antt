@@ -2,9 +2,9 @@
 use Rattle.std.proofs.Common.{◌≡◌, ℕ, Bool, true, false, not, [], Option, Some, None, refl, ap, ◌∙◌, arith}
 use Rattle.pp_lexer.specs.declared.kind.Kind.{Kind}
 use Rattle.pp_lexer.specs.declared.kind.Kind.TheVariants as k
-use Rattle.pp_parser.specs.Input.{Input, Parser, ◌>>=◌, ◌>>◌, pure, expect, separated}
+use Rattle.pp_grammar.proofs.Reader.Input.{Input, Parser, ◌>>=◌, ◌>>◌, pure, expect, separated}
 use Rattle.pp_grammar.proofs.Reader.Inner.{whole_in, operand_in, interpolated_in, param_in, statements_in, case_option_in, query_in}
-use Rattle.pp_parser.specs.Kinds.{is_kind}
+use Rattle.pp_grammar.specs.Kinds.{is_kind}
 use Rattle.pp_grammar.proofs.Reader.Levels.{within}
 use Rattle.pp_tree.specs.declared.expr.Expr.{Expr}
 use Rattle.pp_grammar.proofs.Sound.Steps.{is_kind_is}

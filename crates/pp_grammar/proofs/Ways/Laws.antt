@@ -6,10 +6,10 @@ use Rattle.std.proofs.Math.Decide.{dec_le}
 use Rattle.pp_lexer.specs.declared.kind.Kind.{Kind}
 use Rattle.pp_lexer.specs.declared.token.Token.{Token}
 use Rattle.pp_parser.specs.declared.refusal.Refusal.TheVariants as refusals
-use Rattle.pp_parser.specs.Input.{Input, Outcome, Parser, kind_at}
+use Rattle.pp_grammar.proofs.Reader.Input.{Input, Outcome, Parser, kind_at}
 use Rattle.pp_grammar.proofs.Reader.Levels.{within}
 use Rattle.pp_grammar.proofs.Reader.Definitions.{main_manifest, module_file}
-use Rattle.pp_parser.specs.Manifest.{start}
+use Rattle.pp_grammar.proofs.Reader.Manifest.{start}
 use Rattle.pp_grammar.proofs.Local.Ahead.{LooksAtNext}
 use Rattle.pp_grammar.proofs.Local.Steps.{Alike, at_it, before_it, Falls}
 use Rattle.pp_grammar.proofs.Local.Laws.{main_manifest_looks, module_file_looks}

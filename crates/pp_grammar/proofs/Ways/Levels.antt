@@ -4,9 +4,9 @@ use Rattle.pp_lexer.specs.declared.kind.Kind.{Kind}
 use Rattle.pp_parser.specs.declared.goal.Part.{Part}
 use Rattle.pp_parser.specs.declared.goal.Part.TheVariants as part
 use Rattle.pp_parser.specs.declared.refusal.Refusal.TheVariants as refusals
-use Rattle.pp_parser.specs.Input.{Input, Outcome, Parser, and_then, ◌>>=◌, pure, refuse}
+use Rattle.pp_grammar.proofs.Reader.Input.{Input, Outcome, Parser, and_then, ◌>>=◌, pure, refuse}
 use Rattle.pp_grammar.proofs.Reader.Inner.{expr_of, param_of, block_of, case_option_of, query_of, whole_in, operand_in, interpolated_in, param_in, statements_in, case_option_in, query_in}
-use Rattle.pp_grammar.proofs.Reader.Levels.{part_by, within_to, within}
+use Rattle.pp_grammar.proofs.Reader.Levels.{part_by, within_to, within, deepest_to, read_to}
 use Rattle.pp_grammar.proofs.Reader.Expressions.{whole, operand, interpolated, param_rule, case_option}
 use Rattle.pp_grammar.proofs.Reader.Statements.{statements, query}
 use Rattle.pp_grammar.proofs.Ways.Steps.{Goes, Holds, Fresh, Rule, refuse_holds, same_holds}
@@ -71,31 +71,31 @@ asked (Ok p) wrap unwrap e = e p.0 p.1
 asked (Err x) wrap unwrap e = refl
 
 whole_is : (bars : Bool) (n : ℕ) (i : Input) → whole_in (within (suc n)) bars i ≡ whole (within n) bars bars i
-unfolding whole_in within_to part_by
+unfolding whole_in deepest_to read_to part_by
 whole_is bars n i = asked (whole (within n) bars bars i) part.Expr expr_of (λ x j. refl)
 
 operand_is : (bars : Bool) (n : ℕ) (i : Input) → operand_in (within (suc n)) bars i ≡ operand (within n) bars i
-unfolding operand_in within_to part_by
+unfolding operand_in deepest_to read_to part_by
 operand_is bars n i = asked (operand (within n) bars i) part.Expr expr_of (λ x j. refl)
 
 interpolated_is : (n : ℕ) (i : Input) → (interpolated_in (within (suc n)) >>= finish) i ≡ (interpolated (within n) >>= finish) i
-unfolding interpolated_in within_to part_by
+unfolding interpolated_in deepest_to read_to part_by
 interpolated_is n i = ap (λ (o : Outcome _). and_then o finish) (asked (interpolated (within n) i) part.Expr expr_of (λ x j. refl))
 
 param_is : (bars : Bool) (n : ℕ) (i : Input) → param_in (within (suc n)) bars i ≡ param_rule (within n) bars i
-unfolding param_in within_to part_by
+unfolding param_in deepest_to read_to part_by
 param_is bars n i = asked (param_rule (within n) bars i) part.Param param_of (λ x j. refl)
 
 statements_is : (n : ℕ) (i : Input) → statements_in (within (suc n)) i ≡ statements (within n) i
-unfolding statements_in within_to part_by
+unfolding statements_in deepest_to read_to part_by
 statements_is n i = asked (statements (within n) i) part.Block block_of (λ x j. refl)
 
 option_is : (n : ℕ) (i : Input) → case_option_in (within (suc n)) i ≡ case_option (within n) i
-unfolding case_option_in within_to part_by
+unfolding case_option_in deepest_to read_to part_by
 option_is n i = asked (case_option (within n) i) part.CaseOption case_option_of (λ x j. refl)
 
 query_is : (n : ℕ) (i : Input) → query_in (within (suc n)) i ≡ query (within n) i
-unfolding query_in within_to part_by
+unfolding query_in deepest_to read_to part_by
 query_is n i = asked (query (within n) i) part.Query query_of (λ x j. refl)
 
 -- ---- the induction
@@ -104,7 +104,7 @@ no_statements : Fresh None (always closes_block) (λ m. statements_in (within m)
 no_statements = deeper_fresh _ _ statements_is statements_fresh
 
 deepest_inner : InnerGoes zero
-unfolding within_to whole_in operand_in interpolated_in param_in statements_in case_option_in query_in
+unfolding deepest_to read_to whole_in operand_in interpolated_in param_in statements_in case_option_in query_in
 deepest_inner = record {
   whole = λ bars. deepest_rule _ _ (whole_is bars) (λ i. refl) (whole_fresh bars bars);
   operand = λ bars. deepest_rule _ _ (operand_is bars) (λ i. refl) (operand_fresh bars);

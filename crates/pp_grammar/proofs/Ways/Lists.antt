@@ -2,8 +2,8 @@
 use Rattle.std.proofs.Common.{◌≡◌, ℕ, zero, suc, ◌+◌, ◌≤◌, Bool, true, false, not, if◌then◌else◌, List, [], ◌∷◌, ◌++◌, length, Option, Some, None, Ok, Err, refl, sym, ap, subst, ◌∙◌, add-one, arith}
 use Rattle.pp_lexer.specs.declared.kind.Kind.{Kind}
 use Rattle.pp_lexer.specs.declared.token.Token.{Token}
-use Rattle.pp_parser.specs.Input.{Input, Outcome, Parser, and_then, ◌>>=◌, pure, kind, kind_at, peek, eat, turns, more_or_done, repeat_from, repeat, separated_from, separated, separated_some}
-use Rattle.pp_parser.specs.Kinds.{is_kind}
+use Rattle.pp_grammar.proofs.Reader.Input.{Input, Outcome, Parser, and_then, ◌>>=◌, pure, kind, kind_at, peek, eat, turns, more_or_done, repeat_from, repeat, separated_from, separated, separated_some}
+use Rattle.pp_grammar.specs.Kinds.{is_kind}
 use Rattle.pp_grammar.proofs.Local.Steps.{Falls, any, if_given}
 use Rattle.pp_grammar.proofs.Local.Lists.{same_then, same_if, same_more, repeat_turns, same_behind, behind_item, separated_turns}
 use Rattle.pp_grammar.proofs.Ways.Steps.{Holds, Fresh, Rule, Meets, bind_holds, first, after, pure_goes, refuse_holds, peek_holds, peek_none, takes, leaves, test_holds, test_goes, test_branch, same_holds, eats, eat_goes, eat_fresh, fresh_first}

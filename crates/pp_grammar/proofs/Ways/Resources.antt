@@ -12,9 +12,9 @@ use Rattle.pp_tree.specs.declared.definition.Name.{Name}
 use Rattle.pp_tree.specs.declared.collector.Test.{Test}
 use Rattle.pp_tree.specs.declared.expr.Form.TheVariants as form
 use Rattle.pp_tree.specs.Building.{expr_at, body as body_of}
-use Rattle.pp_parser.specs.Input.{Parser, ◌>>=◌, pure, kind, refuse}
+use Rattle.pp_grammar.proofs.Reader.Input.{Parser, ◌>>=◌, pure, kind, refuse}
 use Rattle.pp_grammar.proofs.Reader.Inner.{Inner, query_in}
-use Rattle.pp_parser.specs.Kinds.{is_kind, same_kind, is_word, ends_body}
+use Rattle.pp_grammar.specs.Kinds.{is_kind, same_kind, is_word, ends_body}
 use Rattle.pp_grammar.proofs.Reader.Levels.{within}
 use Rattle.pp_grammar.proofs.Reader.Expressions.{call_or_name, loosest}
 use Rattle.pp_grammar.proofs.Reader.Statements.{arrow_at, name_of, taken_name, names_resource, assigns_by, assigns, setting_rule, splat_rule, attribute_by, attribute, attributes, body, resource, marked, compares_by, compares, comparison_rule, query_in_parentheses, test_by, test_rule, another_by, another, conjunction_rule, query, optional_query, settings_by, optional_settings, collector, expression_from, behind_name_by, behind_name, behind_type_by, behind_type, operand_by, operand_rule, link_by, link_rule}

@@ -12,9 +12,9 @@ use Rattle.pp_tree.specs.declared.resource.ResourceForm.TheVariants as resource_
 use Rattle.pp_tree.specs.declared.definition.Name.{Name}
 use Rattle.pp_tree.specs.Building.{expr_at, chain as chain_of, words as words_of}
 use Rattle.pp_parser.specs.declared.argument.WordArgument.TheVariants as argument
-use Rattle.pp_parser.specs.Input.{Input, Outcome, Parser, and_then, ◌>>=◌, pure, kind, kind_at, peek, eat, turns}
+use Rattle.pp_grammar.proofs.Reader.Input.{Input, Outcome, Parser, and_then, ◌>>=◌, pure, kind, kind_at, peek, eat, turns}
 use Rattle.pp_grammar.proofs.Reader.Inner.{Inner}
-use Rattle.pp_parser.specs.Kinds.{is_kind, same_kind, is_name, begins_expression}
+use Rattle.pp_grammar.specs.Kinds.{is_kind, same_kind, is_name, begins_expression}
 use Rattle.pp_grammar.proofs.Reader.Levels.{within}
 use Rattle.pp_grammar.proofs.Reader.Expressions.{call_or_name_by, call_or_name, chain, loosest, started, whole}
 use Rattle.pp_grammar.proofs.Reader.Statements.{Read, taken_name, resource, expression_from, behind_name_by, behind_name, behind_type, chain_from, defaults_rule, override_rule, reference_by, reference_rule, typed_by, typed, argument_from_by, argument_from, argument_rule, argument_then, words_from, words, function_by, function, statement_by, statement_rule}

@@ -6,11 +6,12 @@ use Rattle.pp_lexer.specs.declared.kind.Kind.{Kind}
 use Rattle.pp_lexer.specs.declared.kind.Kind.TheVariants as k
 use Rattle.pp_lexer.specs.declared.token.Token.{Token}
 use Rattle.pp_parser.specs.declared.refusal.Refusal.TheVariants as refusals
-use Rattle.pp_parser.specs.Input.{Input, Outcome, Parser, and_then, ◌>>=◌, ◌<$>◌, pure, kind_at, kind, line_at, peek, here, refuse, taken, take, sees, expect, expect_any, eat, open_level}
+use Rattle.pp_grammar.proofs.Reader.Input.{Input, Outcome, Parser, and_then, ◌>>=◌, ◌<$>◌, pure, kind_at, kind, line_at, peek, here, refuse, taken, take, sees, expect, expect_any, eat, open_level}
 use Rattle.pp_grammar.proofs.Reader.Inner.{Inner, opening}
-use Rattle.pp_grammar.proofs.Reader.Levels.{within_to, within}
-use Rattle.pp_parser.specs.Kinds.{is_kind}
-use Rattle.pp_parser.specs.Keys.{earlier_line, doubled_key, noting}
+use Rattle.pp_grammar.proofs.Reader.Levels.{within_to, within, deepest_to, read_to}
+use Rattle.pp_grammar.specs.Kinds.{is_kind}
+use Rattle.pp_grammar.specs.Keys.{earlier_line, doubled_key}
+use Rattle.pp_grammar.proofs.Reader.Keys.{noting}
 use Rattle.pp_tree.specs.declared.expr.Expr.{Expr}
 use Rattle.pp_tree.specs.declared.expr.Pair.{Pair}
 use Rattle.pp_grammar.proofs.Local.Steps.{Alike, at_it, before_it, Falls, falls_less, take_falls, eat_falls, if_true}
@@ -545,11 +546,11 @@ eat_fresh k h = record {
       (t.0, eat_as k i true (ap (λ (ts : List Token). is_kind k (kind_at ts)) e ∙ h) ∙ ap (λ (o : Outcome _). and_then o (λ _. pure true)) t.1, t.2);
 }
 
-pub noting_goes : {n : ℕ} {E : Unit {0} → Option Kind → Bool} (pairs : List (Pair Expr)) → Rule n None E (noting pairs) (λ m. noting pairs)
+pub noting_goes : {n : ℕ} {E : Unit {0} → Option Kind → Bool} (keys : List (Pair Expr) → Option ℕ) (pairs : List (Pair Expr)) → Rule n None E (noting keys pairs) (λ m. noting keys pairs)
 unfolding noting
-noting_goes pairs = record {
-  holds = record { falls = λ i. omega arith; goes = λ i rest other i2 m h alike reached. (record { left = i2.left; doubled = earlier_line i2.doubled (doubled_key pairs) }, refl, alike) };
-  fresh = record { way = []; begins = refl; enough = 0; found = tt; reads = λ i r m h e x. (record { left = i.left; doubled = earlier_line i.doubled (doubled_key pairs) }, refl, e) };
+noting_goes keys pairs = record {
+  holds = record { falls = λ i. omega arith; goes = λ i rest other i2 m h alike reached. (record { left = i2.left; doubled = earlier_line i2.doubled (keys pairs) }, refl, alike) };
+  fresh = record { way = []; begins = refl; enough = 0; found = tt; reads = λ i r m h e x. (record { left = i.left; doubled = earlier_line i.doubled (keys pairs) }, refl, e) };
 }
 
 -- ---- levels
@@ -575,12 +576,12 @@ abbrev opens : (Input → Bool) → Parser Token
 opens is_deepest = λ i. if is_deepest i then Err (refusals.Deep (length i.left)) else take i
 
 opens_more : (m : ℕ) (i : Input) → 1 ≤ m → opens (within m).is_deepest i ≡ take i
-unfolding within_to
+unfolding deepest_to read_to
 opens_more zero i h = absurd (omega arith)
 opens_more (suc m) i h = refl
 
 opens_holds : {E : Token → Option Kind → Bool} (n : ℕ) → Holds n 1 E (opens (within n).is_deepest) (λ m. opens (within m).is_deepest)
-unfolding within_to
+unfolding deepest_to read_to
 opens_holds zero = record { falls = λ i. omega arith; goes = λ i. tt }
 opens_holds (suc n) = from_holds (λ m i h. opens_more m i (omega arith)) take_holds
 

@@ -4,8 +4,8 @@ use Rattle.pp_lexer.specs.declared.kind.Kind.{Kind}
 use Rattle.pp_lexer.specs.declared.kind.Kind.TheVariants as k
 use Rattle.pp_lexer.specs.declared.token.Token.{Token}
 use Rattle.pp_tree.specs.declared.definition.Name.{Name}
-use Rattle.pp_parser.specs.Input.{Input, Outcome, Parser, and_then, ◌>>=◌, ◌>>◌, pure, refuse, kind, kind_at, peek, eat, turns}
-use Rattle.pp_parser.specs.Kinds.{is_kind, same_kind}
+use Rattle.pp_grammar.proofs.Reader.Input.{Input, Outcome, Parser, and_then, ◌>>=◌, ◌>>◌, pure, refuse, kind, kind_at, peek, eat, turns}
+use Rattle.pp_grammar.specs.Kinds.{is_kind, same_kind}
 use Rattle.pp_grammar.proofs.Local.Steps.{Falls, one, if_true, eat_falls}
 use Rattle.pp_grammar.proofs.Local.Lists.{same_then, same_if}
 use Rattle.pp_grammar.proofs.Ways.Steps.{mark, tokens_of, Holds, Fresh, Rule, Meets, bind_holds, fresh_by, fresh_after, after, pure_goes, refuse_holds, peek_none, takes, leaves, test_branch, same_holds, eats, eat_goes, begins_first}

@@ -16,10 +16,11 @@ use Rattle.pp_tree.specs.declared.table.TableStop.TheVariants.{Doubled, Memory}
 use Rattle.pp_tree.specs.Names.{same_name}
 use Rattle.pp_tree.specs.Tables.{Entries, table_from, table_of, all_rows}
 use Rattle.pp_parser.specs.declared.refusal.Refusal.TheVariants as refusals
-use Rattle.pp_parser.specs.Input.{Outcome}
-use Rattle.pp_parser.specs.Keys.{earlier_line}
+use Rattle.pp_grammar.proofs.Reader.Input.{Outcome}
+use Rattle.pp_grammar.specs.Keys.{earlier_line}
 use Rattle.pp_parser.specs.declared.found.Found.{Found}
-use Rattle.pp_parser.specs.Manifest.{start, line_from, line_of, fault_at, doubled_name, without_doubles, file_with, file_from, file_of}
+use Rattle.pp_grammar.proofs.Reader.Manifest.{start, line_from, line_of, fault_at, doubled_name, without_doubles, file_with, file_from}
+use Rattle.pp_parser.specs.Manifest.{file_of}
 use Rattle.pp_grammar.specs.Laws.{the_end, max_levels, everywhere, up_to, first_token, SameHead, IsFile, IsTree, IsRefused, IsTooDeep, IsFault}
 use Rattle.pp_grammar.proofs.Local.Ahead.{Past, RefusedAt, DeepAt}
 use Rattle.pp_grammar.proofs.Local.Steps.{Deepens}
@@ -28,7 +29,8 @@ use Rattle.pp_grammar.proofs.Whole.Limits.{limit, more_later, later_too}
 use Rattle.pp_grammar.proofs.Whole.Places.{one_place, one_depth, never_both, refused_stands, deep_stands}
 use Rattle.pp_grammar.proofs.Whole.Reads.{reader, looks_at_next, file_stands, file_read}
 use Rattle.pp_grammar.proofs.Whole.Goes.{goes_on, goes_deeper, never_deep_at_end}
-use Rattle.pp_grammar.proofs.Whole.Trees.{one_tree, file_of_by}
+use Rattle.pp_grammar.proofs.Whole.Trees.{one_tree}
+use Rattle.pp_grammar.proofs.Whole.Parser.{file_of_by}
 
 -- ---- the table of definitions has memory
 

@@ -4,9 +4,9 @@ use Rattle.std.proofs.lemmas.Bool.{le-ltb}
 use Rattle.std.specs.Str.{bytes_eq}
 use Rattle.pp_lexer.specs.declared.token.Token.{Token}
 use Rattle.pp_parser.specs.declared.refusal.Refusal.TheVariants as refusals
-use Rattle.pp_parser.specs.Input.{Input, Outcome}
+use Rattle.pp_grammar.proofs.Reader.Input.{Input, Outcome}
 use Rattle.pp_parser.specs.declared.found.Found.{Found}
-use Rattle.pp_parser.specs.Manifest.{main_path, start}
+use Rattle.pp_grammar.proofs.Reader.Manifest.{main_path, start}
 use Rattle.pp_grammar.specs.Laws.{the_end, max_levels, Limit, everywhere, IsFile}
 use Rattle.pp_grammar.proofs.Local.Ahead.{Past}
 use Rattle.pp_grammar.proofs.Local.Steps.{Deepens, Follows}

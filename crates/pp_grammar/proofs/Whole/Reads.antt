@@ -5,12 +5,12 @@ use Rattle.std.proofs.lemmas.Slice.Eq.{bytes_eq-Decides}
 use Rattle.pp_lexer.specs.declared.token.Token.{Token}
 use Rattle.pp_tree.specs.declared.statement.Statement.{Statement}
 use Rattle.pp_tree.specs.declared.definition.Definition.{Definition}
-use Rattle.pp_parser.specs.Input.{Input, Parser, kind, kind_at}
+use Rattle.pp_grammar.proofs.Reader.Input.{Input, Parser, kind, kind_at}
 use Rattle.pp_parser.specs.declared.found.Found.{Found}
 use Rattle.pp_grammar.proofs.Reader.Definitions.{main_manifest, module_file}
 use Rattle.pp_grammar.proofs.Reader.Inner.{Inner}
 use Rattle.pp_grammar.proofs.Reader.Levels.{within_to}
-use Rattle.pp_parser.specs.Manifest.{main_path, start}
+use Rattle.pp_grammar.proofs.Reader.Manifest.{main_path, start}
 use Rattle.pp_grammar.specs.Places.{Within}
 use Rattle.pp_grammar.specs.Files.{IsMain, IsModule}
 use Rattle.pp_grammar.specs.Laws.{the_end, only_definitions, Limit, everywhere, within_limit, IsFile}

@@ -9,13 +9,14 @@ use Rattle.pp_tree.specs.declared.file.File.{File}
 use Rattle.pp_tree.specs.declared.table.TableStop.{TableStop}
 use Rattle.pp_tree.specs.Tables.{Entries, table_of}
 use Rattle.pp_parser.specs.declared.refusal.Refusal.TheVariants as refusals
-use Rattle.pp_parser.specs.Input.{Input, Outcome}
-use Rattle.pp_parser.specs.Keys.{earlier_line}
+use Rattle.pp_grammar.proofs.Reader.Input.{Input, Outcome}
+use Rattle.pp_grammar.specs.Keys.{earlier_line}
 use Rattle.pp_parser.specs.declared.found.Found.{Found}
-use Rattle.pp_parser.specs.Manifest.{start, doubled_name, without_doubles, file_with, file_from, file_of}
+use Rattle.pp_grammar.proofs.Reader.Manifest.{start, doubled_name, without_doubles, file_with, file_from}
+use Rattle.pp_parser.specs.Manifest.{file_of}
 use Rattle.pp_grammar.specs.Laws.{the_end, max_levels, Limit, everywhere, IsFile, IsTree}
 use Rattle.pp_grammar.proofs.Whole.Reads.{reader, file_stands, file_read}
-use Rattle.pp_grammar.proofs.Whole.Parser.{reads_by_reader}
+use Rattle.pp_grammar.proofs.Whole.Parser.{file_of_by}
 
 same_found : (a b : Found) (i j : Input) (o : Outcome Found) → o ≡ Ok (a, i) → o ≡ Ok (b, j) → (a ≡ b) × (i ≡ j)
 same_found a b i j o e f =
@@ -64,13 +65,9 @@ module _ (path text : List ℕ) where
   is_tree_by (Err (refusals.Deep k)) file is h = absurd cc
   is_tree_by (Err refusals.Memory) file is h = absurd cc
 
-  pub file_of_by : file_of path text ≡ file_from path (end_line text) (tokens text) (reader path (everywhere max_levels) (start (tokens text)))
-  unfolding file_of
-  file_of_by = ap (λ (o : Outcome Found). file_from path (end_line text) (tokens text) o) (reads_by_reader path (tokens text))
-
   -- the tree that is read is one
   pub is_tree : (file : File) → file_of path text ≡ Ok file → IsTree path text file
-  is_tree file h = is_tree_by (reader path (everywhere max_levels) (start (tokens text))) file refl (sym file_of_by ∙ h)
+  is_tree file h = is_tree_by (reader path (everywhere max_levels) (start (tokens text))) file refl (sym (file_of_by path text) ∙ h)
 
   by_table : (statements : List Statement) (definitions : List Definition) (entries : Entries) → table_of definitions ≡ Ok entries → file_with path (record { statements = statements; definitions = definitions }) None ≡ Ok (record { statements = statements; definitions = entries })
   unfolding file_with earlier_line
@@ -79,4 +76,4 @@ module _ (path text : List ℕ) where
   -- a tree is read
   pub tree_read : (file : File) → IsTree path text file → file_of path text ≡ Ok file
   tree_read file t =
-      file_of_by ∙ ap (λ (o : Outcome Found). file_from path (end_line text) (tokens text) o) (file_read t.stands) ∙ by_table file.statements t.definitions file.definitions t.table
+      file_of_by path text ∙ ap (λ (o : Outcome Found). file_from path (end_line text) (tokens text) o) (file_read t.stands) ∙ by_table file.statements t.definitions file.definitions t.table

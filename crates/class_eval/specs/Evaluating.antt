@@ -161,7 +161,7 @@ class_given inner c (Some given) at here = do
 
 unfoldable pub class_within : Inner → List ℕ → Option (List Setting) → Place → Here → Step ℕ
 class_within inner x given at here = do
-  c ← (λ w. answered (class_found w.manifests (normal x) at) w)
+  c ← (λ w. answered (class_found w.environment (normal x) at) w)
   class_given inner c given at here
   class_number c
 

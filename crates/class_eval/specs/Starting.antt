@@ -11,7 +11,7 @@ use Rattle.res_core.specs.declared.declared.Declared.{Declared}
 use Rattle.scope_core.specs.Names.{Name}
 use Rattle.class_eval.specs.Facts.{with_top_names}
 use Rattle.eval_world.specs.Worlds.{empty}
-use Rattle.eval_world.specs.Manifests.{Manifests}
+use Rattle.eval_world.specs.Environment.{Environment}
 use Rattle.eval_world.specs.declared.owners.TheConstants.{MAIN_SOURCE}
 use Rattle.eval_world.specs.declared.world.World.{World}
 
@@ -43,5 +43,5 @@ begun node facts w = record w {
   overrides = scope_opened 0 None w.overrides;
 }
 
-abbrev pub started : Manifests → Name → Datum → World
-started manifests node facts = begun node facts (empty manifests)
+abbrev pub started : Environment → Name → Datum → World
+started environment node facts = begun node facts (empty environment)

@@ -32,7 +32,7 @@ pub fn class_at(
 {
     let alloc = world.heap.alloc();
     let name = normal_name(alloc, name)?;
-    let class = class_found(alloc, &world.manifests, &name, at)?;
+    let class = class_found(alloc, &world.environment, &name, at)?;
     declare(world, class, given, here, at, left)?;
     Ok(number_of(world, class)?)
 }

@@ -12,7 +12,7 @@ use crate::nodes::{has_nodes, node_of};
 use crate::starting::start_world;
 use crate::statements::block;
 use eval_classes::{BodyOwner, enter_body, run_instance};
-use eval_world::{Evaluated, Forms, Goal, Here, Manifests, World};
+use eval_world::{Evaluated, Forms, Goal, Here, Environment, World};
 use override_rules::Overrides;
 use pp_tree::definition::Node;
 use pp_tree::expr::Expr;
@@ -40,15 +40,15 @@ impl<'a> Evaluator<'a> {
     /// Before any statement of the main manifest, for a node with these facts.
     pub fn start(
         alloc: Global,
-        manifests: Manifests<'a>,
+        environment: Environment<'a>,
         node: &Text,
         facts: &Value,
     ) -> Result<Evaluator<'a>, Memory>
-        ensures world { IfOk result (λ e. e.world ≡ started manifests.entry node.now (view facts.now)) }
+        ensures world { IfOk result (λ e. e.world ≡ started environment.entry node.now (view facts.now)) }
         ensures node { IfOk result (λ e. e.node ≡ node.now) }
     {
         let name = node.copy(alloc)?;
-        let world = start_world(alloc, manifests, node, facts)?;
+        let world = start_world(alloc, environment, node, facts)?;
         Ok(Evaluator { world, node: name })
     }
 
@@ -91,10 +91,10 @@ impl<'a> Evaluator<'a> {
     /// Runs the statements of the main manifest, and then the node's definition, where nodes are defined.
     #[tactic(auto, unfolding(crate::specs::Evaluating::main_rule))]
     pub fn run_main(&mut self) -> Result<(), Stop>
-        ensures { Gives nothing (spec.main_rule self.old.world.manifests.main self.old.node self.old.world) result
+        ensures { Gives nothing (spec.main_rule self.old.world.environment.main self.old.node self.old.world) result
             self.new.world }
     {
-        let main = self.world.manifests.main();
+        let main = self.world.environment.main();
         let forms: Forms<_, Whole> = Forms {
             left: levels_left(1),
             inner: evaluate,

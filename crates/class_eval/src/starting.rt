@@ -4,7 +4,7 @@ ghost use Rattle.pp_values.specs.Views.{view};
 ghost use Rattle.class_eval.specs.Starting as spec;
 
 use crate::top_names::put_top_names;
-use eval_world::{MAIN_SOURCE, Manifests, World};
+use eval_world::{MAIN_SOURCE, Environment, World};
 use pp_values::{Kind, MAIN_MANIFEST, Memory, Place, Text, Texts, Value};
 use res_book::{Book, Mode};
 use res_core::{Attributes, Declared, Resource, Tags, tags_of};
@@ -12,13 +12,13 @@ use std::alloc::Global;
 
 pub fn start_world<'a>(
     alloc: Global,
-    manifests: Manifests<'a>,
+    environment: Environment<'a>,
     node: &Text,
     facts: &Value,
 ) -> Result<World<'a>, Memory>
-    ensures { IfOk result (λ w. w ≡ spec.started manifests.entry node.now (view facts.now)) }
+    ensures { IfOk result (λ w. w ≡ spec.started environment.entry node.now (view facts.now)) }
 {
-    let mut world = World::new(alloc, manifests)?;
+    let mut world = World::new(alloc, environment)?;
     begin(&mut world, node, facts)?;
     Ok(world)
 }

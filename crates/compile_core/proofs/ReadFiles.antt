@@ -3,10 +3,10 @@ use Rattle.std.proofs.Common.{◌≡◌, ℕ, suc, arith, List, [], ◌∷◌, m
 use Rattle.std.specs.List.{All}
 use Rattle.pp_tree.specs.declared.manifest_file.ManifestFile.{ManifestFile}
 use Rattle.pp_tree.specs.declared.file.File.{File}
-use Rattle.eval_world.specs.Manifests.{Manifests}
+use Rattle.eval_world.specs.Environment.{Environment}
 use Rattle.site_bundle.specs.SiteView.{SiteView}
 use Rattle.site_bundle.specs.Listing.{filed, IsRead, AreRead}
-use Rattle.compile_core.specs.Meaning.{read_file, manifests_of}
+use Rattle.compile_core.specs.Meaning.{read_file, environment_of}
 
 one_read : (e : List ℕ × ManifestFile) → IsRead e → e ≡ read_file (e.0, e.1.text)
 one_read e h = ap (λ r. (e.0, record { text = e.1.text; read = r })) h
@@ -17,10 +17,10 @@ all_read (e ∷ es) h =
     ap (λ x. x ∷ es) (one_read e (h 0 e (omega arith)))
     ∙ ap (λ xs. read_file (e.0, e.1.text) ∷ xs) (all_read es (λ k d below. h (suc k) d (omega (arith, below))))
 
-abbrev manifests : File → List (List ℕ × ManifestFile) → Manifests
-manifests main es = record { main = main; files = es }
+abbrev environment : File → List (List ℕ × ManifestFile) → Environment
+environment main es = record { main = main; files = es }
 
 -- so that they are the manifests of the site
 pub manifests_read : (main : File) (es : List (List ℕ × ManifestFile)) (site : SiteView) →
-    AreRead es → filed es ≡ site.files → manifests main es ≡ manifests_of site main
-manifests_read main es site read same = ap (manifests main) (all_read es read ∙ ap (map read_file) same)
+    AreRead es → filed es ≡ site.files → environment main es ≡ environment_of site main
+manifests_read main es site read same = ap (environment main) (all_read es read ∙ ap (map read_file) same)

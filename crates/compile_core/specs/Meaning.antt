@@ -12,7 +12,7 @@ use Rattle.res_core.specs.declared.export_set.ExportSet.{ExportSet}
 use Rattle.res_core.specs.declared.log_line.LogLine.{LogLine}
 use Rattle.export_store.specs.Sets.{Sets}
 use Rattle.site_bundle.specs.SiteView.{Filed, SiteView, main_text}
-use Rattle.eval_world.specs.Manifests.{Manifests}
+use Rattle.eval_world.specs.Environment.{Environment}
 use Rattle.eval_world.specs.Outcomes.{Outcome, Step, ◌>>=◌, ◌>>◌}
 use Rattle.eval_world.specs.declared.world.World.{World}
 use Rattle.class_eval.specs.Evaluating.{main_rule}
@@ -26,13 +26,13 @@ use Rattle.catalog_finish.specs.Finishing.{finished}
 abbrev pub read_file : Filed → List ℕ × ManifestFile
 read_file f = (f.0, record { text = f.1; read = file_of f.0 f.1 })
 
-abbrev pub manifests_of : SiteView → File → Manifests
-manifests_of site main = record { main = main; files = map read_file site.files }
+abbrev pub environment_of : SiteView → File → Environment
+environment_of site main = record { main = main; files = map read_file site.files }
 
 -- ---- evaluation and finishing
 
 -- The main manifest with the node's definition, and then rounds, which see one version of the sets.
-abbrev pub evaluated : Manifests → List ℕ → Sets → Step (Unit {0})
+abbrev pub evaluated : Environment → List ℕ → Sets → Step (Unit {0})
 evaluated m node sets = do
   main_rule m.main node
   rounds node sets
@@ -49,14 +49,14 @@ ended node (Ok p) = finished_world node p.1
 ended node (Err f) = Err f
 
 -- it begins with the names of top scope, made of the node's name and facts, and with `Class[main]`
-abbrev pub meaning_of : Manifests → List ℕ → Datum → Sets → Result (Catalog × ExportSet) Fault
+abbrev pub meaning_of : Environment → List ℕ → Datum → Sets → Result (Catalog × ExportSet) Fault
 meaning_of m node facts sets = ended node (evaluated m node sets (started m node facts))
 
 -- ---- the site
 
 -- where the main manifest has no tree, its fault
 abbrev pub meaning_if_read : SiteView → Result File Fault → List ℕ → Datum → Sets → Result (Catalog × ExportSet) Fault
-meaning_if_read site (Ok main) node facts sets = meaning_of (manifests_of site main) node facts sets
+meaning_if_read site (Ok main) node facts sets = meaning_of (environment_of site main) node facts sets
 meaning_if_read site (Err f) node facts sets = Err f
 
 unfoldable pub meaning : SiteView → List ℕ → Datum → Sets → Result (Catalog × ExportSet) Fault

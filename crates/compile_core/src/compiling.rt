@@ -6,7 +6,7 @@ ghost use Rattle.pp_values.specs.Views.{view};
 use catalog_finish::finish;
 use class_eval::Evaluator;
 use defined_types::run_rounds;
-use eval_world::Manifests;
+use eval_world::Environment;
 use export_store::Version;
 use pp_values::{Stop, Text, Value};
 use res_core::{Catalog, ExportSet, LogLines};
@@ -27,24 +27,24 @@ pub fn compile(
 {
     match &site.main_file().read {
         Ok(main) => {
-            let manifests = Manifests::new(main, site.files().as_map());
-            compile_manifests(alloc, manifests, node, facts, sets)
+            let environment = Environment::new(main, site.files().as_map());
+            compile_environment(alloc, environment, node, facts, sets)
         }
         Err(fault) => Err(Stop::Fault(fault.copy(alloc)?)),
     }
 }
 
 /// The same by the trees of the manifests.
-fn compile_manifests(
+fn compile_environment(
     alloc: Global,
-    manifests: Manifests<'_>,
+    environment: Environment<'_>,
     node: &Text,
     facts: &Value,
     sets: &Version,
 ) -> Result<(Catalog, ExportSet), Stop>
-    ensures { Answers result (spec.meaning_of manifests.entry node.now (view facts.now) sets.now) }
+    ensures { Answers result (spec.meaning_of environment.entry node.now (view facts.now) sets.now) }
 {
-    let mut evaluator = Evaluator::start(alloc, manifests, node, facts)?;
+    let mut evaluator = Evaluator::start(alloc, environment, node, facts)?;
     evaluator.run_main()?;
     run_rounds(&mut evaluator, sets, node)?;
     finish_world(alloc, evaluator, node)

@@ -20,7 +20,7 @@ use Rattle.res_core.specs.NativeTypes.{native_of}
 use Rattle.res_core.specs.declared.resource.Resource.{Resource}
 use Rattle.eval_collecting.specs.Importing.{finds, tested, names_known, declare_rule, import_rule, import_match}
 use Rattle.eval_collecting.specs.Matching.{takes, local_match}
-use Rattle.eval_world.specs.Manifests.{Manifests}
+use Rattle.eval_world.specs.Environment.{Environment}
 use Rattle.eval_world.specs.Outcomes.{Outcome}
 use Rattle.eval_world.specs.Owners.{owner_at}
 use Rattle.eval_world.specs.Worlds.{empty}
@@ -51,7 +51,7 @@ collector exported query =
 abbrev asks_for : List ℕ → Collector
 asks_for tag = collector false (by_tag (d.text tag))
 
-abbrev with_two : List Collector → Manifests → World
+abbrev with_two : List Collector → Environment → World
 with_two cs m = record (empty m) {
   book = virtual (codes "a") (codes "t") ∷ virtual (codes "b") (codes "u") ∷ [];
   relations = record { lines = []; containments = []; collectors = cs };
@@ -74,7 +74,7 @@ both x y = (codes "a", x) ∷ (codes "b", y) ∷ []
 
 -- ---- one collector
 
-by_tag_alone : (m : Manifests) → shown (collector_turn 0 (codes "n") nothing (with_two (asks_for (codes "u") ∷ []) m))
+by_tag_alone : (m : Environment) → shown (collector_turn 0 (codes "n") nothing (with_two (asks_for (codes "u") ∷ []) m))
     ≡ Ok (true, both false true)
 unfolding collector_turn take_from local_match takes
 by_tag_alone m = refl
@@ -84,43 +84,43 @@ abbrev from_other : ℕ → List ℕ → Placed
 from_other n title =
     (record { node = codes "o"; place = n }, record { node_place = place 5; item = notify title (codes "t") })
 
-imports_in_order : (m : Manifests)
+imports_in_order : (m : Environment)
     → shown (take_imports 0 false (from_other 0 (codes "y") ∷ from_other 1 (codes "x") ∷ from_other 0 (codes "y") ∷ [])
     (with_two (collector true all ∷ []) m))
     ≡ Ok (true, (codes "a", false) ∷ (codes "b", false) ∷ (codes "y", false) ∷ (codes "x", false) ∷ [])
 unfolding take_imports import_match finds import_rule tested native_of natives.attributes_of names_known known_checked declare_rule owner_at line_tests
 imports_in_order m = refl
 
-import_twice : (m : Manifests)
+import_twice : (m : Environment)
     → shown (take_imports 0 false (from_other 0 (codes "a") ∷ []) (with_two (collector true all ∷ []) m))
     ≡ Err (faults.fault (place 5) (what.Duplicate (record { kind = codes "notify"; title = codes "a" }) (place 1)))
 unfolding take_imports import_match finds import_rule tested native_of natives.attributes_of names_known known_checked declare_rule owner_at line_tests
 import_twice m = refl
 
 -- `<| |>` imports nothing
-local_collector : (m : Manifests) → imports (with_two (collector false all ∷ []) m) 0 ≡ None
+local_collector : (m : Environment) → imports (with_two (collector false all ∷ []) m) 0 ≡ None
 local_collector m = refl
 
-exported_collector : (m : Manifests) → imports (with_two (collector true all ∷ []) m) 0 ≡ Some (codes "notify")
+exported_collector : (m : Environment) → imports (with_two (collector true all ∷ []) m) 0 ≡ Some (codes "notify")
 exported_collector m = refl
 
 -- ---- rounds
 
 -- a second round adds nothing, and is the last
-two_rounds : (m : Manifests)
+two_rounds : (m : Environment)
     → shown (rounds_left 2 (codes "n") nothing (with_two (asks_for (codes "u") ∷ asks_for (codes "t") ∷ []) m))
     ≡ Ok (tt, both true true)
 unfolding rounds_left round run_instances turns_from collector_turn take_from local_match takes native_of
 two_rounds m = refl
 
 -- F27 where the last round still adds something
-one_round_alone : (m : Manifests)
+one_round_alone : (m : Environment)
     → shown (rounds_left 1 (codes "n") nothing (with_two (asks_for (codes "u") ∷ []) m))
     ≡ Err (faults.fault (place 1) what.RoundLimit)
 unfolding rounds_left round run_instances turns_from collector_turn take_from local_match takes owner_at native_of
 one_round_alone m = refl
 
-nothing_to_take : (m : Manifests)
+nothing_to_take : (m : Environment)
     → shown (rounds_left 1 (codes "n") nothing (with_two (asks_for (codes "v") ∷ []) m)) ≡ Ok (tt, both false false)
 unfolding rounds_left round run_instances turns_from collector_turn take_from local_match takes native_of
 nothing_to_take m = refl

@@ -29,7 +29,7 @@ use Rattle.eval_world.specs.Outcomes.{Outcome, Step, ◌>>=◌, ◌>>◌, pure}
 use Rattle.eval_world.specs.Owners.{owner_at}
 use Rattle.eval_world.specs.Worlds.{empty, fault, read, assign, enter_lambda, write_log}
 use Rattle.eval_world.specs.declared.here.Here.{Here}
-use Rattle.eval_world.specs.Manifests.{Manifests}
+use Rattle.eval_world.specs.Environment.{Environment}
 use Rattle.eval_calls.specs.Calls.{invoked, invoked_on, words_rule}
 use Rattle.eval_calls.specs.Calls.{plain_rule, evaluated_rule, site_rule, log_rule, with_lambda_rule}
 use Rattle.eval_calls.specs.Calls.{stray_lambda_rule}
@@ -108,7 +108,7 @@ abbrev shown : Outcome Datum → Result (Datum × List (List ℕ)) Fault
 shown (Ok p) = Ok (p.0, map (λ l. l.text) p.1.log)
 shown (Err f) = Err f
 
-abbrev run : Step Datum → Manifests → Result (Datum × List (List ℕ)) Fault
+abbrev run : Step Datum → Environment → Result (Datum × List (List ℕ)) Fault
 run p m = shown (p (empty m))
 
 abbrev written : List ℕ → Expr
@@ -141,14 +141,14 @@ calls of block f arguments l = invoked (inner of block) f arguments l 3 top
 
 -- ---- arguments
 
-left_to_right : (m : Manifests)
+left_to_right : (m : Environment)
     → run (calls d.undef fails (codes "notice") (written (codes "a") ∷ written (codes "b") ∷ []) None) m
     ≡ Ok (d.undef, codes "a" ∷ codes "b" ∷ codes "a b" ∷ [])
 unfolding invoked values_from argument_rule plain_rule evaluated_rule log_rule write_log needs_evaluator out-Form
     denote.Hole.Carrier.out
 left_to_right m = refl
 
-spliced_arguments : (m : Manifests)
+spliced_arguments : (m : Environment)
     → run (calls (list (one ∷ d.undef ∷ one ∷ [])) fails (codes "notice") (spliced ∷ written
     (codes "b") ∷ []) None) m
     ≡ Ok (d.undef, codes "b" ∷ codes "1  1 b" ∷ [])
@@ -156,33 +156,33 @@ unfolding invoked values_from argument_rule plain_rule evaluated_rule log_rule w
     denote.Hole.Carrier.out digits
 spliced_arguments m = refl
 
-unknown : (m : Manifests)
+unknown : (m : Environment)
     → run (calls d.undef fails (codes "nope") (given ∷ []) None) m
     ≡ refuses 3 (what.UnknownFunction (codes "nope"))
 unfolding invoked values_from argument_rule plain_rule needs_evaluator function_of out-Form denote.Hole.Carrier.out
     owner_at
 unknown m = refl
 
-arguments_before_unknown : (m : Manifests)
+arguments_before_unknown : (m : Environment)
     → run (calls d.undef fails (codes "nope") (given ∷ refused ∷ []) None) m
     ≡ refuses 6 (what.BadOperand (codes "argument"))
 unfolding invoked values_from argument_rule out-Form denote.Hole.Carrier.out owner_at
 arguments_before_unknown m = refl
 
-unknown_as_written : (m : Manifests)
+unknown_as_written : (m : Environment)
     → run (calls d.undef fails (codes "::Notice") [] None) m
     ≡ refuses 3 (what.UnknownFunction (codes "::Notice"))
 unfolding invoked values_from plain_rule needs_evaluator function_of owner_at
 unknown_as_written m = refl
 
-receiver_first : (m : Manifests)
+receiver_first : (m : Environment)
     → run (invoked_on (inner d.undef fails) one (codes "notice") (written (codes "a") ∷ []) None 3 top) m
     ≡ Ok (d.undef, codes "a" ∷ codes "1 a" ∷ [])
 unfolding invoked_on values_from argument_rule plain_rule evaluated_rule log_rule write_log needs_evaluator out-Form
     denote.Hole.Carrier.out digits
 receiver_first m = refl
 
-method_with_lambda : (m : Manifests)
+method_with_lambda : (m : Environment)
     → run (invoked_on (inner d.undef notice_x) (list (one ∷ [])) (codes "map") [] (Some takes_x) 3 top) m
     ≡ Ok (list (one ∷ []), codes "1" ∷ [])
 unfolding invoked_on values_from with_lambda_rule lambda_function lambda_function_rule iterate_rule over_rule
@@ -190,14 +190,14 @@ unfolding invoked_on values_from with_lambda_rule lambda_function lambda_functio
     scopes.found last_cut scopes.seen_from digits
 method_with_lambda m = refl
 
-without_parentheses : (m : Manifests)
+without_parentheses : (m : Environment)
     → run (words_rule (inner d.undef fails) (tree.words (codes "warning") (written (codes "a") ∷ []) 4) top) m
     ≡ Ok (d.undef, codes "a" ∷ codes "a" ∷ [])
 unfolding words_rule invoked values_from argument_rule plain_rule evaluated_rule log_rule write_log needs_evaluator
     out-Form denote.Hole.Carrier.out
 without_parentheses m = refl
 
-fault_of_words : (m : Manifests)
+fault_of_words : (m : Environment)
     → run (words_rule (inner d.undef fails) (tree.words (codes "fail") (written (codes "a") ∷ []) 4) top) m
     ≡ refuses 4 (what.Failed (codes "a"))
 unfolding words_rule invoked values_from argument_rule plain_rule write_log needs_evaluator function_of out-Form
@@ -215,7 +215,7 @@ abbrev levels : Outcome Datum → Result (List (List ℕ × List ℕ)) Fault
 levels (Ok p) = Ok (map (λ l. (l.level, l.text)) p.1.log)
 levels (Err f) = Err f
 
-all_levels : (m : Manifests)
+all_levels : (m : Environment)
     → levels ((plainly (codes "debug") (one ∷ one ∷ []) >> (plainly (codes "info") []
     >> (plainly (codes "notice") (one ∷ []) >> (plainly (codes "warning") (one ∷ [])
     >> plainly (codes "err") (one ∷ []))))) (empty m))
@@ -224,22 +224,22 @@ all_levels : (m : Manifests)
 unfolding plain_rule evaluated_rule log_rule write_log needs_evaluator digits
 all_levels m = refl
 
-failure : (m : Manifests)
+failure : (m : Environment)
     → run (plainly (codes "fail") (text (codes "a") ∷ one ∷ [])) m ≡ refuses 3 (what.Failed (codes "a 1"))
 unfolding plain_rule needs_evaluator function_of owner_at digits
 failure m = refl
 
-pure_value : (m : Manifests)
+pure_value : (m : Environment)
     → run (plainly (codes "length") (list (one ∷ one ∷ one ∷ []) ∷ [])) m ≡ Ok (d.int (pos 3), [])
 unfolding plain_rule needs_evaluator function_of
 pure_value m = refl
 
-pure_wrong : (m : Manifests)
+pure_wrong : (m : Environment)
     → run (plainly (codes "length") (one ∷ [])) m ≡ refuses 3 (what.WrongArguments (codes "length"))
 unfolding plain_rule needs_evaluator function_of owner_at
 pure_wrong m = refl
 
-pure_range : (m : Manifests)
+pure_range : (m : Environment)
     → run (plainly (codes "abs") (d.int (negsuc 9223372036854775807) ∷ [])) m ≡ refuses 3
     (what.NumberRange (codes "abs"))
 unfolding plain_rule needs_evaluator function_of owner_at
@@ -247,7 +247,7 @@ pure_range m = refl
 
 -- a function that takes a lambda, without one
 abbrev wants_lambda : List ℕ → Type 0
-wants_lambda f = (m : Manifests)
+wants_lambda f = (m : Environment)
     → run (plainly f (list [] ∷ [])) m ≡ refuses 3 (what.WrongArguments f)
 
 each_alone : wants_lambda (codes "each")
@@ -279,17 +279,17 @@ unfolding plain_rule evaluated_rule needs_evaluator lambda_function owner_at
 with_alone m = refl
 
 -- classes are declared, and what names none is refused
-no_class : (m : Manifests) → run (plainly (codes "include") (one ∷ [])) m ≡ refuses 3 (what.WrongArguments (codes "include"))
+no_class : (m : Environment) → run (plainly (codes "include") (one ∷ [])) m ≡ refuses 3 (what.WrongArguments (codes "include"))
 unfolding plain_rule evaluated_rule site_rule included names_from needs_evaluator lambda_function owner_at
 no_class m = refl
 
-contains_no_class : (m : Manifests) → run (plainly (codes "contain") []) m ≡ refuses 3 (what.WrongArguments (codes "contain"))
+contains_no_class : (m : Environment) → run (plainly (codes "contain") []) m ≡ refuses 3 (what.WrongArguments (codes "contain"))
 unfolding plain_rule evaluated_rule site_rule included needs_evaluator lambda_function owner_at
 contains_no_class m = refl
 
 -- what is not evaluated yet
 abbrev is_not_built : List ℕ → Type 0
-is_not_built f = (m : Manifests) → run (plainly f (one ∷ [])) m ≡ refuses 3 what.NotBuilt
+is_not_built f = (m : Environment) → run (plainly f (one ∷ [])) m ≡ refuses 3 what.NotBuilt
 
 require_to_come : is_not_built (codes "require")
 unfolding plain_rule evaluated_rule site_rule needs_evaluator lambda_function owner_at
@@ -303,7 +303,7 @@ lookup_to_come : is_not_built (codes "lookup")
 unfolding plain_rule evaluated_rule site_rule needs_evaluator lambda_function owner_at
 lookup_to_come m = refl
 
-arguments_before_not_built : (m : Manifests)
+arguments_before_not_built : (m : Environment)
     → run (calls d.undef fails (codes "include") (refused ∷ []) None) m
     ≡ refuses 6 (what.BadOperand (codes "argument"))
 unfolding invoked values_from argument_rule out-Form denote.Hole.Carrier.out owner_at
@@ -312,7 +312,7 @@ arguments_before_not_built m = refl
 -- ---- a lambda for a function that takes none
 
 abbrev takes_none : List ℕ → Type 0
-takes_none f = (m : Manifests)
+takes_none f = (m : Environment)
     → run (with_lambda_rule (inner d.undef fails) f takes_x (one ∷ []) 3 top) m ≡ refuses 3
     (what.WrongArguments f)
 
@@ -336,14 +336,14 @@ lookup_takes_none : takes_none (codes "lookup")
 unfolding with_lambda_rule lambda_function stray_lambda_rule needs_evaluator function_of owner_at
 lookup_takes_none m = refl
 
-unknown_with_lambda : (m : Manifests)
+unknown_with_lambda : (m : Environment)
     → run (calls d.undef fails (codes "nope") (given ∷ []) (Some takes_x)) m
     ≡ refuses 3 (what.UnknownFunction (codes "nope"))
 unfolding invoked values_from argument_rule with_lambda_rule lambda_function stray_lambda_rule needs_evaluator
     function_of out-Form denote.Hole.Carrier.out owner_at
 unknown_with_lambda m = refl
 
-arguments_before_lambda : (m : Manifests)
+arguments_before_lambda : (m : Environment)
     → run (calls d.undef fails (codes "length") (refused ∷ []) (Some takes_x)) m
     ≡ refuses 6 (what.BadOperand (codes "argument"))
 unfolding invoked values_from argument_rule out-Form denote.Hole.Carrier.out owner_at
@@ -354,30 +354,30 @@ arguments_before_lambda m = refl
 abbrev lambda_of : (ℕ → Here → Step Datum) → List (Param Expr) → List Datum → Step Datum
 lambda_of block params arguments = lambda_rule (inner d.undef block) (takes params) arguments 3 top
 
-undef_is_a_value : (m : Manifests)
+undef_is_a_value : (m : Environment)
     → run (lambda_of notice_x (plain x 7 ∷ []) (d.undef ∷ [])) m ≡ Ok (d.undef, [] ∷ [])
 unfolding lambda_rule enter_lambda bind_from bind_rule assign read write_log scopes.assign scopes.read scopes.found
     last_cut scopes.seen_from
 undef_is_a_value m = refl
 
-default_not_taken : (m : Manifests)
+default_not_taken : (m : Environment)
     → run (lambda_of notice_x (tree.param None x (Some refused) 7 ∷ []) (d.undef ∷ [])) m ≡ Ok (d.undef, [] ∷ [])
 unfolding lambda_rule enter_lambda bind_from bind_rule assign read write_log scopes.assign scopes.read scopes.found
     last_cut scopes.seen_from
 default_not_taken m = refl
 
 -- in the order of the parameters
-twice : (m : Manifests)
+twice : (m : Environment)
     → run (lambda_of notice_x (plain x 7 ∷ plain x 8 ∷ []) (one ∷ one ∷ [])) m ≡ refuses 8 (what.Reassigned x)
 unfolding lambda_rule enter_lambda bind_from bind_rule assign scopes.assign owner_at
 twice m = refl
 
-typed : (m : Manifests)
+typed : (m : Environment)
     → run (lambda_of notice_x (tree.param (Some given) x None 7 ∷ []) (one ∷ [])) m ≡ refuses 7 what.NotBuilt
 unfolding lambda_rule enter_lambda bind_from bind_rule owner_at
 typed m = refl
 
-typed_after_twice : (m : Manifests)
+typed_after_twice : (m : Environment)
     → run (lambda_of notice_x (plain x 7 ∷ plain x 8 ∷ tree.param (Some given) y None 9 ∷ [])
     (one ∷ one ∷ one ∷ [])) m
     ≡ refuses 8 (what.Reassigned x)
@@ -385,20 +385,20 @@ unfolding lambda_rule enter_lambda bind_from bind_rule assign scopes.assign owne
 typed_after_twice m = refl
 
 -- the block belongs to the call, which begins at line 3
-line_of_block : (m : Manifests)
+line_of_block : (m : Environment)
     → run (lambda_of fails [] []) m ≡ refuses 3 (what.Failed (codes "block"))
 unfolding lambda_rule enter_lambda bind_from owner_at
 line_of_block m = refl
 
 -- after the call its parameters are no variables
-parameter_ends : (m : Manifests)
+parameter_ends : (m : Environment)
     → run (lambda_of notice_x (plain x 7 ∷ []) (one ∷ []) >> read top x 9) m ≡ refuses 9 (what.UnknownVariable x)
 unfolding lambda_rule enter_lambda bind_from bind_rule assign read write_log scopes.assign scopes.read scopes.found
     last_cut scopes.seen_from owner_at
 parameter_ends m = refl
 
 -- nor in the next call of a lambda that stands beside it
-parameter_ends_beside : (m : Manifests)
+parameter_ends_beside : (m : Environment)
     → run (lambda_of notice_x (plain x 7 ∷ []) (one ∷ []) >> lambda_of notice_x [] []) m
     ≡ refuses 3 (what.UnknownVariable x)
 unfolding lambda_rule enter_lambda bind_from bind_rule assign read write_log scopes.assign scopes.read scopes.found
@@ -406,7 +406,7 @@ unfolding lambda_rule enter_lambda bind_from bind_rule assign read write_log sco
 parameter_ends_beside m = refl
 
 -- a parameter hides a variable of the scope around it, which stays as it is
-hides : (m : Manifests)
+hides : (m : Environment)
     → run (assign top x (text (codes "outer")) 1 >> (lambda_of notice_x (plain x 7 ∷ [])
     (one ∷ []) >> read top x 9)) m
     ≡ Ok (text (codes "outer"), codes "1" ∷ [])
@@ -415,7 +415,7 @@ unfolding lambda_rule enter_lambda bind_from bind_rule assign read write_log sco
 hides m = refl
 
 -- the block reads the scope that the lambda stands in
-reads_around : (m : Manifests)
+reads_around : (m : Environment)
     → run (assign top x (text (codes "outer")) 1 >> lambda_of notice_x (plain y 7 ∷ []) (one ∷ [])) m
     ≡ Ok (text (codes "outer"), codes "outer" ∷ [])
 unfolding lambda_rule enter_lambda bind_from bind_rule assign read write_log scopes.assign scopes.read scopes.found
@@ -426,7 +426,7 @@ reads_around m = refl
 abbrev within_block : ℕ → Here → Step Datum
 within_block line here = lambda_rule (inner d.undef notice_x) (takes (plain y 8 ∷ [])) (d.undef ∷ []) line here
 
-reads_lambda_around : (m : Manifests)
+reads_lambda_around : (m : Environment)
     → run (lambda_of within_block (plain x 7 ∷ []) (one ∷ [])) m ≡ Ok (one, codes "1" ∷ [])
 unfolding lambda_rule enter_lambda bind_from bind_rule assign read write_log scopes.assign scopes.read scopes.found
     last_cut scopes.seen_from digits
@@ -436,7 +436,7 @@ reads_lambda_around m = refl
 abbrev stands_in_top : ℕ → Here → Step Datum
 stands_in_top line here = lambda_rule (inner d.undef notice_x) (takes (plain y 8 ∷ [])) (d.undef ∷ []) line top
 
-reads_no_caller : (m : Manifests)
+reads_no_caller : (m : Environment)
     → run (lambda_of stands_in_top (plain x 7 ∷ []) (one ∷ [])) m ≡ refuses 3 (what.UnknownVariable x)
 unfolding lambda_rule enter_lambda bind_from bind_rule assign read scopes.assign scopes.read scopes.found last_cut
     scopes.seen_from owner_at
@@ -451,7 +451,7 @@ abbrev untrue : Datum
 untrue = d.flag false
 
 -- each member in order, Undef and what is false too
-each_member : (m : Manifests)
+each_member : (m : Environment)
     → run (with_lambda notice_x (codes "each") takes_x (list (one ∷ d.undef ∷ untrue ∷ text
     (codes "a") ∷ []) ∷ [])) m
     ≡ Ok (list (one ∷ d.undef ∷ untrue ∷ text (codes "a") ∷ []), codes "1" ∷ [] ∷ codes "false" ∷ codes "a" ∷ [])
@@ -460,20 +460,20 @@ unfolding with_lambda_rule lambda_function lambda_function_rule iterate_rule ove
     scopes.seen_from digits
 each_member m = refl
 
-each_of_none : (m : Manifests)
+each_of_none : (m : Environment)
     → run (with_lambda fails (codes "each") takes_x (list [] ∷ [])) m ≡ Ok (list [], [])
 unfolding with_lambda_rule lambda_function lambda_function_rule iterate_rule over_rule turns_from
 each_of_none m = refl
 
 -- the first fault is that of the call
-each_fails : (m : Manifests)
+each_fails : (m : Environment)
     → run (with_lambda fails (codes "each") takes_x (list (one ∷ one ∷ []) ∷ [])) m
     ≡ refuses 3 (what.Failed (codes "block"))
 unfolding with_lambda_rule lambda_function lambda_function_rule iterate_rule over_rule turns_from lambda_rule
     enter_lambda bind_from bind_rule assign scopes.assign owner_at
 each_fails m = refl
 
-places_and_members : (m : Manifests)
+places_and_members : (m : Environment)
     → run (with_lambda notice_x_give_y (codes "map") takes_xy (list (text (codes "a") ∷ d.undef ∷ []) ∷ [])) m
     ≡ Ok (list (text (codes "a") ∷ d.undef ∷ []), codes "0" ∷ codes "1" ∷ [])
 unfolding with_lambda_rule lambda_function lambda_function_rule iterate_rule over_rule turns_from lambda_rule
@@ -481,7 +481,7 @@ unfolding with_lambda_rule lambda_function lambda_function_rule iterate_rule ove
     scopes.seen_from digits
 places_and_members m = refl
 
-keys_and_values : (m : Manifests)
+keys_and_values : (m : Environment)
     → run (with_lambda notice_x_give_y (codes "map") takes_xy (hash ((text (codes "a"), one) ∷ (
       text
           (codes "b"),
@@ -493,7 +493,7 @@ unfolding with_lambda_rule lambda_function lambda_function_rule iterate_rule ove
     scopes.seen_from
 keys_and_values m = refl
 
-pairs_alone : (m : Manifests)
+pairs_alone : (m : Environment)
     → run (with_lambda notice_x (codes "map") takes_x (hash ((text (codes "a"), one) ∷ []) ∷ [])) m
     ≡ Ok (list (list (text (codes "a") ∷ one ∷ []) ∷ []), codes "[a, 1]" ∷ [])
 unfolding with_lambda_rule lambda_function lambda_function_rule iterate_rule over_rule turns_from lambda_rule
@@ -501,7 +501,7 @@ unfolding with_lambda_rule lambda_function lambda_function_rule iterate_rule ove
     scopes.seen_from digits
 pairs_alone m = refl
 
-filters : (m : Manifests)
+filters : (m : Environment)
     → run (with_lambda notice_x (codes "filter") takes_x (list (one ∷ d.undef ∷ untrue ∷ text [] ∷ []) ∷ [])) m
     ≡ Ok (list (one ∷ text [] ∷ []), codes "1" ∷ [] ∷ codes "false" ∷ [] ∷ [])
 unfolding with_lambda_rule lambda_function lambda_function_rule iterate_rule over_rule turns_from lambda_rule
@@ -510,7 +510,7 @@ unfolding with_lambda_rule lambda_function lambda_function_rule iterate_rule ove
 filters m = refl
 
 -- the first that is true decides `any`, and the first that is not `all`: no further turn is taken
-any_stops : (m : Manifests)
+any_stops : (m : Environment)
     → run (with_lambda notice_x (codes "any") takes_x (list (untrue ∷ one ∷ text (codes "never") ∷ []) ∷ [])) m
     ≡ Ok (d.flag true, codes "false" ∷ codes "1" ∷ [])
 unfolding with_lambda_rule lambda_function lambda_function_rule iterate_rule over_rule turns_from lambda_rule
@@ -518,7 +518,7 @@ unfolding with_lambda_rule lambda_function lambda_function_rule iterate_rule ove
     scopes.seen_from digits
 any_stops m = refl
 
-any_of_none : (m : Manifests)
+any_of_none : (m : Environment)
     → run (with_lambda notice_x (codes "any") takes_x (list (untrue ∷ d.undef ∷ []) ∷ [])) m
     ≡ Ok (d.flag false, codes "false" ∷ [] ∷ [])
 unfolding with_lambda_rule lambda_function lambda_function_rule iterate_rule over_rule turns_from lambda_rule
@@ -526,7 +526,7 @@ unfolding with_lambda_rule lambda_function lambda_function_rule iterate_rule ove
     scopes.seen_from
 any_of_none m = refl
 
-all_stops : (m : Manifests)
+all_stops : (m : Environment)
     → run (with_lambda notice_x (codes "all") takes_x (list (one ∷ d.undef ∷ text (codes "never") ∷ []) ∷ [])) m
     ≡ Ok (d.flag false, codes "1" ∷ [] ∷ [])
 unfolding with_lambda_rule lambda_function lambda_function_rule iterate_rule over_rule turns_from lambda_rule
@@ -534,7 +534,7 @@ unfolding with_lambda_rule lambda_function lambda_function_rule iterate_rule ove
     scopes.seen_from digits
 all_stops m = refl
 
-all_of_all : (m : Manifests)
+all_of_all : (m : Environment)
     → run (with_lambda notice_x (codes "all") takes_x (list (one ∷ one ∷ []) ∷ [])) m
     ≡ Ok (d.flag true, codes "1" ∷ codes "1" ∷ [])
 unfolding with_lambda_rule lambda_function lambda_function_rule iterate_rule over_rule turns_from lambda_rule
@@ -543,7 +543,7 @@ unfolding with_lambda_rule lambda_function lambda_function_rule iterate_rule ove
 all_of_all m = refl
 
 -- with a start value, each member is a turn
-reduces_from_start : (m : Manifests)
+reduces_from_start : (m : Environment)
     → run (with_lambda notice_x_give_y (codes "reduce") takes_xy (list (one ∷ untrue ∷ []) ∷ text
     (codes "start") ∷ [])) m
     ≡ Ok (untrue, codes "start" ∷ codes "1" ∷ [])
@@ -553,7 +553,7 @@ unfolding with_lambda_rule lambda_function lambda_function_rule reduce_rule redu
 reduces_from_start m = refl
 
 -- without one, the first member is the first memo
-reduces : (m : Manifests)
+reduces : (m : Environment)
     → run (with_lambda notice_x_give_y (codes "reduce") takes_xy (list (text
     (codes "a") ∷ d.undef ∷ one ∷ []) ∷ [])) m
     ≡ Ok (one, codes "a" ∷ [] ∷ [])
@@ -562,24 +562,24 @@ unfolding with_lambda_rule lambda_function lambda_function_rule reduce_rule redu
     scopes.seen_from
 reduces m = refl
 
-reduces_one : (m : Manifests)
+reduces_one : (m : Environment)
     → run (with_lambda fails (codes "reduce") takes_xy (list (one ∷ []) ∷ [])) m ≡ Ok (one, [])
 unfolding with_lambda_rule lambda_function lambda_function_rule reduce_rule reduced reduce_from
 reduces_one m = refl
 
-reduces_none : (m : Manifests)
+reduces_none : (m : Environment)
     → run (with_lambda fails (codes "reduce") takes_xy (list [] ∷ [])) m ≡ Ok (d.undef, [])
 unfolding with_lambda_rule lambda_function lambda_function_rule reduce_rule reduced
 reduces_none m = refl
 
-takes_arguments : (m : Manifests)
+takes_arguments : (m : Environment)
     → run (with_lambda notice_x_give_y (codes "with") takes_xy (one ∷ untrue ∷ [])) m ≡ Ok
     (untrue, codes "1" ∷ [])
 unfolding with_lambda_rule lambda_function lambda_function_rule with_rule lambda_rule enter_lambda bind_from bind_rule
     assign read write_log scopes.assign scopes.read scopes.found last_cut scopes.seen_from digits
 takes_arguments m = refl
 
-takes_no_arguments : (m : Manifests)
+takes_no_arguments : (m : Environment)
     → run (with_lambda fails (codes "with") (takes []) []) m ≡ refuses 3 (what.Failed (codes "block"))
 unfolding with_lambda_rule lambda_function lambda_function_rule with_rule lambda_rule enter_lambda bind_from owner_at
 takes_no_arguments m = refl
@@ -587,7 +587,7 @@ takes_no_arguments m = refl
 -- ---- what they do not take: the block, which fails, is never evaluated
 
 abbrev is_wrong : List ℕ → Opened → List Datum → Type 0
-is_wrong f l arguments = (m : Manifests)
+is_wrong f l arguments = (m : Environment)
     → run (with_lambda fails f l arguments) m ≡ refuses 3 (what.WrongArguments f)
 
 -- another number of parameters, also where there is nothing to go through

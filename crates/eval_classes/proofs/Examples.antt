@@ -11,7 +11,7 @@ use Rattle.pp_values.specs.declared.fault.Fault.{Fault}
 use Rattle.pp_values.specs.declared.fault.What.TheVariants as what
 use Rattle.res_core.specs.TagNames.{segments, is_word_byte, is_tag_byte}
 use Rattle.scope_core.specs.Scopes as scopes
-use Rattle.eval_world.specs.Manifests.{Manifests}
+use Rattle.eval_world.specs.Environment.{Environment}
 use Rattle.eval_world.specs.Owners.{owner_at}
 use Rattle.eval_world.specs.Worlds.{assign, write_log}
 use Rattle.eval_classes.specs.Definitions.{below, class_found, comes_to, define_found, definition_of, file_of}
@@ -44,7 +44,7 @@ abbrev init : List ℕ
 init = codes "modules/m/manifests/init.pp"
 
 -- class `m` of its module file
-abbrev with_module : Manifests
+abbrev with_module : Environment
 with_module = site_of [] (read_file init (entry m (class m [] None 3) ∷ []) ∷ [])
 
 in_file : class_found with_module m (place 1) ≡ Ok (class m [] None 3)
@@ -85,7 +85,7 @@ faulty = refl
 -- ---- parents
 
 -- `b` inherits from `a`, whose name is written otherwise
-abbrev family : Manifests
+abbrev family : Environment
 family = site_of (entry a (class a [] None 2) ∷ entry b (class b [] (Some (codes "::A")) 3) ∷ []) []
 
 parent : parent_of family (class b [] (Some (codes "::A")) 3) ≡ Some a
@@ -93,7 +93,7 @@ unfolding parent_of comes_to definition_of normal without_front_colons
 parent = refl
 
 -- `a` inherits from `b` and the other way round: on the way from each one comes to it again
-abbrev round : Manifests
+abbrev round : Environment
 round = site_of (entry a (class a [] (Some b) 2) ∷ entry b (class b [] (Some a) 3) ∷ []) []
 
 comes_back : comes_to 2 round a (Some b) ≡ true

@@ -2,11 +2,11 @@
 use Rattle.std.proofs.Common.{◌≡◌, ℕ, zero, suc, ◌+◌, ◌-◌, ◌<◌, ◌≤◌, List, ◌∷◌, Some, refl, ap, ◌∙◌, arith}
 use Rattle.pp_tree.specs.declared.definition.Class.{Class}
 use Rattle.res_book.specs.declared.row.Row.{Row}
-use Rattle.eval_world.specs.Manifests.{Manifests}
+use Rattle.eval_world.specs.Environment.{Environment}
 use Rattle.eval_classes.specs.Listing.{chain_from, next_class, or_done}
 use Rattle.eval_classes.specs.Stacks.{Chain, chain_of}
 
-module _ (m : Manifests) (book : List Row) where
+module _ (m : Environment) (book : List Row) where
   pub further : (n turn : ℕ) (before : List Class) (c : Class) → turn < n → chain_from (n - turn) before c m book
       ≡ or_done (next_class m book c) (chain_of c before) (λ p. chain_from (n - (turn + 1)) (c ∷ before) p m book)
   unfolding chain_from

@@ -30,7 +30,7 @@ use Rattle.res_book.specs.declared.mode.Mode.TheVariants as mode
 use Rattle.res_book.specs.declared.row.Row.{Row}
 use Rattle.res_core.specs.declared.declared.Declared.{Declared}
 use Rattle.eval_world.specs.Inner.{Inner}
-use Rattle.eval_world.specs.Manifests.{Manifests}
+use Rattle.eval_world.specs.Environment.{Environment}
 use Rattle.eval_world.specs.Outcomes.{Outcome, Step, ◌>>◌, pure}
 use Rattle.eval_world.specs.Worlds.{empty, fault, read, write_log}
 use Rattle.eval_world.specs.declared.here.Here.{Here}
@@ -62,7 +62,7 @@ abbrev pub file_with : Entries → File
 file_with es = record { statements = []; definitions = es }
 
 -- a site of a main manifest with these definitions, and one more file
-abbrev pub site_of : Entries → List (List ℕ × ManifestFile) → Manifests
+abbrev pub site_of : Entries → List (List ℕ × ManifestFile) → Environment
 site_of es files = record { main = file_with es; files = files }
 
 abbrev pub read_file : List ℕ → Entries → List ℕ × ManifestFile
@@ -124,7 +124,7 @@ main = new_row (record {
   known = [];
 }) mode.Plain
 
-abbrev pub world : Manifests → World
+abbrev pub world : Environment → World
 world m = record (empty m) { book = main ∷ [] }
 
 -- ---- what is seen of a step

@@ -1,10 +1,10 @@
 -- The turns of a way over the parents of classes.
 use Rattle.std.proofs.Common.{◌≡◌, ℕ, zero, suc, ◌+◌, ◌-◌, ◌<◌, ◌≤◌, false, ◌||◌, List, Option, None, Some, refl, arith}
 use Rattle.std.specs.Str.{bytes_eq}
-use Rattle.eval_world.specs.Manifests.{Manifests}
+use Rattle.eval_world.specs.Environment.{Environment}
 use Rattle.eval_classes.specs.Definitions.{comes_to, parent_at}
 
-module _ (m : Manifests) (name : List ℕ) where
+module _ (m : Environment) (name : List ℕ) where
   pub further : (n turn : ℕ) (at : List ℕ) → turn < n → comes_to (n - turn) m name (Some at)
       ≡ (bytes_eq at name || comes_to (n - (turn + 1)) m name (parent_at m at))
   unfolding comes_to

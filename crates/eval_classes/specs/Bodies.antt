@@ -17,7 +17,7 @@ use Rattle.eval_world.specs.Inner.{Inner}
 use Rattle.eval_world.specs.Outcomes.{Step, ◌>>=◌, ◌>>◌, pure, answered}
 use Rattle.eval_world.specs.Worlds.{assign}
 use Rattle.eval_world.specs.declared.here.Here.{Here}
-use Rattle.eval_world.specs.Manifests.{Manifests}
+use Rattle.eval_world.specs.Environment.{Environment}
 use Rattle.eval_world.specs.declared.world.World.{World}
 use Rattle.eval_classes.specs.declared.body_owner.BodyOwner.{BodyOwner}
 use Rattle.eval_classes.specs.Definitions.{class_found, define_found, file_of, module_of}
@@ -58,8 +58,8 @@ body_rule inner given of at home params block number line own = do
 -- the body of a class, of which this was declared here, and this was given for it
 unfoldable pub class_body : Inner → List Setting → Reference → Place → ℕ → ℕ → Here → Step Datum
 class_body inner given of at number line own = do
-  c ← (λ w. answered (class_found w.manifests of.title at) w)
-  (λ w. body_rule inner (set_in given) of at (module_of w.manifests of.title) c.params c.block number line own w)
+  c ← (λ w. answered (class_found w.environment of.title at) w)
+  (λ w. body_rule inner (set_in given) of at (module_of w.environment of.title) c.params c.block number line own w)
 
 abbrev pub class_by : Inner → Option Declared → ℕ → ℕ → Here → Step Datum
 class_by inner None number line own = pure d.undef
@@ -75,8 +75,8 @@ class_rule inner number line own = λ w. class_by inner (item_at w.book number) 
 -- the same of an instance
 unfoldable pub instance_body : Inner → List Setting → Reference → Place → ℕ → ℕ → Here → Step Datum
 instance_body inner given of at number line own = do
-  f ← (λ w. answered (define_found w.manifests of.kind at) w)
-  (λ w. body_rule inner (set_in given) of at (module_of w.manifests of.kind) f.params f.block number line own w)
+  f ← (λ w. answered (define_found w.environment of.kind at) w)
+  (λ w. body_rule inner (set_in given) of at (module_of w.environment of.kind) f.params f.block number line own w)
 
 -- its attributes are given, overrides and default statements included
 abbrev pub attributes_at : World → ℕ → List Setting
@@ -92,7 +92,7 @@ unfoldable pub instance_rule : Inner → ℕ → ℕ → Here → Step Datum
 instance_rule inner number line own = λ w. instance_by inner (item_at w.book number) number line own w
 
 -- what the code of the instance belongs to
-abbrev pub instance_owner : Manifests → Declared → ℕ → BodyOwner
+abbrev pub instance_owner : Environment → Declared → ℕ → BodyOwner
 instance_owner m item number = record {
   file = file_of m item.item.kind;
   source = codes "define " ++ item.item.kind;
@@ -102,8 +102,8 @@ instance_owner m item number = record {
 -- .. in a scope and with an owner of its own; the scope of the declaration is its dynamic parent
 unfoldable pub run_item : Inner → Declared → ℕ → Step (Unit {0})
 run_item inner item number = do
-  f ← (λ w. answered (define_found w.manifests item.item.kind item.at) w)
-  own ← (λ w. enter_rule kind.Instance 0 item.scope (instance_owner w.manifests item number) w)
+  f ← (λ w. answered (define_found w.environment item.item.kind item.at) w)
+  own ← (λ w. enter_rule kind.Instance 0 item.scope (instance_owner w.environment item number) w)
   inner.instance number f.at own
   pure tt
 

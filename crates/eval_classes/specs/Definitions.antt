@@ -22,7 +22,7 @@ use Rattle.pp_values.specs.declared.fault.What.TheVariants as what
 use Rattle.pp_values.specs.declared.place.Place.{Place}
 use Rattle.pp_values.specs.declared.place.TheConstants.{MAIN_MANIFEST}
 use Rattle.res_core.specs.TagNames.{segments}
-use Rattle.eval_world.specs.Manifests.{Manifests}
+use Rattle.eval_world.specs.Environment.{Environment}
 use Rattle.eval_classes.specs.declared.found.Found.{Found}
 use Rattle.eval_classes.specs.declared.found.Found.TheVariants as found
 
@@ -70,19 +70,19 @@ in_module name None = Ok None
 in_module name (Some f) = defined_by name f.read
 
 -- the manifest at this path
-abbrev pub file_at : Manifests → List ℕ → Option ManifestFile
+abbrev pub file_at : Environment → List ℕ → Option ManifestFile
 file_at m path = lookup (is_at (text_cmp path)) m.files
 
-abbrev pub found_in_module : Manifests → List ℕ → Result (Option Definition) Fault
+abbrev pub found_in_module : Environment → List ℕ → Result (Option Definition) Fault
 found_in_module m name = in_module name (file_at m (module_path name))
 
-abbrev pub or_in_module : Option Definition → Manifests → List ℕ → Result (Option Definition) Fault
+abbrev pub or_in_module : Option Definition → Environment → List ℕ → Result (Option Definition) Fault
 or_in_module (Some x) m name = Ok (Some x)
 or_in_module None m name = found_in_module m name
 
 -- What the main manifest defines under a name settles it, whatever it is. Else it is what the one file of a module
 -- defines that the name gives.
-unfoldable pub definition_of : Manifests → List ℕ → Result (Option Definition) Fault
+unfoldable pub definition_of : Environment → List ℕ → Result (Option Definition) Fault
 definition_of m name = or_in_module (defined_in name m.main) m name
 
 abbrev pub found_one : Option Definition → Result (Option Definition) Fault
@@ -96,15 +96,15 @@ told (found.Fault f) = Err f.now
 
 -- ---- where a definition stands
 
-abbrev pub in_main : Manifests → List ℕ → Bool
+abbrev pub in_main : Environment → List ℕ → Bool
 in_main m name = is_some (defined_in name m.main)
 
 -- the path of its file
-abbrev pub file_of : Manifests → List ℕ → List ℕ
+abbrev pub file_of : Environment → List ℕ → List ℕ
 file_of m name = if in_main m name then MAIN_MANIFEST.now else module_path name
 
 -- the module whose folder holds the file; the main manifest is in none
-abbrev pub module_of : Manifests → List ℕ → List ℕ
+abbrev pub module_of : Environment → List ℕ → List ℕ
 module_of m name = if in_main m name then [] else first_segment (segments name)
 
 -- ---- classes
@@ -124,7 +124,7 @@ class_among name at (Ok o) = class_or name at (option_and_then class_by o)
 class_among name at (Err f) = Err f
 
 -- the class of a name, or F4 at this place
-unfoldable pub class_found : Manifests → List ℕ → Place → Result Class Fault
+unfoldable pub class_found : Environment → List ℕ → Place → Result Class Fault
 class_found m name at = class_among name at (definition_of m name)
 
 -- the name of a class: that of its definition, without a leading `::` and in lower case
@@ -143,11 +143,11 @@ class_told (Ok o) = option_and_then class_by o
 class_told (Err f) = None
 
 -- the parent of the class of a name, where there is such a class
-abbrev pub parent_at : Manifests → List ℕ → Option (List ℕ)
+abbrev pub parent_at : Environment → List ℕ → Option (List ℕ)
 parent_at m name = option_and_then written_parent (class_told (definition_of m name))
 
 -- on the way from a class over its parents, of so many classes one has this name
-unfoldable pub comes_to : ℕ → Manifests → List ℕ → Option (List ℕ) → Bool
+unfoldable pub comes_to : ℕ → Environment → List ℕ → Option (List ℕ) → Bool
 comes_to zero m name at = false
 comes_to (suc left) m name None = false
 comes_to (suc left) m name (Some at) = bytes_eq at name || comes_to left m name (parent_at m at)
@@ -157,11 +157,11 @@ abbrev pub longest_way : ℕ
 longest_way = 65536
 
 -- a class that inherits from itself, in any number of steps
-abbrev pub inherits_itself : Manifests → Class → Bool
+abbrev pub inherits_itself : Environment → Class → Bool
 inherits_itself m c = comes_to longest_way m (class_name c) (written_parent c)
 
 -- .. counts as one without a parent
-unfoldable pub parent_of : Manifests → Class → Option (List ℕ)
+unfoldable pub parent_of : Environment → Class → Option (List ℕ)
 parent_of m c = if inherits_itself m c then None else written_parent c
 
 -- ---- defines
@@ -181,7 +181,7 @@ define_among kind at (Ok o) = define_or kind at (option_and_then define_by o)
 define_among kind at (Err f) = Err f
 
 -- the define of a name, or F5 at this place
-unfoldable pub define_found : Manifests → List ℕ → Place → Result Define Fault
+unfoldable pub define_found : Environment → List ℕ → Place → Result Define Fault
 define_found m kind at = define_among kind at (definition_of m kind)
 
 -- the names of parameters, in their order

@@ -85,7 +85,7 @@ declared_once inner c at from = λ w. unless_there (is_declared (class_name c) w
 -- the class of a name, or F4
 unfoldable pub include_rule : Inner → Including → List ℕ → Place → Here → Step (Unit {0})
 include_rule inner f name at here = do
-  c ← (λ w. answered (class_found w.manifests name at) w)
+  c ← (λ w. answered (class_found w.environment name at) w)
   declared_once inner c at here.owner
   contain_rule f c here
 

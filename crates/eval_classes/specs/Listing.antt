@@ -20,7 +20,7 @@ use Rattle.scope_core.specs.declared.scope_kind.ScopeKind.TheVariants as kind
 use Rattle.eval_world.specs.Inner.{Inner}
 use Rattle.eval_world.specs.Outcomes.{Step, ◌>>=◌, ◌>>◌, pure, answered}
 use Rattle.eval_world.specs.Owners.{Owners, owner_at, with_owner}
-use Rattle.eval_world.specs.Manifests.{Manifests}
+use Rattle.eval_world.specs.Environment.{Environment}
 use Rattle.eval_world.specs.declared.owner.Owner.{Owner}
 use Rattle.eval_world.specs.declared.world.World.{World}
 use Rattle.eval_classes.specs.declared.listed.Listed.{Listed}
@@ -77,11 +77,11 @@ abbrev pub unless_declared : List Row → Option Class → Option Class
 unless_declared book None = None
 unless_declared book (Some c) = unless_there book c
 
-abbrev pub class_at : Manifests → Option (List ℕ) → Option Class
+abbrev pub class_at : Environment → Option (List ℕ) → Option Class
 class_at m None = None
 class_at m (Some name) = class_told (definition_of m name)
 
-abbrev pub next_class : Manifests → List Row → Class → Option Class
+abbrev pub next_class : Environment → List Row → Class → Option Class
 next_class m book c = unless_declared book (class_at m (parent_of m c))
 
 abbrev pub or_done : Option Class → Chain → (Class → Chain) → Chain
@@ -89,7 +89,7 @@ or_done None done further = done
 or_done (Some c) done further = further c
 
 -- a class behind those that are there, and then its parents
-unfoldable pub chain_from : ℕ → List Class → Class → Manifests → List Row → Chain
+unfoldable pub chain_from : ℕ → List Class → Class → Environment → List Row → Chain
 chain_from zero before c m book = chain_of c before
 chain_from (suc left) before c m book =
     or_done (next_class m book c) (chain_of c before) (λ p. chain_from left (c ∷ before) p m book)
@@ -117,7 +117,7 @@ scope_of_class (Some name) w = scope_of_name name w
 
 -- the scope that a class is entered from whose parent is declared already, or that has none
 abbrev pub outer_scope : Class → World → ℕ
-outer_scope c w = scope_of_class (parent_of w.manifests c) w
+outer_scope c w = scope_of_class (parent_of w.environment c) w
 
 abbrev pub with_class_scope : Class → ℕ → World → World
 with_class_scope c parent w = record w { scopes = entered (kind.Class (class_name c)) parent w.scopes }
@@ -141,7 +141,7 @@ enter_chain chain = do
 
 -- ---- listing
 
-abbrev pub class_owner : Manifests → Class → ℕ → ℕ → Owner
+abbrev pub class_owner : Environment → Class → ℕ → ℕ → Owner
 class_owner m c number scope = record {
   file = file_of m (class_name c);
   source = codes "class " ++ class_name c;
@@ -159,7 +159,7 @@ own_rule c scope number from = λ w. Ok (
   },
   record w {
     overrides = scope_opened scope (Some (owner_at from w.owners).scope) w.overrides;
-    owners = with_owner (class_owner w.manifests c number scope) w.owners;
+    owners = with_owner (class_owner w.environment c number scope) w.owners;
   },
 )
 
@@ -181,11 +181,11 @@ list_all (e ∷ es) given at from done = do
 abbrev pub known_parent : Option (List ℕ) → Place → Step (Unit {0})
 known_parent None at = pure tt
 known_parent (Some name) at = do
-  c ← (λ w. answered (class_found w.manifests name at) w)
+  c ← (λ w. answered (class_found w.environment name at) w)
   pure tt
 
 unfoldable pub last_checked : Class → Place → Step (Unit {0})
-last_checked c at = λ w. known_parent (parent_of w.manifests c) at w
+last_checked c at = λ w. known_parent (parent_of w.environment c) at w
 
 -- ---- evaluating
 
@@ -206,4 +206,4 @@ chain_declared inner chain given at from = do
 
 unfoldable pub class_declared : Inner → Class → List Setting → Place → ℕ → Step (Unit {0})
 class_declared inner c given at from = λ w.
-    chain_declared inner (chain_from longest_way [] c w.manifests w.book) given at from w
+    chain_declared inner (chain_from longest_way [] c w.environment w.book) given at from w

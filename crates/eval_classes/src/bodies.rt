@@ -72,8 +72,8 @@ fn bound_class<F: Fn(&mut World<'_>, Goal<'_>, Here, u32) -> Result<Evaluated, S
         body.number body.line body.here world.old) result world.new }
 {
     let alloc = world.heap.alloc();
-    let class = class_found(alloc, &world.manifests, &binding.of.title, &binding.at)?;
-    let home = module_of(alloc, &world.manifests, &binding.of.title)?;
+    let class = class_found(alloc, &world.environment, &binding.of.title, &binding.at)?;
+    let home = module_of(alloc, &world.environment, &binding.of.title)?;
     let params = class.params.as_slice();
     run_body(forms, world, binding, &home, params, &class.block, body)
 }
@@ -137,8 +137,8 @@ fn bound_instance<
 {
     let alloc = world.heap.alloc();
     let kind = binding.of.kind.as_text();
-    let define = define_found(alloc, &world.manifests, kind, &binding.at)?;
-    let home = module_of(alloc, &world.manifests, kind)?;
+    let define = define_found(alloc, &world.environment, kind, &binding.at)?;
+    let home = module_of(alloc, &world.environment, kind)?;
     let params = define.params.as_slice();
     run_body(forms, world, binding, &home, params, &define.block, body)
 }

@@ -9,7 +9,7 @@ use crate::chain::Chain;
 use crate::declaring::is_declared;
 use crate::definitions::find;
 use crate::parents::{class_in, parent_of};
-use eval_world::Manifests;
+use eval_world::Environment;
 use pp_tree::definition::Class;
 use pp_values::{Memory, Text};
 use res_book::{Book, DECLARATION_LIMIT};
@@ -19,16 +19,16 @@ use std::alloc::Global;
 #[tactic(auto, using(crate::proofs::Links::further, crate::proofs::Links::too_long))]
 pub fn chain_of<'a>(
     alloc: Global,
-    manifests: &Manifests<'a>,
+    environment: &Environment<'a>,
     book: &Book,
     class: &'a Class,
 ) -> Result<Chain<'a>, Memory>
-    ensures { IfOk result (λ c. chain_seen c ≡ spec.chain_from longest_way [] class.now manifests.now book.now) }
+    ensures { IfOk result (λ c. chain_seen c ≡ spec.chain_from longest_way [] class.now environment.now book.now) }
 {
     let mut before = Vec::new(alloc);
     let mut last = class;
     for _turn in 0..DECLARATION_LIMIT {
-        let Some(parent) = next_class(alloc, manifests, book, last)? else {
+        let Some(parent) = next_class(alloc, environment, book, last)? else {
             return Ok(Chain { last, before });
         };
         before.push(last)?;
@@ -40,26 +40,26 @@ pub fn chain_of<'a>(
 /// The parent, where it is a class of the site that is not declared yet.
 fn next_class<'a>(
     alloc: Global,
-    manifests: &Manifests<'a>,
+    environment: &Environment<'a>,
     book: &Book,
     class: &Class,
 ) -> Result<Option<&'a Class>, Memory>
-    ensures { IfOk result (λ o. option_copied o ≡ spec.next_class manifests.now book.now class.now) }
+    ensures { IfOk result (λ o. option_copied o ≡ spec.next_class environment.now book.now class.now) }
 {
-    let parent = parent_of(alloc, manifests, class)?;
-    let class = class_at(alloc, manifests, &parent)?;
+    let parent = parent_of(alloc, environment, class)?;
+    let class = class_at(alloc, environment, &parent)?;
     unless_declared(alloc, book, class)
 }
 
 fn class_at<'a>(
     alloc: Global,
-    manifests: &Manifests<'a>,
+    environment: &Environment<'a>,
     name: &Option<Text>,
 ) -> Result<Option<&'a Class>, Memory>
-    ensures { IfOk result (λ o. option_copied o ≡ spec.class_at manifests.now name.now) }
+    ensures { IfOk result (λ o. option_copied o ≡ spec.class_at environment.now name.now) }
 {
     match name {
-        Some(name) => Ok(class_in(find(alloc, manifests, name)?)),
+        Some(name) => Ok(class_in(find(alloc, environment, name)?)),
         None => Ok(None),
     }
 }

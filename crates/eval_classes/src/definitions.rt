@@ -8,7 +8,7 @@ ghost use Rattle.pp_values.specs.declared.fault.What.TheVariants as what;
 
 use crate::found::Found;
 use crate::paths::module_path;
-use eval_world::Manifests;
+use eval_world::Environment;
 use pp_tree::definition::{Class, Define, Definition};
 use pp_tree::file::File;
 use pp_tree::manifest_file::ManifestFile;
@@ -18,12 +18,12 @@ use std::alloc::Global;
 
 /// What stands under the name of a class or define, which is in lower case without a leading `::`.
 #[tactic(auto, unfolding(crate::specs::Definitions::definition_of))]
-pub fn find<'a>(alloc: Global, manifests: &Manifests<'a>, name: &Text) -> Result<Found<'a>, Memory>
-    ensures { IfOk result (λ f. spec.told f ≡ spec.definition_of manifests.now name.now) }
+pub fn find<'a>(alloc: Global, environment: &Environment<'a>, name: &Text) -> Result<Found<'a>, Memory>
+    ensures { IfOk result (λ f. spec.told f ≡ spec.definition_of environment.now name.now) }
 {
-    match defined_in(alloc, manifests.main(), name)? {
+    match defined_in(alloc, environment.main(), name)? {
         Some(definition) => Ok(Found::Definition(definition)),
-        None => find_in_module(alloc, manifests, name),
+        None => find_in_module(alloc, environment, name),
     }
 }
 
@@ -41,13 +41,13 @@ pub fn defined_in<'a>(
 
 fn find_in_module<'a>(
     alloc: Global,
-    manifests: &Manifests<'a>,
+    environment: &Environment<'a>,
     name: &Text,
 ) -> Result<Found<'a>, Memory>
-    ensures { IfOk result (λ f. spec.told f ≡ spec.found_in_module manifests.now name.now) }
+    ensures { IfOk result (λ f. spec.told f ≡ spec.found_in_module environment.now name.now) }
 {
     let path = module_path(alloc, name)?;
-    match manifests.files().get(&path) {
+    match environment.files().get(&path) {
         Some(file) => find_in_file(alloc, file, name),
         None => Ok(Found::Nothing),
     }
@@ -75,13 +75,13 @@ fn found(definition: Option<&Definition>) -> Found<'_>
 #[tactic(auto, unfolding(crate::specs::Definitions::class_found))]
 pub fn class_found<'a>(
     alloc: Global,
-    manifests: &Manifests<'a>,
+    environment: &Environment<'a>,
     name: &Text,
     at: &Place,
 ) -> Result<&'a Class, Stop>
-    ensures { Lends result (spec.class_found manifests.now name.now at.now) }
+    ensures { Lends result (spec.class_found environment.now name.now at.now) }
 {
-    class_among(alloc, find(alloc, manifests, name)?, name, at)
+    class_among(alloc, find(alloc, environment, name)?, name, at)
 }
 
 fn class_among<'a>(
@@ -113,13 +113,13 @@ fn unknown_class(alloc: Global, name: &Text, at: &Place) -> Result<Fault, Memory
 #[tactic(auto, unfolding(crate::specs::Definitions::define_found))]
 pub fn define_found<'a>(
     alloc: Global,
-    manifests: &Manifests<'a>,
+    environment: &Environment<'a>,
     kind: &Text,
     at: &Place,
 ) -> Result<&'a Define, Stop>
-    ensures { Lends result (spec.define_found manifests.now kind.now at.now) }
+    ensures { Lends result (spec.define_found environment.now kind.now at.now) }
 {
-    define_among(alloc, find(alloc, manifests, kind)?, kind, at)
+    define_among(alloc, find(alloc, environment, kind)?, kind, at)
 }
 
 fn define_among<'a>(

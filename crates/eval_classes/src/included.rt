@@ -102,7 +102,7 @@ fn include_one<F: Fn(&mut World<'_>, Goal<'_>, Here, u32) -> Result<Evaluated, S
     ensures { Gives nothing (spec.include_rule (M.within forms.now.left) including name.now at.now here world.old)
         result world.new }
 {
-    let class = class_found(world.heap.alloc(), &world.manifests, name, at)?;
+    let class = class_found(world.heap.alloc(), &world.environment, name, at)?;
     declare_once(forms, world, class, at, here.owner)?;
     contain(world, including, class, here)
 }
@@ -182,7 +182,7 @@ pub fn declare_class<
     ensures { Gives nothing (listing.class_declared (M.within forms.now.left) class.now given.now at.now from
         world.old) result world.new }
 {
-    let chain = chain_of(world.heap.alloc(), &world.manifests, &world.book, class)?;
+    let chain = chain_of(world.heap.alloc(), &world.environment, &world.book, class)?;
     declare_chain(forms, world, chain, given, at, from)
 }
 

@@ -8,7 +8,7 @@ use crate::body_owner::BodyOwner;
 use crate::definitions::define_found;
 use crate::entering::enter_body;
 use crate::homes::file_of;
-use eval_world::{Evaluated, Forms, Goal, Here, Manifests, Meaning, World};
+use eval_world::{Evaluated, Forms, Goal, Here, Environment, Meaning, World};
 use pp_values::{Memory, Stop, Text};
 use res_core::Declared;
 use scope_core::ScopeKind;
@@ -42,8 +42,8 @@ fn run_declared<F: Fn(&mut World<'_>, Goal<'_>, Here, u32) -> Result<Evaluated, 
     let item = world.book.item(number);
     let outer = item.scope;
     let kind = item.item.kind.as_text();
-    let define = define_found(world.heap.alloc(), &world.manifests, kind, &item.at)?;
-    let owner = instance_owner(world.heap.alloc(), &world.manifests, item, number)?;
+    let define = define_found(world.heap.alloc(), &world.environment, kind, &item.at)?;
+    let owner = instance_owner(world.heap.alloc(), &world.environment, item, number)?;
     let own = enter_body(world, ScopeKind::Instance, 0, outer, owner)?;
     drop(forms.instance(world, number, define.at, own)?);
     Ok(())
@@ -51,14 +51,14 @@ fn run_declared<F: Fn(&mut World<'_>, Goal<'_>, Here, u32) -> Result<Evaluated, 
 
 fn instance_owner(
     alloc: Global,
-    manifests: &Manifests<'_>,
+    environment: &Environment<'_>,
     item: &Declared,
     number: u32,
 ) -> Result<BodyOwner, Memory>
-    ensures { IfOk result (λ o. o ≡ spec.instance_owner manifests.now item.now number) }
+    ensures { IfOk result (λ o. o ≡ spec.instance_owner environment.now item.now number) }
 {
     let kind = item.item.kind.as_text();
-    let file = file_of(alloc, manifests, kind)?;
+    let file = file_of(alloc, environment, kind)?;
     let mut source = String::from_str(alloc, "define ")?;
     source.push_str(kind.as_str())?;
     Ok(BodyOwner {

@@ -12,7 +12,7 @@ use crate::homes::file_of;
 use crate::listed::Listed;
 use crate::names::class_name;
 use crate::parents::parent_of;
-use eval_world::{Here, Manifests, Owner, Owners, World};
+use eval_world::{Here, Environment, Owner, Owners, World};
 use pp_tree::definition::Class;
 use pp_values::{Memory, Place, Stop, Text};
 use res_core::Attributes;
@@ -71,7 +71,7 @@ fn enter_scope(world: &mut World<'_>, class: &Class, parent: u32) -> Result<Scop
 fn outer_scope(world: &World<'_>, class: &Class) -> Result<u32, Memory>
     ensures { IfOk result (λ n. n ≡ spec.outer_scope class.now world.now) }
 {
-    match parent_of(world.heap.alloc(), &world.manifests, class)? {
+    match parent_of(world.heap.alloc(), &world.environment, class)? {
         Some(parent) => scope_of_class(world, &parent),
         None => Ok(0),
     }
@@ -155,7 +155,7 @@ fn own(
     let outer = world.owners.get(from).scope;
     let owner = class_owner(
         world.heap.alloc(),
-        &world.manifests,
+        &world.environment,
         class,
         number,
         scope.number,
@@ -171,15 +171,15 @@ fn own(
 
 fn class_owner(
     alloc: Global,
-    manifests: &Manifests<'_>,
+    environment: &Environment<'_>,
     class: &Class,
     number: u32,
     scope: u32,
 ) -> Result<Owner, Memory>
-    ensures { IfOk result (λ o. o ≡ spec.class_owner manifests.now class.now number scope) }
+    ensures { IfOk result (λ o. o ≡ spec.class_owner environment.now class.now number scope) }
 {
     let name = class_name(alloc, class)?;
-    let file = file_of(alloc, manifests, &name)?;
+    let file = file_of(alloc, environment, &name)?;
     let mut source = String::from_str(alloc, "class ")?;
     source.push_str(name.as_str())?;
     Ok(Owner {
@@ -195,9 +195,9 @@ fn class_owner(
 pub fn check_last(world: &World<'_>, class: &Class, at: &Place) -> Result<(), Stop>
     ensures { Gives nothing (spec.last_checked class.now at.now world.now) result world.now }
 {
-    match parent_of(world.heap.alloc(), &world.manifests, class)? {
+    match parent_of(world.heap.alloc(), &world.environment, class)? {
         Some(parent) => {
-            let _class = class_found(world.heap.alloc(), &world.manifests, &parent, at)?;
+            let _class = class_found(world.heap.alloc(), &world.environment, &parent, at)?;
             Ok(())
         }
         None => Ok(()),

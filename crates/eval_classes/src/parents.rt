@@ -6,7 +6,7 @@ ghost use Rattle.eval_classes.specs.Definitions as spec;
 use crate::definitions::find;
 use crate::found::Found;
 use crate::names::{class_name, normal_name};
-use eval_world::Manifests;
+use eval_world::Environment;
 use pp_tree::definition::{Class, Definition, Name};
 use pp_values::{Memory, Text};
 use res_book::DECLARATION_LIMIT;
@@ -16,34 +16,34 @@ use std::alloc::Global;
 #[tactic(auto, unfolding(crate::specs::Definitions::parent_of))]
 pub fn parent_of(
     alloc: Global,
-    manifests: &Manifests<'_>,
+    environment: &Environment<'_>,
     class: &Class,
 ) -> Result<Option<Text>, Memory>
-    ensures { IfOk result (λ p. p ≡ spec.parent_of manifests.now class.now) }
+    ensures { IfOk result (λ p. p ≡ spec.parent_of environment.now class.now) }
 {
-    if inherits_itself(alloc, manifests, class)? {
+    if inherits_itself(alloc, environment, class)? {
         return Ok(None);
     }
     written_parent(alloc, class)
 }
 
-fn inherits_itself(alloc: Global, manifests: &Manifests<'_>, class: &Class) -> Result<bool, Memory>
-    ensures { IfOk result (λ b. b ≡ spec.inherits_itself manifests.now class.now) }
+fn inherits_itself(alloc: Global, environment: &Environment<'_>, class: &Class) -> Result<bool, Memory>
+    ensures { IfOk result (λ b. b ≡ spec.inherits_itself environment.now class.now) }
 {
     let name = class_name(alloc, class)?;
     let parent = written_parent(alloc, class)?;
-    comes_to(alloc, manifests, &name, parent)
+    comes_to(alloc, environment, &name, parent)
 }
 
 /// Whether one of these classes has this name: the first, its parent, and so on.
 #[tactic(auto, using(crate::proofs::Ways::further, crate::proofs::Ways::at_end, crate::proofs::Ways::too_long))]
 fn comes_to(
     alloc: Global,
-    manifests: &Manifests<'_>,
+    environment: &Environment<'_>,
     name: &Text,
     first: Option<Text>,
 ) -> Result<bool, Memory>
-    ensures { IfOk result (λ b. b ≡ spec.comes_to spec.longest_way manifests.now name.now first) }
+    ensures { IfOk result (λ b. b ≡ spec.comes_to spec.longest_way environment.now name.now first) }
 {
     let mut at = first;
     for _turn in 0..DECLARATION_LIMIT {
@@ -53,15 +53,15 @@ fn comes_to(
         if here == *name {
             return Ok(true);
         }
-        at = parent_at(alloc, manifests, &here)?;
+        at = parent_at(alloc, environment, &here)?;
     }
     Ok(false)
 }
 
-fn parent_at(alloc: Global, manifests: &Manifests<'_>, name: &Text) -> Result<Option<Text>, Memory>
-    ensures { IfOk result (λ p. p ≡ spec.parent_at manifests.now name.now) }
+fn parent_at(alloc: Global, environment: &Environment<'_>, name: &Text) -> Result<Option<Text>, Memory>
+    ensures { IfOk result (λ p. p ≡ spec.parent_at environment.now name.now) }
 {
-    match class_in(find(alloc, manifests, name)?) {
+    match class_in(find(alloc, environment, name)?) {
         Some(class) => written_parent(alloc, class),
         None => Ok(None),
     }

@@ -25,7 +25,7 @@ use Rattle.res_core.specs.Criteria.{Criterion, all, by_tag, by_attribute}
 use Rattle.res_core.specs.declared.declared.Declared.{Declared}
 use Rattle.res_core.specs.declared.exported.Exported.{Exported}
 use Rattle.res_core.specs.declared.resource.Resource.{Resource}
-use Rattle.eval_world.specs.Manifests.{Manifests}
+use Rattle.eval_world.specs.Environment.{Environment}
 use Rattle.eval_world.specs.Outcomes.{Outcome, go_on}
 use Rattle.eval_world.specs.Owners.{owner_at}
 use Rattle.eval_world.specs.Worlds.{empty}
@@ -109,7 +109,7 @@ asked_for_one = (refl, refl)
 
 -- ---- what is taken is marked; something is added once
 
-abbrev with_rows : List Row → Collector → Manifests → World
+abbrev with_rows : List Row → Collector → Environment → World
 with_rows rows c m =
     record (empty m) { book = rows; relations = record { lines = []; containments = []; collectors = c ∷ [] } }
 
@@ -122,23 +122,23 @@ abbrev shown : Outcome Bool → Result (Bool × List Bool) Fault
 shown (Ok p) = Ok (p.0, marks p.1.book)
 shown (Err f) = Err f
 
-first_time : (m : Manifests)
+first_time : (m : Environment)
     → shown (local_match 0 0 (with_rows (row mode.Virtual ∷ []) (collector false all) m)) ≡ Ok (true, true ∷ [])
 unfolding local_match takes
 first_time m = refl
 
-second_time : (m : Manifests)
+second_time : (m : Environment)
     → shown (go_on (local_match 0 0 (with_rows (row mode.Virtual ∷ []) (collector false all) m)) (λ b. local_match 0 0))
     ≡ Ok (false, true ∷ [])
 unfolding local_match takes
 second_time m = refl
 
-live_already : (m : Manifests)
+live_already : (m : Environment)
     → shown (local_match 0 0 (with_rows (row mode.Plain ∷ []) (collector false all) m)) ≡ Ok (false, true ∷ [])
 unfolding local_match takes
 live_already m = refl
 
-no_such_number : (m : Manifests)
+no_such_number : (m : Environment)
     → shown (local_match 0 1 (with_rows (row mode.Virtual ∷ []) (collector false all) m)) ≡ Ok (false, false ∷ [])
 unfolding local_match takes
 no_such_number m = refl
@@ -172,14 +172,14 @@ refuses details = Err (faults.fault (place 9) details)
 abbrev odd : Resource
 odd = resource (codes "odd") (codes "a") message
 
-unknown_kind : (m : Manifests)
+unknown_kind : (m : Environment)
     → shown (import_match 0 (codes "web1") 2 (export odd)
     (with_rows [] (record (collector true all) { kind = codes "odd" }) m))
     ≡ refuses (what.UnknownType (codes "odd"))
 unfolding import_match finds import_rule tested native_of
 unknown_kind m = refl
 
-unknown_attribute : (m : Manifests)
+unknown_attribute : (m : Environment)
     → shown (import_match 0 (codes "web1") 2
     (export (resource (codes "notify") (codes "a") ((codes "nope", d.undef) ∷ [])))
     (with_rows (row mode.Plain ∷ []) (collector true all) m))
@@ -187,13 +187,13 @@ unknown_attribute : (m : Manifests)
 unfolding import_match finds import_rule tested native_of natives.attributes_of is_metaparameter names_known known_checked
 unknown_attribute m = refl
 
-twice : (m : Manifests)
+twice : (m : Environment)
     → shown (import_match 0 (codes "web1") 2 (export a) (with_rows (row mode.Plain ∷ []) (collector true all) m))
     ≡ refuses (what.Duplicate (record { kind = codes "notify"; title = codes "a" }) (place 3))
 unfolding import_match finds import_rule tested native_of natives.attributes_of names_known known_checked declare_rule owner_at line_tests
 twice m = refl
 
-declared_once : (m : Manifests)
+declared_once : (m : Environment)
     → shown (go_on (import_match 0 (codes "web1") 2 (export a) (with_rows [] (collector true all) m))
     (λ b. import_match 0 (codes "web1") 2 (export a)))
     ≡ Ok (false, false ∷ [])

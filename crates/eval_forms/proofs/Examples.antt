@@ -29,7 +29,7 @@ use Rattle.eval_world.specs.Arguments.{argument_rule, values_from}
 use Rattle.eval_world.specs.Outcomes.{Outcome, Step}
 use Rattle.eval_world.specs.Worlds.{assign, empty, read, place_at, write_log}
 use Rattle.eval_world.specs.declared.here.Here.{Here}
-use Rattle.eval_world.specs.Manifests.{Manifests}
+use Rattle.eval_world.specs.Environment.{Environment}
 use Rattle.eval_forms.specs.Accesses.{accessed_rule}
 use Rattle.eval_forms.specs.Answering.{combined}
 use Rattle.eval_forms.specs.Conditions.{if_rule, elsifs_from, otherwise_rule, unless_rule}
@@ -240,8 +240,8 @@ abbrev sets_a : Expr → Here → Step Datum
 sets_a e = assigned_rule sample (codes "a") e 7
 
 -- at the beginning, and then something else there
-abbrev begun : Manifests → (Here → Step Datum) → Outcome Datum
-begun manifests step = step top (empty manifests)
+abbrev begun : Environment → (Here → Step Datum) → Outcome Datum
+begun environment step = step top (empty environment)
 
 abbrev and_next : Outcome Datum → (Here → Step Datum) → Outcome Datum
 and_next (Ok p) step = step top p.1
@@ -251,23 +251,23 @@ abbrev value_in : Outcome Datum → Option Datum
 value_in (Ok p) = Some p.0
 value_in (Err f) = None
 
-assigned_value : (manifests : Manifests)
-    → (value_in (begun manifests (sets_a (num 1))) ≡ Some (int 1))
-    × (value_in (and_next (begun manifests (sets_a (num 1))) (λ here. read here (codes "a") 8)) ≡ Some (int 1))
+assigned_value : (environment : Environment)
+    → (value_in (begun environment (sets_a (num 1))) ≡ Some (int 1))
+    × (value_in (and_next (begun environment (sets_a (num 1))) (λ here. read here (codes "a") 8)) ≡ Some (int 1))
 unfolding assigned_rule assign s.assign read s.read s.found s.seen_from last_cut form.out-Form denote.Hole.Carrier.out
-assigned_value manifests = (refl, refl)
+assigned_value environment = (refl, refl)
 
-abbrev refused : Manifests → ℕ → What → Outcome Datum
-refused manifests line details = Err (faults.fault (place_at (empty manifests) top line) details)
+abbrev refused : Environment → ℕ → What → Outcome Datum
+refused environment line details = Err (faults.fault (place_at (empty environment) top line) details)
 
 -- `$a = 1` and then `$a = 2`, or `$a = $x`, whose value comes first
-assigned_twice : (manifests : Manifests)
-    → (and_next (begun manifests (sets_a (num 1))) (sets_a (num 2))
-    ≡ refused manifests 7 (what.Reassigned (codes "a")))
-    × (and_next (begun manifests (sets_a (num 1))) (sets_a x)
-    ≡ refused manifests 8 (what.UnknownVariable (codes "x")))
+assigned_twice : (environment : Environment)
+    → (and_next (begun environment (sets_a (num 1))) (sets_a (num 2))
+    ≡ refused environment 7 (what.Reassigned (codes "a")))
+    × (and_next (begun environment (sets_a (num 1))) (sets_a x)
+    ≡ refused environment 8 (what.UnknownVariable (codes "x")))
 unfolding assigned_rule assign s.assign form.out-Form denote.Hole.Carrier.out
-assigned_twice manifests = (refl, refl)
+assigned_twice environment = (refl, refl)
 
 -- ---- `if` and `unless`
 

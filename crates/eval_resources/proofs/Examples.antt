@@ -47,7 +47,7 @@ use Rattle.eval_resources.proofs.Samples.{fails, sample}
 use Rattle.eval_resources.proofs.Samples.{sets, adds, titled_by, here, place, said, Tells, Refuses, Declares, Fails}
 use Rattle.eval_resources.proofs.Samples.{Registers, main, class_a, owner, overridden, book_by}
 use Rattle.eval_world.specs.Owners.{owner_at}
-use Rattle.eval_world.specs.Manifests.{Manifests}
+use Rattle.eval_world.specs.Environment.{Environment}
 use Rattle.eval_world.specs.Worlds.{write_log}
 
 abbrev a : List ℕ
@@ -64,24 +64,24 @@ c = codes "c"
 in_order : Tells (lines_from sample [] (sets a (told c) 3 ∷ sets b (told a) 4 ∷ []) here)
     (said a c 3 ∷ said b a 4 ∷ []) (c ∷ a ∷ [])
 unfolding lines_from attribute_rule setting_rule write_log out-Form denote.Hole.Carrier.out owner_at
-in_order manifests = refl
+in_order environment = refl
 
 -- the pairs of a splat stand in its place, at its line; 3 becomes a text
 splat_in_place : Tells (lines_from sample [] (sets a (word c) 3 ∷ adds a_hash 4 ∷ sets b (word c) 5 ∷ []) here)
     (said a c 3 ∷ said (codes "owner") (codes "root") 4 ∷ said (codes "3") c 4 ∷ said b c 5 ∷ []) []
 unfolding lines_from attribute_rule setting_rule splat_rule splatted out-Form denote.Hole.Carrier.out owner_at digits
-splat_in_place manifests = refl
+splat_in_place environment = refl
 
 -- F11 where it is no hash, at the line of the attribute
 splat_of_list : Refuses (lines_from sample [] (sets a (word c) 3 ∷ adds a_list 4 ∷ sets b (fails 5) 5 ∷ []) here)
     4 (what.BadOperand (codes "*"))
 unfolding lines_from attribute_rule setting_rule splat_rule out-Form denote.Hole.Carrier.out owner_at
-splat_of_list manifests = refl
+splat_of_list environment = refl
 
 first_fault : Refuses (lines_from sample [] (sets a (fails 3) 3 ∷ adds a_list 4 ∷ []) here)
     3 (what.UnknownVariable (codes "x"))
 unfolding lines_from attribute_rule setting_rule splat_rule out-Form denote.Hole.Carrier.out owner_at
-first_fault manifests = refl
+first_fault environment = refl
 
 -- ---- bodies
 
@@ -98,7 +98,7 @@ default_body : Tells
     } ∷ [])
     (c ∷ c ∷ a ∷ b ∷ [])
 unfolding bodies_rule defaults_from default_rule bodies_from body_rule lines_from attribute_rule setting_rule write_log out-Form denote.Hole.Carrier.out owner_at
-default_body manifests = refl
+default_body environment = refl
 
 -- an Undef that is written hides the default's value
 undef_is_written : filled (line a false d.undef (place 2) ∷ []) (said a c 3 ∷ said b c 3 ∷ [])
@@ -117,13 +117,13 @@ defaults_joined : Tells
     ∷ record { titles = text b ∷ []; lines = said b c 3 ∷ said a a 4 ∷ []; at = place 4 } ∷ [])
     []
 unfolding bodies_rule defaults_from default_rule bodies_from body_rule lines_from attribute_rule setting_rule out-Form denote.Hole.Carrier.out owner_at
-defaults_joined manifests = refl
+defaults_joined environment = refl
 
 -- lists of titles are flattened
 titles_flattened : Tells (body_rule sample [] (titled_by a_list [] 2) here)
     (record { titles = text a ∷ text b ∷ int 4 ∷ []; lines = []; at = place 2 }) []
 unfolding body_rule lines_from out-Form denote.Hole.Carrier.out owner_at
-titles_flattened manifests = refl
+titles_flattened environment = refl
 
 -- ---- the tests of a title
 
@@ -140,13 +140,13 @@ definitions =
     ∷ (Code (codes "web"), definition.Class web)
     ∷ []
 
-abbrev site_of : Entries → Manifests
+abbrev site_of : Entries → Environment
 site_of es = record { main = record { statements = []; definitions = es }; files = [] }
 
-abbrev nothing : Manifests
+abbrev nothing : Environment
 nothing = site_of []
 
-abbrev vhost : Manifests
+abbrev vhost : Environment
 vhost = site_of definitions
 
 abbrev body_with : List Line → Body
@@ -301,27 +301,27 @@ each_title : Declares
     (declare_bodies sample form.Plain kind (titled (text a ∷ text b ∷ []) [] 2 ∷ titled (text c ∷ []) [] 3 ∷ []) here)
     (notify mode.Plain a 2 ∷ notify mode.Plain b 2 ∷ notify mode.Plain (codes "c") 3 ∷ [])
 unfolding declare_bodies titles_rule title_rule declared_rule declare_rule tested kind_checked native_of title_checked lines_checked names_known names_apart attributes_of set_from segments is_word_byte is_tag_byte line_tests owner_at
-each_title manifests = refl
+each_title environment = refl
 
 -- virtual and exported ones
 virtual : Declares (titles_rule sample form.Virtual kind (text a ∷ []) (body_with []) here) (notify mode.Virtual a 7 ∷ [])
 unfolding titles_rule title_rule declared_rule declare_rule tested kind_checked native_of title_checked lines_checked names_known names_apart attributes_of set_from segments is_word_byte is_tag_byte line_tests owner_at
-virtual manifests = refl
+virtual environment = refl
 
 exported : Declares (titles_rule sample form.Exported kind (text a ∷ []) (body_with []) here) (notify mode.Exported a 7 ∷ [])
 unfolding titles_rule title_rule declared_rule declare_rule tested kind_checked native_of title_checked lines_checked names_known names_apart attributes_of set_from segments is_word_byte is_tag_byte line_tests owner_at
-exported manifests = refl
+exported environment = refl
 
 -- without a title nothing is tested
 no_titles : Declares (titles_rule sample form.Plain (codes "nothing") [] (body_with (owners ∷ [])) here) []
 unfolding titles_rule
-no_titles manifests = refl
+no_titles environment = refl
 
 -- F14 of the second title, with the place of the first
 duplicate : Fails (titles_rule sample form.Plain kind (text a ∷ text a ∷ []) (body_with []) here)
     7 (what.Duplicate (record { kind = kind; title = a }) (place 7))
 unfolding titles_rule title_rule declared_rule declare_rule tested kind_checked native_of title_checked lines_checked names_known names_apart attributes_of set_from segments is_word_byte is_tag_byte line_tests
-duplicate manifests = refl
+duplicate environment = refl
 
 -- the first title's faults come before the second one's, and a body's before the next one's
 first_body : Fails
@@ -329,7 +329,7 @@ first_body : Fails
     (titled (text a ∷ int 4 ∷ []) (said (codes "mesage") a 3 ∷ []) 2 ∷ titled (int 4 ∷ []) [] 5 ∷ []) here)
     3 (what.UnknownParameter (record { kind = kind; title = a }) (codes "mesage"))
 unfolding declare_bodies titles_rule title_rule declared_rule declare_rule tested kind_checked native_of title_checked lines_checked names_known names_apart attributes_of known_checked is_metaparameter
-first_body manifests = refl
+first_body environment = refl
 
 -- a relation is not built: F31 at its line, after all other tests of the title; one that is Undef is none
 abbrev before : Datum → Line
@@ -337,20 +337,20 @@ before value = line (codes "before") false value (place 8)
 
 relation : Fails (titles_rule sample form.Plain kind (text a ∷ []) (body_with (before (text c) ∷ [])) here) 8 what.NotBuilt
 unfolding titles_rule title_rule declared_rule declare_rule tested kind_checked native_of title_checked lines_checked names_known names_apart attributes_of set_from segments is_word_byte is_tag_byte is_relation_name is_metaparameter known_checked line_tests
-relation manifests = refl
+relation environment = refl
 
 relation_of_second : Fails (titles_rule sample form.Plain kind (text a ∷ text a ∷ []) (body_with (before d.undef ∷ [])) here)
     7 (what.Duplicate (record { kind = kind; title = a }) (place 7))
 unfolding titles_rule title_rule declared_rule declare_rule tested kind_checked native_of title_checked lines_checked names_known names_apart attributes_of set_from segments is_word_byte is_tag_byte is_relation_name is_metaparameter known_checked line_tests
-relation_of_second manifests = refl
+relation_of_second environment = refl
 
 -- an override line that came before it is tested then, and before relations: F10 at the line
-overridden_before : (manifests : Manifests)
+overridden_before : (environment : Environment)
     → book_by
-    (titles_rule sample form.Plain kind (text a ∷ []) (body_with (before (text c) ∷ [])) here (overridden manifests))
+    (titles_rule sample form.Plain kind (text a ∷ []) (body_with (before (text c) ∷ [])) here (overridden environment))
     ≡ Err (fault (place 9) (what.UnknownParameter (record { kind = kind; title = a }) (codes "mesage")))
 unfolding titles_rule title_rule declared_rule declare_rule tested kind_checked native_of title_checked lines_checked names_known names_apart attributes_of set_from segments is_word_byte is_tag_byte known_checked line_tests is_metaparameter
-overridden_before manifests = refl
+overridden_before environment = refl
 
 -- in a class: its resource contains what it declares, whose tags go on; scope and source are those of the class
 in_class : item_of owner (new_row main mode.Plain ∷ class_a mode.Plain ∷ [])
@@ -385,19 +385,19 @@ whole : Declares (resource_rule sample
     (resource mark.Exported (codes "::nOtify") (titled_by (word a) [] 7 ∷ []) 6) here)
     (notify mode.Exported a 7 ∷ [])
 unfolding resource_rule bodies_rule defaults_from bodies_from body_rule lines_from declare_bodies titles_rule title_rule declared_rule declare_rule tested kind_checked native_of title_checked lines_checked names_known names_apart attributes_of set_from segments is_word_byte is_tag_byte line_tests owner_at out-Form denote.Hole.Carrier.out normal without_front_colons
-whole manifests = refl
+whole environment = refl
 
 -- all bodies are evaluated before any test: the second one's F2 comes before the first one's F8, and before F5
 evaluated_first : Fails (resource_rule sample
     (resource mark.Plain (codes "nothing") (titled_by undef [] 2 ∷ titled_by (fails 3) [] 3 ∷ []) 1) here)
     3 (what.UnknownVariable (codes "x"))
 unfolding resource_rule bodies_rule defaults_from bodies_from body_rule lines_from owner_at out-Form denote.Hole.Carrier.out
-evaluated_first manifests = refl
+evaluated_first environment = refl
 
 -- of all other actions nothing is built
 defaults_action : Fails (act_rule sample (action.Defaults (codes "file") []) 5 here) 5 what.NotBuilt
 unfolding act_rule owner_at
-defaults_action manifests = refl
+defaults_action environment = refl
 
 -- ---- collectors
 
@@ -431,20 +431,20 @@ classes = refl
 registered : Registers (collected_by sample (Some native.Notify) None 3 here)
     (record { kind = kind; query = all; at = place 3; owner = 0; exported = true; realized = None })
 unfolding register owner_at
-registered manifests = refl
+registered environment = refl
 
 tagged : Tells (tag_asked sample (Some (told a)) 3 here) (by_tag (text a)) (a ∷ [])
 unfolding write_log out-Form denote.Hole.Carrier.out
-tagged manifests = refl
+tagged environment = refl
 
 no_tag_value : Refuses (tag_asked sample (Some (fails 3)) 3 here) 3 (what.UnknownVariable (codes "x"))
 unfolding out-Form denote.Hole.Carrier.out owner_at
-no_tag_value manifests = refl
+no_tag_value environment = refl
 
 other_query : Refuses (tag_asked sample None 3 here) 3 what.NotBuilt
 unfolding owner_at
-other_query manifests = refl
+other_query environment = refl
 
 other_collector : Refuses (collected_by sample None None 3 here) 3 what.NotBuilt
 unfolding owner_at
-other_collector manifests = refl
+other_collector environment = refl

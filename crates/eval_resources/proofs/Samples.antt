@@ -28,7 +28,7 @@ use Rattle.eval_world.specs.Inner.{Inner}
 use Rattle.eval_world.specs.Outcomes.{Outcome, Step, ◌>>◌, pure}
 use Rattle.eval_world.specs.Worlds.{empty, fault, write_log}
 use Rattle.eval_world.specs.declared.here.Here.{Here}
-use Rattle.eval_world.specs.Manifests.{Manifests}
+use Rattle.eval_world.specs.Environment.{Environment}
 use Rattle.eval_world.specs.declared.owner.Owner.{Owner}
 use Rattle.eval_world.specs.declared.world.World.{World}
 use Rattle.override_rules.specs.declared.override_line.Right.TheVariants as right
@@ -138,12 +138,12 @@ main = record {
   known = [];
 }
 
-abbrev pub world : Manifests → World
-world manifests = record (empty manifests) { book = new_row main mode.Plain ∷ [] }
+abbrev pub world : Environment → World
+world environment = record (empty environment) { book = new_row main mode.Plain ∷ [] }
 
 -- the same with an override line on `Notify[a]`, which came before it: at line 9
-abbrev pub overridden : Manifests → World
-overridden manifests = record (world manifests) {
+abbrev pub overridden : Environment → World
+overridden environment = record (world environment) {
   overrides = record {
     lines = record {
       target = record { kind = codes "notify"; title = codes "a" };
@@ -178,17 +178,17 @@ abbrev pub seen_by : {A : Type 0} → Outcome A → Result (A × List (List ℕ)
 seen_by (Ok p) = Ok (p.0, texts p.1)
 seen_by (Err f) = Err f
 
-abbrev pub seen : {A : Type 0} → Step A → Manifests → Result (A × List (List ℕ)) Fault
-seen step manifests = seen_by (step (world manifests))
+abbrev pub seen : {A : Type 0} → Step A → Environment → Result (A × List (List ℕ)) Fault
+seen step environment = seen_by (step (world environment))
 
 -- it gives this, and evaluates these texts
 abbrev pub Tells : {A : Type 0} → Step A → A → List (List ℕ) → Type 0
-Tells step a ts = (manifests : Manifests) → seen step manifests ≡ Ok (a, ts)
+Tells step a ts = (environment : Environment) → seen step environment ≡ Ok (a, ts)
 
 -- it is refused at this line
 abbrev pub Refuses : {A : Type 0} → Step A → ℕ → What → Type 0
 Refuses step at details =
-    (manifests : Manifests) → seen step manifests ≡ Err (faults.fault (place at) details)
+    (environment : Environment) → seen step environment ≡ Err (faults.fault (place at) details)
 
 -- a line with a text
 abbrev pub said : List ℕ → List ℕ → ℕ → Line
@@ -201,12 +201,12 @@ book_by (Ok p) = Ok p.1.book
 book_by (Err f) = Err f
 
 abbrev pub Declares : Step (Unit {0}) → List Row → Type 0
-Declares step rows = (manifests : Manifests)
-    → book_by (step (world manifests)) ≡ Ok (new_row main mode.Plain ∷ rows)
+Declares step rows = (environment : Environment)
+    → book_by (step (world environment)) ≡ Ok (new_row main mode.Plain ∷ rows)
 
 abbrev pub Fails : Step (Unit {0}) → ℕ → What → Type 0
-Fails step at details = (manifests : Manifests)
-    → book_by (step (world manifests)) ≡ Err (faults.fault (place at) details)
+Fails step at details = (environment : Environment)
+    → book_by (step (world environment)) ≡ Err (faults.fault (place at) details)
 
 -- ---- what is registered
 
@@ -215,5 +215,5 @@ collectors_by (Ok p) = Ok p.1.relations.collectors
 collectors_by (Err f) = Err f
 
 abbrev pub Registers : Step (Unit {0}) → Collector → Type 0
-Registers step c = (manifests : Manifests)
-    → collectors_by (step (world manifests)) ≡ Ok (c ∷ [])
+Registers step c = (environment : Environment)
+    → collectors_by (step (world environment)) ≡ Ok (c ∷ [])

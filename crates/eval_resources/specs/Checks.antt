@@ -26,7 +26,7 @@ use Rattle.eval_classes.specs.Listing.{class_reference}
 use Rattle.eval_resources.specs.Lines.{Line, Body}
 use Rattle.eval_resources.specs.declared.known_kind.KnownKind.{KnownKind}
 use Rattle.eval_resources.specs.declared.named.Named.{Named}
-use Rattle.eval_world.specs.Manifests.{Manifests}
+use Rattle.eval_world.specs.Environment.{Environment}
 
 -- ---- the kind
 
@@ -46,15 +46,15 @@ abbrev pub define_kind : List ℕ → Place → List (Param Expr) → Result Kno
 define_kind kind at params =
     if is_kind kind then Ok (with_params kind params) else Err (fault at (what.UnknownType kind))
 
-abbrev pub define_checked : Manifests → List ℕ → Place → Result KnownKind Fault
+abbrev pub define_checked : Environment → List ℕ → Place → Result KnownKind Fault
 define_checked m kind at = and_then (define_found m kind at) (λ f. define_kind kind at f.params)
 
-abbrev pub kind_by : Option NativeType → Manifests → List ℕ → Place → Result KnownKind Fault
+abbrev pub kind_by : Option NativeType → Environment → List ℕ → Place → Result KnownKind Fault
 kind_by (Some n) m kind at = Ok (native_kind n)
 kind_by None m kind at = define_checked m kind at
 
 -- a native type or a define of the site, in lower case without a leading `::`; else F5
-unfoldable pub kind_checked : Manifests → List ℕ → Place → Result KnownKind Fault
+unfoldable pub kind_checked : Environment → List ℕ → Place → Result KnownKind Fault
 kind_checked m kind at = kind_by (native_of kind) m kind at
 
 -- ---- the title
@@ -103,7 +103,7 @@ abbrev pub title_tested : KnownKind → Datum → Body → Result Named Fault
 title_tested k title b = and_then (title_checked title b.at) (λ t.
     and_then (lines_checked (reference_to k t) k.known b.lines) (λ _. Ok (named_of k t)))
 
-unfoldable pub tested : Manifests → List ℕ → Datum → Body → Result Named Fault
+unfoldable pub tested : Environment → List ℕ → Datum → Body → Result Named Fault
 tested m kind title b = and_then (kind_checked m kind b.at) (λ k. title_tested k title b)
 
 -- ---- classes
@@ -123,13 +123,13 @@ class_form form.Virtual title at = Err (class_virtual title at)
 class_form form.Exported title at = Err (class_virtual title at)
 
 -- the class of this title, which is a text, else F8; and there is one, else F4
-abbrev pub class_titled : Manifests → Datum → Place → Result Class Fault
+abbrev pub class_titled : Environment → Datum → Place → Result Class Fault
 class_titled m title at = and_then (title_checked title at) (λ t. class_found m (normal t) at)
 
 -- it takes its parameters
 abbrev pub class_lines : Class → List Line → Result ⊤ Fault
 class_lines c ls = lines_checked (class_reference (class_name c)) (param_names c.params) ls
 
-unfoldable pub class_tested : Manifests → Form → Datum → Body → Result Class Fault
+unfoldable pub class_tested : Environment → Form → Datum → Body → Result Class Fault
 class_tested m written title b = and_then (class_form written title b.at) (λ _.
     and_then (class_titled m title b.at) (λ c. and_then (class_lines c b.lines) (λ _. Ok c)))

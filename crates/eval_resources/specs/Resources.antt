@@ -46,7 +46,7 @@ relations_checked ls = unrelated (find relates ls)
 -- evaluated here.
 unfoldable pub declared_rule : Form → List ℕ → Datum → Body → Here → Step (Unit {0})
 declared_rule written kind title b here = do
-  named ← (λ w. answered (tested w.manifests kind title b) w)
+  named ← (λ w. answered (tested w.environment kind title b) w)
   number ← declare_rule written named b here
   (λ w. answered (stands w.overrides w.book number) w)
   answered (relations_checked b.lines)
@@ -54,7 +54,7 @@ declared_rule written kind title b here = do
 -- A class: the tests, then it is declared with what the body gives, and evaluated at once, then the relations.
 unfoldable pub class_title_rule : Inner → Form → Datum → Body → Here → Step (Unit {0})
 class_title_rule inner written title b here = do
-  c ← (λ w. answered (class_tested w.manifests written title b) w)
+  c ← (λ w. answered (class_tested w.environment written title b) w)
   class_declared inner c (set_from [] b.lines) b.at here.owner
   answered (relations_checked b.lines)
 

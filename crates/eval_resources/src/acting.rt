@@ -149,7 +149,7 @@ fn declare_resource(
         (spec.declared_rule form kind.now (view title.now) (body_of body.now) here world.old) result world.new }
 {
     let alloc = world.heap.alloc();
-    let named = tested(alloc, &world.manifests, kind, title, body)?;
+    let named = tested(alloc, &world.environment, kind, title, body)?;
     let number = declare(world, form, named, body, here)?;
     world.overrides.stand(alloc, &world.book, number)?;
     check_relations(alloc, body.lines.as_slice())
@@ -174,7 +174,7 @@ fn declare_class_title<
         result world.new }
 {
     let alloc = world.heap.alloc();
-    let class = class_tested(alloc, &world.manifests, form, title, body)?;
+    let class = class_tested(alloc, &world.environment, form, title, body)?;
     let given = attributes(alloc, body.lines.as_slice())?;
     declare_class(forms, world, class, &given, &body.at, here.owner)?;
     check_relations(alloc, body.lines.as_slice())

@@ -9,7 +9,7 @@ use crate::filling::has_name;
 use crate::kinds::check_kind;
 use crate::known_kind::KnownKind;
 use crate::named::Named;
-use eval_world::Manifests;
+use eval_world::Environment;
 use pp_values::{Fault, Memory, Place, Reference, Stop, Subject, Text, Texts, Value, What};
 use res_core::{Body, Line, check_known};
 use std::alloc::Global;
@@ -19,14 +19,14 @@ use std::collections::BTreeSet;
 #[tactic(auto, unfolding(crate::specs::Checks::tested))]
 pub fn tested(
     alloc: Global,
-    manifests: &Manifests<'_>,
+    environment: &Environment<'_>,
     kind: &Text,
     title: &Value,
     body: &Body,
 ) -> Result<Named, Stop>
-    ensures { Answers result (spec.tested manifests.now kind.now (view title.now) (body_of body.now)) }
+    ensures { Answers result (spec.tested environment.now kind.now (view title.now) (body_of body.now)) }
 {
-    let known = check_kind(alloc, manifests, kind, &body.at)?;
+    let known = check_kind(alloc, environment, kind, &body.at)?;
     title_tested(alloc, known, title, body)
 }
 

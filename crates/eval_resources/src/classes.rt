@@ -8,7 +8,7 @@ ghost use Rattle.pp_values.specs.Views.{view};
 
 use crate::checks::{check_lines, check_title};
 use eval_classes::{class_found, class_reference, normal_name, param_names};
-use eval_world::Manifests;
+use eval_world::Environment;
 use pp_tree::definition::Class;
 use pp_values::{Fault, Kind, Memory, Place, Stop, Subject, Value, What};
 use res_core::{Body, Form, Line};
@@ -18,15 +18,15 @@ use std::alloc::Global;
 #[tactic(auto, unfolding(crate::specs::Checks::class_tested))]
 pub fn class_tested<'a>(
     alloc: Global,
-    manifests: &Manifests<'a>,
+    environment: &Environment<'a>,
     form: Form,
     title: &Value,
     body: &Body,
 ) -> Result<&'a Class, Stop>
-    ensures { Lends result (spec.class_tested manifests.now form (view title.now) (body_of body.now)) }
+    ensures { Lends result (spec.class_tested environment.now form (view title.now) (body_of body.now)) }
 {
     check_form(alloc, form, title, &body.at)?;
-    let class = class_titled(alloc, manifests, title, &body.at)?;
+    let class = class_titled(alloc, environment, title, &body.at)?;
     check_class_lines(alloc, class, body.lines.as_slice())?;
     Ok(class)
 }
@@ -63,15 +63,15 @@ fn class_named(alloc: Global, title: &Value) -> Result<Subject, Memory>
 
 fn class_titled<'a>(
     alloc: Global,
-    manifests: &Manifests<'a>,
+    environment: &Environment<'a>,
     title: &Value,
     at: &Place,
 ) -> Result<&'a Class, Stop>
-    ensures { Lends result (spec.class_titled manifests.now (view title.now) at.now) }
+    ensures { Lends result (spec.class_titled environment.now (view title.now) at.now) }
 {
     let title = check_title(alloc, title, at)?;
     let name = normal_name(alloc, &title)?;
-    class_found(alloc, manifests, &name, at)
+    class_found(alloc, environment, &name, at)
 }
 
 /// A class takes its parameters and the metaparameters.

@@ -8,7 +8,7 @@ ghost use Rattle.res_core.specs.NativeTypes.{row};
 
 use crate::known_kind::KnownKind;
 use eval_classes::{define_found, param_names};
-use eval_world::Manifests;
+use eval_world::Environment;
 use pp_tree::Param;
 use pp_values::{Fault, Kind, Memory, Place, Stop, Text, What};
 use res_core::{NativeType, known_attributes, native};
@@ -18,15 +18,15 @@ use std::alloc::Global;
 #[tactic(auto, unfolding(crate::specs::Checks::kind_checked))]
 pub fn check_kind(
     alloc: Global,
-    manifests: &Manifests<'_>,
+    environment: &Environment<'_>,
     kind: &Text,
     at: &Place,
 ) -> Result<KnownKind, Stop>
-    ensures { Answers result (spec.kind_checked manifests.now kind.now at.now) }
+    ensures { Answers result (spec.kind_checked environment.now kind.now at.now) }
 {
     match native(kind) {
         Some(native) => Ok(native_kind(alloc, native)?),
-        None => check_define(alloc, manifests, kind, at),
+        None => check_define(alloc, environment, kind, at),
     }
 }
 
@@ -40,13 +40,13 @@ fn native_kind(alloc: Global, native: NativeType) -> Result<KnownKind, Memory>
 
 fn check_define(
     alloc: Global,
-    manifests: &Manifests<'_>,
+    environment: &Environment<'_>,
     kind: &Text,
     at: &Place,
 ) -> Result<KnownKind, Stop>
-    ensures { Answers result (spec.define_checked manifests.now kind.now at.now) }
+    ensures { Answers result (spec.define_checked environment.now kind.now at.now) }
 {
-    let define = define_found(alloc, manifests, kind, at)?;
+    let define = define_found(alloc, environment, kind, at)?;
     define_kind(alloc, kind, at, define.params.as_slice())
 }
 

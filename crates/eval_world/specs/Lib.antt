@@ -1,6 +1,7 @@
 pub mod Arguments
+pub mod Data
+pub mod Environment
 pub mod Inner
-pub mod Manifests
 pub mod Nests
 pub mod Outcomes
 pub mod Owners

@@ -14,14 +14,14 @@ use Rattle.scope_core.specs.declared.scope_kind.ScopeKind.TheVariants as kind
 use Rattle.eval_world.specs.Outcomes.{Outcome, Step, answered}
 use Rattle.eval_world.specs.Owners.{owner_at, main_alone}
 use Rattle.eval_world.specs.declared.here.Here.{Here}
-use Rattle.eval_world.specs.Manifests.{Manifests}
+use Rattle.eval_world.specs.Environment.{Environment}
 use Rattle.eval_world.specs.declared.world.World.{World}
 
 -- before anything was evaluated
-abbrev pub empty : Manifests → World
-empty manifests = record {
+abbrev pub empty : Environment → World
+empty environment = record {
   heap = tt;
-  manifests = manifests;
+  environment = environment;
   scopes = scopes.top_alone;
   owners = main_alone;
   book = [];

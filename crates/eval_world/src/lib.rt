@@ -3,23 +3,24 @@
 #![tactic(auto)]
 
 mod arguments;
+mod data;
+mod environment;
 mod evaluated;
 mod forms;
 mod goal;
 mod heap;
 mod here;
-mod manifests;
 mod meaning;
 mod owner;
 mod owners;
 mod world;
 
+pub use environment::Environment;
 pub use evaluated::Evaluated;
 pub use forms::Forms;
 pub use goal::Goal;
 pub use heap::Heap;
 pub use here::Here;
-pub use manifests::Manifests;
 pub use meaning::Meaning;
 pub use owner::Owner;
 pub use owners::{MAIN_SOURCE, Owners};

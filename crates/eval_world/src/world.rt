@@ -6,7 +6,7 @@ ghost use Rattle.eval_world.specs.Worlds as spec;
 use crate::evaluated::Evaluated;
 use crate::heap::Heap;
 use crate::here::Here;
-use crate::manifests::Manifests;
+use crate::environment::Environment;
 use crate::owners::Owners;
 use override_rules::Overrides;
 use pp_values::{Fault, Memory, Place, Stop, Text, What};
@@ -19,7 +19,7 @@ use std::alloc::Global;
 /// lambdas that have ended.
 pub struct World<'a> {
     pub heap: Heap,
-    pub manifests: Manifests<'a>,
+    pub environment: Environment<'a>,
     pub scopes: Scopes,
     pub owners: Owners,
     pub book: Book,
@@ -33,7 +33,7 @@ impl<'a> Drop for World<'a> {
     fn drop(self) {
         let World {
             heap: _heap,
-            manifests: _manifests,
+            environment: _environment,
             scopes: _scopes,
             owners: _owners,
             book: _book,
@@ -47,12 +47,12 @@ impl<'a> Drop for World<'a> {
 impl<'a> World<'a> {
     /// The world before anything was evaluated: the empty top scope, the main manifest as the one owner, and no
     /// declaration.
-    pub fn new(alloc: Global, manifests: Manifests<'a>) -> Result<World<'a>, Memory>
-        ensures { IfOk result (λ w. w ≡ spec.empty manifests.entry) }
+    pub fn new(alloc: Global, environment: Environment<'a>) -> Result<World<'a>, Memory>
+        ensures { IfOk result (λ w. w ≡ spec.empty environment.entry) }
     {
         Ok(World {
             heap: Heap::new(alloc),
-            manifests,
+            environment,
             scopes: Scopes::new(alloc)?,
             owners: Owners::new(alloc)?,
             book: Book::new(alloc),
@@ -71,7 +71,7 @@ impl<'a> World<'a> {
     {
         let World {
             heap: _heap,
-            manifests: _manifests,
+            environment: _environment,
             scopes: _scopes,
             owners: _owners,
             book,

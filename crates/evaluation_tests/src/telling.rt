@@ -1,6 +1,6 @@
 //! What is told of a manifest, for the tables of the tests.
 use class_eval::Evaluator;
-use eval_world::Manifests;
+use eval_world::Environment;
 use pp_parser::manifest::parse;
 use pp_tree::file::File;
 use pp_tree::manifest_file::ManifestFile;
@@ -35,7 +35,7 @@ pub fn parsed(alloc: Global, manifest: &str) -> Result<File, Stop> {
 
 fn told_of_main(alloc: Global, main: &File) -> Result<String, Memory> {
     let files = BTreeMap::new(alloc);
-    told_of(alloc, Manifests::new(main, &files))
+    told_of(alloc, Environment::new(main, &files))
 }
 
 /// A main manifest, the path and the text of one more file, and what is told of them.
@@ -49,7 +49,7 @@ fn site_told(alloc: Global, site: &Site) -> Result<String, Memory> {
     let read = read_file(alloc, &path, &text)?;
     drop(files.insert(path, ManifestFile { text, read })?);
     match parsed(alloc, site.0) {
-        Ok(main) => told_of(alloc, Manifests::new(&main, &files)),
+        Ok(main) => told_of(alloc, Environment::new(&main, &files)),
         Err(stop) => stop_told(alloc, &stop),
     }
 }
@@ -78,10 +78,10 @@ fn run(evaluator: &mut Evaluator<'_>) -> Result<(), Stop> {
     Ok(())
 }
 
-fn told_of(alloc: Global, manifests: Manifests<'_>) -> Result<String, Memory> {
+fn told_of(alloc: Global, environment: Environment<'_>) -> Result<String, Memory> {
     let node = Text::from_str(alloc, "web1.example.com")?;
     let facts = facts(alloc)?;
-    let mut evaluator = Evaluator::start(alloc, manifests, &node, &facts)?;
+    let mut evaluator = Evaluator::start(alloc, environment, &node, &facts)?;
     let end = match run(&mut evaluator) {
         Ok(()) => String::new(alloc),
         Err(stop) => stop_told(alloc, &stop)?,

@@ -9,7 +9,7 @@ use Rattle.eval_classes.proofs.chains.chain_of.Goals as goal
 
 pub loop-turn-preserved : goal.loop-turn-preserved
 loop-turn-preserved c =
-    let m = c.args.manifests.now in
+    let m = c.args.environment.now in
     let book = c.args.book.now in
     let turn = c.loop-turn._turn in
     let last = c.loop-turn.last in

@@ -7,5 +7,5 @@ use Rattle.eval_classes.proofs.chains.chain_of.Given as goal
 
 abbrev pub invariant-loop-turn : goal.invariant-loop-turn
 invariant-loop-turn l =
-    chain_from longest_way [] l.class l.manifests l.book
-    ≡ chain_from (longest_way - l._turn) (stack_of class_seen l.before.items) l.last l.manifests l.book
+    chain_from longest_way [] l.class l.environment l.book
+    ≡ chain_from (longest_way - l._turn) (stack_of class_seen l.before.items) l.last l.environment l.book

@@ -5,4 +5,4 @@ use Rattle.eval_classes.proofs.parents.comes_to.Given as goal
 
 abbrev pub invariant-loop-turn : goal.invariant-loop-turn
 invariant-loop-turn l =
-    comes_to longest_way l.manifests l.name l.fn.first ≡ comes_to (longest_way - l._turn) l.manifests l.name l.at
+    comes_to longest_way l.environment l.name l.fn.first ≡ comes_to (longest_way - l._turn) l.environment l.name l.at

@@ -1,0 +1,63 @@
+ghost use Rattle.std.specs.Prelude.{◌≡◌};
+
+use hiera_config::SiteData;
+use pp_tree::{File, ManifestFile};
+use pp_values::Text;
+use std::collections::BTreeMap;
+use std::marker::Model;
+
+/// What an evaluation reads: the main manifest, all manifests of the site by their paths, and the site's data. They stay
+/// as they are.
+///
+/// A contract sees trees, faults and texts, and not where they lie.
+#[derive(Drop)]
+pub struct Environment<'a> {
+    main: &'a File,
+    files: &'a BTreeMap<Text, ManifestFile>,
+    data: &'a SiteData,
+}
+
+impl<'a> Model for Environment<'a> {
+    ghost use Rattle.eval_world.specs.Environment.{Environment as Seen};
+
+    ghost Value = { Seen };
+
+    ghost use Rattle.eval_world.specs.Environment.{coded_environment};
+
+    ghost coded = { coded_environment };
+
+    ghost view = { λ e. record { main = e.main.now; files = e.files.now.entries; data = e.data.now } };
+}
+
+impl<'a> Environment<'a> {
+    pub fn new(
+        main: &'a File,
+        files: &'a BTreeMap<Text, ManifestFile>,
+        data: &'a SiteData,
+    ) -> Environment<'a>
+        ensures { result ≡ record { main = main.now; files = files.now.entries; data = data.now } }
+    {
+        Environment { main, files, data }
+    }
+
+    /// The main manifest.
+    pub fn main(&self) -> &'a File
+        ensures { result.now ≡ self.now.main }
+    {
+        self.main
+    }
+
+    /// All manifests of the site, by path in byte order.
+    pub fn files(&self) -> &'a BTreeMap<Text, ManifestFile>
+        ensures { result.now.entries ≡ self.now.files }
+    {
+        self.files
+    }
+
+    /// The data of the site.
+    pub fn data(&self) -> &'a SiteData
+        ensures { result.now ≡ self.now.data }
+    {
+        self.data
+    }
+}

@@ -4,7 +4,7 @@ ghost use Rattle.pp_values.specs.Views.{view};
 ghost use Rattle.class_eval.specs.Starting as spec;
 
 use crate::top_names::put_top_names;
-use eval_world::{MAIN_SOURCE, Environment, World};
+use eval_world::{Environment, MAIN_SOURCE, World};
 use pp_values::{Kind, MAIN_MANIFEST, Memory, Place, Text, Texts, Value};
 use res_book::{Book, Mode};
 use res_core::{Attributes, Declared, Resource, Tags, tags_of};

@@ -35,7 +35,7 @@ kind_step is false done more left rest all p parts kind made held =
 -- the files that are left, put into those that are done, give all of them
 pub record Leads (done : KeptFiles) (left all : List Filed) : Type 0 where
   pub manifests : put_in done.manifests (manifests_among left) ≡ put_in [] (manifests_among all)
-  pub data : put_in done.data (data_among left) ≡ put_in [] (data_among all)
+  pub «data» : put_in done.data (data_among left) ≡ put_in [] (data_among all)
 
 manifests_with : (path text : List ℕ) (b : Bool) (files : KeptFiles) → is_manifest_path path ≡ b →
     (with_text path text files).manifests ≡ (if b then put text_cmp path text files.manifests else files.manifests)
@@ -54,15 +54,15 @@ one_kept done more left rest all path text parts made held = record {
       (path, text) parts refl
       (ap (λ (f : KeptFiles). f.manifests) made ∙ manifests_with path text (is_manifest_path path) done refl)
       held.manifests;
-  data = kind_step (λ f. not (is_manifest_path f.0)) (not (is_manifest_path path)) done.data more.data left rest all
+  «data» = kind_step (λ f. not (is_manifest_path f.0)) (not (is_manifest_path path)) done.data more.data left rest all
       (path, text) parts refl
       (ap (λ (f : KeptFiles). f.data) made ∙ data_with path text (is_manifest_path path) done refl)
       held.data;
 }
 
 both_same : (a b : KeptFiles) → a.manifests ≡ b.manifests → a.data ≡ b.data → a ≡ b
-both_same a b m d = ap (λ (x : List Filed). record { manifests = x; data = a.data }) m
-    ∙ ap (λ (x : List Filed). record { manifests = b.manifests; data = x }) d
+both_same a b m d = ap (λ (x : List Filed). record { manifests = x; «data» = a.data }) m
+    ∙ ap (λ (x : List Filed). record { manifests = b.manifests; «data» = x }) d
 
 pub all_kept : (done : KeptFiles) (left all : List Filed) → left ≡ [] → Leads done left all → done ≡ kept all
 all_kept done left all none held =

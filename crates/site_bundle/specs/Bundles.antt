@@ -24,7 +24,7 @@ abbrev pub unless_machine : Data → Bundle → Result Bundle Refusal
 unless_machine d bundle = if is_some (get (codes "machine") d) then Err (bad_shape (codes "machine")) else Ok bundle
 
 abbrev pub site_with : KeptFiles → List Listed → SiteView
-site_with files nodes = record { manifests = files.manifests; data = files.data; nodes = nodes }
+site_with files nodes = record { manifests = files.manifests; «data» = files.data; nodes = nodes }
 
 -- its members in their order, so that the first one that is bad decides
 unfoldable pub members_of : Data → Result Bundle Refusal

@@ -22,7 +22,7 @@ Listed = List ℕ × Datum
 -- the manifests and the other files by path, and the nodes by name, each in byte order
 pub record SiteView : Type 0 where
   pub manifests : List Filed
-  pub data : List Filed
+  pub «data» : List Filed
   pub nodes : List Listed
 
 -- the text at a path, if a manifest stands there
@@ -70,7 +70,7 @@ data_among files = filter (λ f. not (is_manifest_path f.0)) files
 abbrev pub site_of : List Filed → List Listed → SiteView
 site_of files nodes = record {
   manifests = put_in [] (manifests_among files);
-  data = put_in [] (data_among files);
+  «data» = put_in [] (data_among files);
   nodes = put_in [] nodes;
 }
 
@@ -84,4 +84,4 @@ coded_nodes = coded_list (coded× coded_text coded_datum)
 abbrev pub coded_site : Coded SiteView
 coded_site =
     code_by (List Filed × (List Filed × List Listed)) (coded× coded_files (coded× coded_files coded_nodes))
-    (λ s. (s.manifests, (s.data, s.nodes))) (λ p. record { manifests = p.0; data = p.1.0; nodes = p.1.1 }) (λ _. refl)
+    (λ s. (s.manifests, (s.data, s.nodes))) (λ p. record { manifests = p.0; «data» = p.1.0; nodes = p.1.1 }) (λ _. refl)

@@ -57,10 +57,10 @@ impl Model for Site {
 
     ghost coded = { coded_site };
 
-    ghost view = { λ s. record { manifests = s.manifests; data = s.data; nodes = s.nodes } };
+    ghost view = { λ s. record { manifests = s.manifests; «data» = s.data; nodes = s.nodes } };
 
     ghost invariant = { λ s. (s.main ≡ MAIN_MANIFEST.now)
-        × IsSome (text_at (record { manifests = s.manifests; data = s.data; nodes = s.nodes }) MAIN_MANIFEST.now) };
+        × IsSome (text_at (record { manifests = s.manifests; «data» = s.data; nodes = s.nodes }) MAIN_MANIFEST.now) };
 }
 
 impl Site {
@@ -121,7 +121,7 @@ pub fn site_of_main(alloc: Global, manifest: Text, nodes: ListedNodes) -> Result
     // Places count lines in 32 bits.
     requires { length manifest + 1 < 2 ^ 32 }
     ensures { IfOk result (λ s.
-        s ≡ record { manifests = (MAIN_MANIFEST.now, manifest) ∷ []; data = []; nodes = nodes }) }
+        s ≡ record { manifests = (MAIN_MANIFEST.now, manifest) ∷ []; «data» = []; nodes = nodes }) }
 {
     let main = Text::from_str(alloc, MAIN_MANIFEST)?;
     let mut manifests = SiteFiles::new(alloc);
@@ -138,7 +138,7 @@ pub fn site_with(
     nodes: ListedNodes,
 ) -> Result<Site, Memory>
     requires { IsSome (find text_cmp MAIN_MANIFEST.now manifests) }
-    ensures { IfOk result (λ s. s ≡ record { manifests = manifests; data = data; nodes = nodes }) }
+    ensures { IfOk result (λ s. s ≡ record { manifests = manifests; «data» = «data»; nodes = nodes }) }
 {
     let main = Text::from_str(alloc, MAIN_MANIFEST)?;
     Ok(Site { main, manifests, data, nodes })

@@ -84,7 +84,7 @@ fn read_lookup<'a>(
     key: &'a str,
     merge: Option<&'a str>,
 ) -> Result<Command<'a>, Complaint<'a>>
-    ensures words { reading result ≡ lookup_by node.now key.now (option_map (λ m. m.now) merge) }
+    ensures words { reading result ≡ lookup_by node.now key.now (option_map (λ m. m.now) merge.entry) }
     ensures within { IfOk result (λ command. IsWithin (asked_by command)) }
 {
     if !is_node_name(node) {
@@ -101,7 +101,7 @@ fn read_merge<'a>(
     key: &'a str,
     merge: Option<&'a str>,
 ) -> Result<Command<'a>, Complaint<'a>>
-    ensures words { reading result ≡ merged_by node.now key.now (option_map (λ m. m.now) merge) }
+    ensures words { reading result ≡ merged_by node.now key.now (option_map (λ m. m.now) merge.entry) }
     ensures within { IfOk result (λ command. IsWithin (asked_by command)) }
 {
     let Some(word) = merge else {

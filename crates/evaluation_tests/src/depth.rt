@@ -1,7 +1,7 @@
 //! The calls for one expression and for one block, at lawful depths and past them.
 use crate::telling::{facts, parsed, stop_told};
 use class_eval::Evaluator;
-use eval_world::{Evaluated, Here, Environment};
+use eval_world::{Environment, Evaluated, Here};
 use pp_tree::expr::Expr;
 use pp_tree::file::File;
 use pp_tree::statement::{Operand, Statement};

@@ -18,7 +18,7 @@ all_read (e ∷ es) h =
     ∙ ap (λ xs. read_file (e.0, e.1.text) ∷ xs) (all_read es (λ k d below. h (suc k) d (omega (arith, below))))
 
 abbrev environment : File → List (List ℕ × ManifestFile) → List Filed → Environment
-environment main es data = record { main = main; files = es; data = data }
+environment main es others = record { main = main; files = es; site_data = others }
 
 -- so that they are the manifests of the site, beside its data
 pub manifests_read : (main : File) (es : List (List ℕ × ManifestFile)) (site : SiteView) →

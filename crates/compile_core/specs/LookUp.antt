@@ -39,7 +39,7 @@ found_or_missing key meant = and_then (placed lookup_place meant) (or_missing ke
 
 -- looked up with the variables of top scope
 abbrev pub found : List Filed → Scopes → List ℕ → Option Merge → Result Datum Fault
-found data scopes key merge = found_or_missing key (looked_up (world_of data (in_scope 0 scopes)) key merge)
+found files scopes key merge = found_or_missing key (looked_up (world_of files (in_scope 0 scopes)) key merge)
 
 -- it depends on the site's data, and on the node and its facts, and on no manifest
 unfoldable pub look_up : SiteView → List ℕ → List ℕ → Option Merge → Result Datum Fault

@@ -27,7 +27,7 @@ abbrev pub read_file : Filed → List ℕ × ManifestFile
 read_file f = (f.0, record { text = f.1; read = file_of f.0 f.1 })
 
 abbrev pub environment_of : SiteView → File → Environment
-environment_of site main = record { main = main; files = map read_file site.manifests; data = site.data }
+environment_of site main = record { main = main; files = map read_file site.manifests; site_data = site.data }
 
 -- ---- evaluation and finishing
 

@@ -22,5 +22,5 @@ listed = facts_for
 -- anything
 abbrev pub manifest_meaning : List ℕ → List ℕ → Result (Catalog × ExportSet) Fault
 manifest_meaning node manifest =
-    puppet (record { manifests = (MAIN_MANIFEST.now, manifest) ∷ []; data = []; nodes = [] }) node (hash no_entries)
+    puppet (record { manifests = (MAIN_MANIFEST.now, manifest) ∷ []; «data» = []; nodes = [] }) node (hash no_entries)
     fin.empty

@@ -47,15 +47,15 @@ fn node_scopes(alloc: Global, site: &Site, node: &Text) -> Result<Scopes, Memory
 /// The value that the data have for a key, with the variables of top scope.
 fn found(
     alloc: Global,
-    data: &SiteData,
+    site_data: &SiteData,
     scopes: &Scopes,
     key: &Text,
     merge: Option<Merge>,
 ) -> Result<Value, Stop>
-    ensures { Answers (said result) (spec.found data.now scopes.now key.now merge) }
+    ensures { Answers (said result) (spec.found site_data.now scopes.now key.now merge) }
 {
     let at = lookup_place(alloc)?;
-    match lookup(alloc, data, scopes, ScopeId::TOP, key, merge, &at) {
+    match lookup(alloc, site_data, scopes, ScopeId::TOP, key, merge, &at) {
         Ok(Some(value)) => Ok(value),
         Ok(None) => Err(Stop::Fault(missing(alloc, at, key)?)),
         Err(stop) => Err(stop),

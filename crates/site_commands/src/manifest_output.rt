@@ -86,7 +86,7 @@ fn compile_alone(
 fn site_alone(alloc: Global, manifest: Text) -> Result<Site, Memory>
     requires { length manifest ≤ MOST_FILE_BYTES }
     ensures { IfOk result (λ s. s
-        ≡ record { manifests = (MAIN_MANIFEST.now, manifest) ∷ []; data = []; nodes = [] }) }
+        ≡ record { manifests = (MAIN_MANIFEST.now, manifest) ∷ []; «data» = []; nodes = [] }) }
 {
     let mut files = TextPairs::new(alloc);
     files.push((Text::from_str(alloc, MAIN_MANIFEST)?, manifest))?;

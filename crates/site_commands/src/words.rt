@@ -10,13 +10,17 @@ use site_bundle::node_name::is_node_name;
 #[derive(Clone, Copy, Debug)]
 pub enum Command<'a> {
     /// The catalog of this node under the manifest that comes in.
-    Manifest { node: &'a str },
+    Manifest {
+        node: &'a str,
+    },
 
     /// The history and the replies that come of the bundle that comes in, whose requests are answered one after another.
     Sequence,
 
     /// The history and the replies that come of the bundle that comes in, whose requests this many workers share out.
-    Batch { workers: u32 },
+    Batch {
+        workers: u32,
+    },
 
     /// The value that the data of the bundle that comes in have for this key and node, by this merge where one is given.
     Lookup {
@@ -50,8 +54,7 @@ pub fn read_words(words: &[String]) -> Result<Command<'_>, Complaint<'_>>
             read_lookup(node.as_str(), key.as_str(), None)
         }
         [command, node, key, option, merge]
-            if command.as_str() == "lookup" && option.as_str() == "--merge" =>
-        {
+            if command.as_str() == "lookup" && option.as_str() == "--merge" => {
             read_lookup(node.as_str(), key.as_str(), Some(merge.as_str()))
         }
         [command, node] if command.as_str() == "manifest" => {

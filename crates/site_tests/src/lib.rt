@@ -10,6 +10,8 @@ mod compiling;
 #[cfg(test)]
 mod journals;
 #[cfg(test)]
+mod lookups;
+#[cfg(test)]
 mod puppet;
 #[cfg(test)]
 mod replies;

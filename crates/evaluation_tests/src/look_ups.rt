@@ -1,14 +1,11 @@
 //! The function `lookup`: manifests over the files of a site's data, and what is told of them.
-use crate::telling::{Row, parsed, stop_told, told_of};
-use eval_world::Environment;
-use hiera_config::SiteData;
-use pp_values::{Memory, Text};
+use crate::telling::{DataFiles, Row, is_data_told};
+use pp_values::Memory;
 use std::alloc::Global;
-use std::collections::BTreeMap;
 use std::test::Fail;
 
 /// The fact `role` is 7. The variables `own` and `who` are those of the scope that the call stands in.
-const DATA: [(&str, &str); 4] = [
+const DATA: DataFiles = &[
     (
         "hiera.yaml",
         "{\"version\":5,\"hierarchy\":[{\"name\":\"all\",\"paths\":[\"own/%{own}.json\",\"role/%{role}.json\",\"common.json\"]}]}",
@@ -24,24 +21,8 @@ const DATA: [(&str, &str); 4] = [
     ),
 ];
 
-fn told(alloc: Global, manifest: &str) -> Result<String, Memory> {
-    let mut data = SiteData::new(alloc);
-    for (path, text) in DATA.iter() {
-        data.read(
-            alloc,
-            Text::from_str(alloc, path)?,
-            Text::from_str(alloc, text)?,
-        )?;
-    }
-    let files = BTreeMap::new(alloc);
-    match parsed(alloc, manifest) {
-        Ok(main) => told_of(alloc, Environment::new(&main, &files, &data)),
-        Err(stop) => stop_told(alloc, &stop),
-    }
-}
-
 fn is_told(alloc: Global, row: &Row) -> Result<bool, Memory> {
-    Ok(told(alloc, row.0)?.as_str() == row.1)
+    is_data_told(alloc, &(row.0, DATA, row.1))
 }
 
 const VALUES: [Row; 26] = [
@@ -232,11 +213,8 @@ fn look_ups_fail(rt: HostRuntime) -> Result<(), Fail> {
 #[test]
 fn arguments_are_refused(rt: HostRuntime) -> Result<(), Fail> {
     for manifest in REFUSED.iter() {
-        let told = told(rt.alloc(), manifest)?;
-        assert!(rt;
-            told.as_str() == "F7 manifests/site.pp:1 WrongArguments lookup; ",
-            "{manifest}"
-        );
+        let row = (*manifest, "F7 manifests/site.pp:1 WrongArguments lookup; ");
+        assert!(rt; is_told(rt.alloc(), &row)?, "{manifest}");
     }
     Ok(())
 }

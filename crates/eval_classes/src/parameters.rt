@@ -18,6 +18,7 @@ use pp_tree::Param;
 use pp_tree::expr::Expr;
 use pp_values::{Fault, Memory, Stop, Text, Value, What};
 use res_core::Attributes;
+use scope_core::ScopeId;
 use std::alloc::Global;
 use std::collections::BTreeMap;
 
@@ -174,7 +175,7 @@ fn data_value(world: &World<'_>, binding: &Binding, name: &Text) -> Result<Optio
 {
     if binding.of.kind.as_text().is("class") {
         let key = data_key(world.heap.alloc(), &binding.of.title, name)?;
-        return world.look_up(Here::top().scope, &key, None, &binding.at);
+        return world.look_up(ScopeId::TOP, &key, None, &binding.at);
     }
     Ok(None)
 }

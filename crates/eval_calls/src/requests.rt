@@ -9,10 +9,7 @@ use pp_values::{Memory, Text, Texts, Value};
 use std::alloc::Global;
 
 /// What the arguments ask for; `None` where the function does not take them.
-pub fn request_of<'a>(
-    alloc: Global,
-    arguments: &'a [Value],
-) -> Result<Option<Request<'a>>, Memory>
+pub fn request_of<'a>(alloc: Global, arguments: &'a [Value]) -> Result<Option<Request<'a>>, Memory>
     ensures { IfOk result (λ o. option_map spec.request_seen o ≡ spec.request_of (views arguments.now)) }
 {
     match arguments {

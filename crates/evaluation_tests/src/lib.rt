@@ -8,6 +8,8 @@ mod depth;
 #[cfg(test)]
 mod edges;
 #[cfg(test)]
+mod look_ups;
+#[cfg(test)]
 mod manifests;
 #[cfg(test)]
 mod parameters;

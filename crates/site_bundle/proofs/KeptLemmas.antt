@@ -1,6 +1,6 @@
 -- Files of either kind, put in one after another.
-use Rattle.std.proofs.Common.{◌≡◌, ℕ, ◌+◌, ◌-◌, Bool, true, false, ◌||◌, IsTrue, cond, List, [], ◌∷◌, ◌++◌, append-nil, refl, sym, ap, subst, ◌∙◌}
-use Rattle.std.specs.Prelude.{suc, if◌then◌else◌, not, nat_lt, filter}
+use Rattle.std.proofs.Common.{◌≡◌, ℕ, Bool, true, false, ◌||◌, IsTrue, cond, List, [], ◌∷◌, ◌++◌, append-nil, refl, sym, ap, subst, ◌∙◌}
+use Rattle.std.specs.Prelude.{if◌then◌else◌, not, filter}
 use Rattle.std.specs.Str.{bytes_eq}
 use Rattle.std.specs.FinMap.{put}
 use Rattle.std.proofs.lemmas.List.Elements.{filter-append}
@@ -109,10 +109,3 @@ key_among is key (p ∷ ps) kind h =
         IsTrue (has_key key (cond b (p ∷ filter (λ q. is q.0) ps) (filter (λ q. is q.0) ps)))
     further true g = or_left (bytes_eq key p.0) _ g
     further false g = g
-
--- ---- room for one more
-
-pub room_left : (some more most : ℕ) → nat_lt more (most - some) ≡ nat_lt (some + more) most
-room_left 0 more most = refl
-room_left (suc some) more 0 = refl
-room_left (suc some) more (suc most) = room_left some more most

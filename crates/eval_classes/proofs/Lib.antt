@@ -5,5 +5,6 @@ pub mod Scopes
 pub mod Segments
 pub mod Stacks
 pub mod Ways
+mod DataExamples
 mod Examples
 mod Samples

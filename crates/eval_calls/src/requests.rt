@@ -32,6 +32,7 @@ fn with_options<'a>(keys: Texts, options: Option<Options<'a>>) -> Option<Request
 }
 
 /// The keys: a text, or a list of texts.
+#[tactic(auto, using(expr_eval::proofs::Back::members_back))]
 fn keys_in(alloc: Global, value: &Value) -> Result<Option<Texts>, Memory>
     ensures { IfOk result (λ o. o ≡ spec.keys_in (view value.now)) }
 {
@@ -79,6 +80,7 @@ fn options_in<'a>(arguments: &'a [Value]) -> Option<Options<'a>>
 }
 
 /// One value alone: a hash of options, or what stands in the place of the type.
+#[tactic(auto, using(expr_eval::proofs::Back::pairs_back))]
 fn options_in_one<'a>(argument: &'a Value) -> Option<Options<'a>>
     ensures { option_map spec.options_seen result ≡ spec.options_in_one (view argument.now) }
 {

@@ -21,7 +21,8 @@ abbrev environment : File → List (List ℕ × ManifestFile) → List Filed →
 environment main es others = record { main = main; files = es; site_data = others }
 
 -- so that they are the manifests of the site, beside its data
-pub manifests_read : (main : File) (es : List (List ℕ × ManifestFile)) (site : SiteView) →
-    AreRead es → filed es ≡ site.manifests → environment main es site.data ≡ environment_of site main
-manifests_read main es site read same =
-    ap (λ files. environment main files site.data) (all_read es read ∙ ap (map read_file) same)
+pub manifests_read : (main : File) (es : List (List ℕ × ManifestFile)) (others : List Filed) (site : SiteView) →
+    AreRead es → filed es ≡ site.manifests → others ≡ site.data → environment main es others ≡ environment_of site main
+manifests_read main es others site read same same_data =
+    ap (environment main es) same_data
+    ∙ ap (λ files. environment main files site.data) (all_read es read ∙ ap (map read_file) same)

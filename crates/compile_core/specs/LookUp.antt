@@ -30,17 +30,18 @@ abbrev pub node_scopes : SiteView → List ℕ → Scopes
 node_scopes site node = with_top_names node (facts_or_none (facts_for site node)) top_alone
 
 -- no source has the key
-abbrev pub or_missing : List ℕ → Option Datum → Result Datum Fault
-or_missing key (Some d) = Ok d
-or_missing key None = Err (fault lookup_place (what.LookupMissing key))
+abbrev pub or_missing : Place → List ℕ → Option Datum → Result Datum Fault
+or_missing at key (Some d) = Ok d
+or_missing at key None = Err (fault at (what.LookupMissing key))
 
-abbrev pub found_or_missing : List ℕ → Meant (Option Datum) → Result Datum Fault
-found_or_missing key meant = and_then (placed lookup_place meant) (or_missing key)
+-- what a look-up means, with its faults at this place
+abbrev pub found_or_missing : Place → List ℕ → Meant (Option Datum) → Result Datum Fault
+found_or_missing at key meant = and_then (placed at meant) (or_missing at key)
 
 -- looked up with the variables of top scope
-abbrev pub found : List Filed → Scopes → List ℕ → Option Merge → Result Datum Fault
-found files scopes key merge = found_or_missing key (looked_up (world_of files (in_scope 0 scopes)) key merge)
+abbrev pub found : List Filed → Scopes → List ℕ → Option Merge → Place → Result Datum Fault
+found files scopes key merge at = found_or_missing at key (looked_up (world_of files (in_scope 0 scopes)) key merge)
 
 -- it depends on the site's data, and on the node and its facts, and on no manifest
 unfoldable pub look_up : SiteView → List ℕ → List ℕ → Option Merge → Result Datum Fault
-look_up site node key merge = found site.data (node_scopes site node) key merge
+look_up site node key merge = found site.data (node_scopes site node) key merge lookup_place

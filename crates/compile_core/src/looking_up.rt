@@ -31,7 +31,8 @@ pub fn look_up(
     ensures { Answers (said result) (spec.look_up site.now node.now key.now merge) }
 {
     let scopes = node_scopes(alloc, site, node)?;
-    found(alloc, data_of(site), &scopes, key, merge)
+    let at = lookup_place(alloc)?;
+    found(alloc, data_of(site), &scopes, key, merge, &at)
 }
 
 /// Top scope as it is for the node before evaluation.
@@ -41,24 +42,6 @@ fn node_scopes(alloc: Global, site: &Site, node: &Text) -> Result<Scopes, Memory
     match site.facts_of(node) {
         Some(facts) => top_scopes(alloc, node, facts),
         None => top_scopes(alloc, node, &Value::Hash(Pairs::new(alloc))),
-    }
-}
-
-/// The value that the data have for a key, with the variables of top scope.
-fn found(
-    alloc: Global,
-    site_data: &SiteData,
-    scopes: &Scopes,
-    key: &Text,
-    merge: Option<Merge>,
-) -> Result<Value, Stop>
-    ensures { Answers (said result) (spec.found site_data.now scopes.now key.now merge) }
-{
-    let at = lookup_place(alloc)?;
-    match lookup(alloc, site_data, scopes, ScopeId::TOP, key, merge, &at) {
-        Ok(Some(value)) => Ok(value),
-        Ok(None) => Err(Stop::Fault(missing(alloc, at, key)?)),
-        Err(stop) => Err(stop),
     }
 }
 
@@ -72,9 +55,29 @@ fn lookup_place(alloc: Global) -> Result<Place, Memory>
     })
 }
 
-fn missing(alloc: Global, at: Place, key: &Text) -> Result<Fault, Memory>
-    ensures { IfOk result (λ f. f ≡ fault at (LookupMissing key.now)) }
+/// The value that the data have for a key, with the variables of top scope; a fault stands at the place.
+#[tactic(auto, using(crate::proofs::Finding::has, crate::proofs::Finding::lacks, crate::proofs::Finding::refused))]
+fn found(
+    alloc: Global,
+    site_data: &SiteData,
+    scopes: &Scopes,
+    key: &Text,
+    merge: Option<Merge>,
+    at: &Place,
+) -> Result<Value, Stop>
+    ensures { Answers (said result) (spec.found site_data.now scopes.now key.now merge at.now) }
+{
+    match lookup(alloc, site_data, scopes, ScopeId::TOP, key, merge, at) {
+        Ok(Some(value)) => Ok(value),
+        Ok(None) => Err(Stop::Fault(missing(alloc, at, key)?)),
+        Err(stop) => Err(stop),
+    }
+}
+
+fn missing(alloc: Global, at: &Place, key: &Text) -> Result<Fault, Memory>
+    ensures { IfOk result (λ f. f ≡ fault at.now (LookupMissing key.now)) }
 {
     let what = What::LookupMissing(key.copy(alloc)?);
+    let at = at.copy(alloc)?;
     Fault::new(alloc, at, what)
 }

@@ -314,8 +314,16 @@ fn reads_long_file(alloc: Global, path: &str, back: &str, want: &str) -> Result<
 
 const LONG: [(&str, &str, &str); 4] = [
     ("manifests/site.pp", "\"},\"nodes\":1}", "B2 nodes"),
-    ("manifests/site.pp", "#\"},\"nodes\":1}", "B3 manifests/site.pp"),
-    ("a.json", "\",\"manifests/site.pp\":1}}", "B2 files.manifests/site.pp"),
+    (
+        "manifests/site.pp",
+        "#\"},\"nodes\":1}",
+        "B3 manifests/site.pp",
+    ),
+    (
+        "a.json",
+        "\",\"manifests/site.pp\":1}}",
+        "B2 files.manifests/site.pp",
+    ),
     ("a.json", "#\",\"manifests/site.pp\":1}}", "B3 a.json"),
 ];
 

@@ -49,7 +49,7 @@ options_by (Some has_type) (Some merge) default =
 
 -- any value that is given as the default is one, Undef too
 abbrev pub options_of : Option Datum → Option Datum → Option Datum → Option Options
-options_of kind merge default = options_by (type_given kind) (merge_given merge) default
+options_of of_type merge default = options_by (type_given of_type) (merge_given merge) default
 
 -- the members that a hash of options may have
 abbrev pub is_option : Datum → Bool
@@ -68,15 +68,15 @@ named_options options =
 -- one value alone: a hash of options, or else it is in the place of the type
 abbrev pub options_in_one : Datum → Option Options
 options_in_one (d.hash es) = if are_options (pairs_of es) then named_options (d.hash es) else None
-options_in_one kind = options_of (Some kind) None None
+options_in_one one = options_of (Some one) None None
 
 -- what stands behind the key
 abbrev pub options_in : List Datum → Option Options
 options_in [] = options_of None None None
 options_in (one ∷ []) = options_in_one one
-options_in (kind ∷ merge ∷ []) = options_of (Some kind) (Some merge) None
-options_in (kind ∷ merge ∷ default ∷ []) = options_of (Some kind) (Some merge) (Some default)
-options_in (kind ∷ merge ∷ default ∷ more ∷ rest) = None
+options_in (of_type ∷ merge ∷ []) = options_of (Some of_type) (Some merge) None
+options_in (of_type ∷ merge ∷ default ∷ []) = options_of (Some of_type) (Some merge) (Some default)
+options_in (of_type ∷ merge ∷ default ∷ more ∷ rest) = None
 
 -- ---- what is asked for
 

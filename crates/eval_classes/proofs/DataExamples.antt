@@ -19,6 +19,7 @@ use Rattle.pp_values.specs.Datum.{Datum}
 use Rattle.pp_values.specs.declared.fault.Fault.{Fault}
 use Rattle.pp_values.specs.declared.fault.What.TheVariants as what
 use Rattle.pp_values.specs.declared.reference.Reference.{Reference}
+use Rattle.scope_core.specs.Names.{last_cut}
 use Rattle.scope_core.specs.Scopes as scopes
 use Rattle.eval_world.specs.Data.{look_up}
 use Rattle.eval_world.specs.Outcomes.{Outcome, Step, ◌>>=◌, ◌>>◌}
@@ -113,6 +114,6 @@ scopes_of_values : (seen (between_scopes (codes "x") None (over (codes "{\"a::x\
     × (seen (between_scopes (codes "z") (Some (expr_at 5 (f.Variable (codes "y")))) (over (codes "{}"))) ≡ Ok (n 2, []))
 unfolding value_rule data_or_default look_up look look_within merge_for option_for option_in found found_in interpolated
     answers go_on in_turn in_template in_level in_layer in_module pieces_from path_form form_of method_of whole_alias cut_at
-    trimmed_start trimmed_end assign enter_lambda read scopes.assign scopes.read scopes.found digits serde_json_on_literals
-    out-Form denote.Hole.Carrier.out
+    trimmed_start trimmed_end assign enter_lambda read scopes.assign scopes.read scopes.found last_cut scopes.seen_from digits
+    serde_json_on_literals out-Form denote.Hole.Carrier.out
 scopes_of_values = (refl, refl)

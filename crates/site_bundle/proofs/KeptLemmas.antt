@@ -1,6 +1,6 @@
 -- Files of either kind, put in one after another.
-use Rattle.std.proofs.Common.{◌≡◌, ℕ, ◌+◌, ◌-◌, Bool, true, false, ◌||◌, IsTrue, cond, List, [], ◌∷◌, ◌++◌, append-nil, refl, sym, ap, ◌∙◌}
-use Rattle.std.specs.Prelude.{if◌then◌else◌, not, nat_lt, filter, length}
+use Rattle.std.proofs.Common.{◌≡◌, ℕ, Bool, true, false, ◌||◌, IsTrue, cond, List, [], ◌∷◌, ◌++◌, append-nil, refl, sym, ap, subst, ◌∙◌}
+use Rattle.std.specs.Prelude.{if◌then◌else◌, not, filter}
 use Rattle.std.specs.Str.{bytes_eq}
 use Rattle.std.specs.FinMap.{put}
 use Rattle.std.proofs.lemmas.List.Elements.{filter-append}
@@ -37,32 +37,44 @@ pub record Leads (done : KeptFiles) (left all : List Filed) : Type 0 where
   pub manifests : put_in done.manifests (manifests_among left) ≡ put_in [] (manifests_among all)
   pub «data» : put_in done.data (data_among left) ≡ put_in [] (data_among all)
 
-manifests_with : (path text : List ℕ) (b : Bool) (files : KeptFiles) → is_manifest_path path ≡ b →
-    (with_text path text files).manifests ≡ (if b then put text_cmp path text files.manifests else files.manifests)
-manifests_with path text true files is = rw is refl
-manifests_with path text false files is = rw is refl
+abbrev of_both : List Filed → List Filed → KeptFiles
+of_both manifests others = record { manifests = manifests; «data» = others }
 
-data_with : (path text : List ℕ) (b : Bool) (files : KeptFiles) → is_manifest_path path ≡ b →
-    (with_text path text files).data ≡ (if not b then put text_cmp path text files.data else files.data)
-data_with path text true files is = rw is refl
-data_with path text false files is = rw is refl
+manifests_if : (b : Bool) (a c : KeptFiles) → (if b then a else c).manifests ≡ (if b then a.manifests else c.manifests)
+manifests_if true a c = refl
+manifests_if false a c = refl
+
+data_if : (b : Bool) (a c : KeptFiles) → (if b then a else c).data ≡ (if not b then c.data else a.data)
+data_if true a c = refl
+data_if false a c = refl
+
+manifests_with : (path text : List ℕ) (files : KeptFiles) → (with_text path text files).manifests
+    ≡ (if is_manifest_path path then put text_cmp path text files.manifests else files.manifests)
+manifests_with path text files =
+    manifests_if (is_manifest_path path) (of_both (put text_cmp path text files.manifests) files.data)
+    (of_both files.manifests (put text_cmp path text files.data))
+
+data_with : (path text : List ℕ) (files : KeptFiles) → (with_text path text files).data
+    ≡ (if not (is_manifest_path path) then put text_cmp path text files.data else files.data)
+data_with path text files =
+    data_if (is_manifest_path path) (of_both (put text_cmp path text files.manifests) files.data)
+    (of_both files.manifests (put text_cmp path text files.data))
 
 pub one_kept : (done more : KeptFiles) (left rest all : List Filed) (path text : List ℕ) →
     left ≡ rest ++ (path, text) ∷ [] → more ≡ with_text path text done → Leads done left all → Leads more rest all
 one_kept done more left rest all path text parts made held = record {
   manifests = kind_step (λ f. is_manifest_path f.0) (is_manifest_path path) done.manifests more.manifests left rest all
       (path, text) parts refl
-      (ap (λ (f : KeptFiles). f.manifests) made ∙ manifests_with path text (is_manifest_path path) done refl)
+      (ap (λ (f : KeptFiles). f.manifests) made ∙ manifests_with path text done)
       held.manifests;
   «data» = kind_step (λ f. not (is_manifest_path f.0)) (not (is_manifest_path path)) done.data more.data left rest all
       (path, text) parts refl
-      (ap (λ (f : KeptFiles). f.data) made ∙ data_with path text (is_manifest_path path) done refl)
+      (ap (λ (f : KeptFiles). f.data) made ∙ data_with path text done)
       held.data;
 }
 
 both_same : (a b : KeptFiles) → a.manifests ≡ b.manifests → a.data ≡ b.data → a ≡ b
-both_same a b m d = ap (λ (x : List Filed). record { manifests = x; «data» = a.data }) m
-    ∙ ap (λ (x : List Filed). record { manifests = b.manifests; «data» = x }) d
+both_same a b m d = ap (λ x. of_both x a.data) m ∙ ap (of_both b.manifests) d
 
 pub all_kept : (done : KeptFiles) (left all : List Filed) → left ≡ [] → Leads done left all → done ≡ kept all
 all_kept done left all none held =
@@ -82,24 +94,18 @@ first_is false b e = absurd cc
 
 -- a key of the kind that is given is among those of the kind
 pub key_among : (is : List ℕ → Bool) (key : List ℕ) (ps : List Filed) → is key ≡ true → IsTrue (has_key key ps) →
-    IsTrue (has_key key (filter (λ p. is p.0) ps))
+    IsTrue (has_key key (filter (λ q. is q.0) ps))
 key_among is key [] kind h = h
 key_among is key (p ∷ ps) kind h =
     elim (bytes_eq key p.0) as (λ b. bytes_eq key p.0 ≡ b →
-    IsTrue (has_key key (cond (is p.0) (p ∷ filter (λ p. is p.0) ps) (filter (λ p. is p.0) ps)))) [
+    IsTrue (has_key key (cond (is p.0) (p ∷ filter (λ q. is q.0) ps) (filter (λ q. is q.0) ps)))) [
       | true ↦ λ same.
-          rw (sym (ap is ((bytes_eq-Decides key p.0).0 same)) ∙ kind) (first_is _ _ same)
-      | false ↦ λ other. among_or (is p.0) (key_among is key ps kind (or_right _ _ other h))
+          subst (λ b. IsTrue (has_key key (cond b (p ∷ filter (λ q. is q.0) ps) (filter (λ q. is q.0) ps))))
+          (sym (sym (ap is ((bytes_eq-Decides key p.0).0 same)) ∙ kind)) (first_is _ _ same)
+      | false ↦ λ other. further (is p.0) (key_among is key ps kind (or_right _ _ other h))
     ] refl
   where
-    among_or : (b : Bool) → IsTrue (has_key key (filter (λ p. is p.0) ps)) →
-        IsTrue (has_key key (cond b (p ∷ filter (λ p. is p.0) ps) (filter (λ p. is p.0) ps)))
-    among_or true g = or_left (bytes_eq key p.0) _ g
-    among_or false g = g
-
--- ---- room for one more
-
-pub room_left : (some more most : ℕ) → nat_lt more (most - some) ≡ nat_lt (some + more) most
-room_left 0 more most = refl
-room_left (suc some) more 0 = refl
-room_left (suc some) more (suc most) = room_left some more most
+    further : (b : Bool) → IsTrue (has_key key (filter (λ q. is q.0) ps)) →
+        IsTrue (has_key key (cond b (p ∷ filter (λ q. is q.0) ps) (filter (λ q. is q.0) ps)))
+    further true g = or_left (bytes_eq key p.0) _ g
+    further false g = g

@@ -113,7 +113,12 @@ pub fn make_site(alloc: Global, files: TextPairs, nodes: FactPairs) -> Result<Si
     let main = Text::from_str(alloc, MAIN_MANIFEST)?;
     let KeptFiles { manifests, data } = read_files(alloc, files)?;
     let nodes = list_nodes(alloc, nodes)?;
-    Ok(Site { main, manifests, data, nodes })
+    Ok(Site {
+        main,
+        manifests,
+        data,
+        nodes,
+    })
 }
 
 /// The site of a main manifest alone, with nodes that are listed already.
@@ -127,7 +132,12 @@ pub fn site_of_main(alloc: Global, manifest: Text, nodes: ListedNodes) -> Result
     let mut manifests = SiteFiles::new(alloc);
     manifests.read(alloc, main.copy(alloc)?, manifest)?;
     let data = SiteData::new(alloc);
-    Ok(Site { main, manifests, data, nodes })
+    Ok(Site {
+        main,
+        manifests,
+        data,
+        nodes,
+    })
 }
 
 /// The site of these manifests, the main one among them, and these files of data, with nodes that are listed already.
@@ -141,7 +151,12 @@ pub fn site_with(
     ensures { IfOk result (λ s. s ≡ record { manifests = manifests; «data» = «data»; nodes = nodes }) }
 {
     let main = Text::from_str(alloc, MAIN_MANIFEST)?;
-    Ok(Site { main, manifests, data, nodes })
+    Ok(Site {
+        main,
+        manifests,
+        data,
+        nodes,
+    })
 }
 
 fn read_files(alloc: Global, files: TextPairs) -> Result<KeptFiles, Memory>

@@ -1,9 +1,10 @@
 //! The output to a look-up: the value that a bundle's data have for a key, or why they have none.
-ghost use Rattle.std.specs.Prelude.{◌≡◌, IfOk};
+ghost use Rattle.std.specs.Prelude.{◌≡◌, false, IfOk};
 ghost use Rattle.compile_core.specs.LookUp.{look_up};
 ghost use Rattle.json_values.specs.ValueForm.{form};
 ghost use Rattle.pp_values.specs.Views.{view};
-ghost use Rattle.serde_json.specs.Written.{compact_text};
+ghost use Rattle.serde_json.specs.View.{view as json_view};
+ghost use Rattle.serde_json.specs.Written.{compact_text, has_float};
 ghost use Rattle.site_bundle.specs.Bundles.{bundle_of};
 ghost use Rattle.site_commands.specs.Outputs.{HasLookedUp, TellsOf, looked_up_output};
 ghost use Rattle.site_commands.specs.World.{line};
@@ -19,6 +20,7 @@ use pp_values::fault::Stop;
 use pp_values::memory::Memory;
 use pp_values::text::Text;
 use pp_values::value::Value;
+use serde_json::Value as Json;
 use site_bundle::bundle::Bundle;
 use site_bundle::reading::read_bundle;
 use site_bundle::site::Site;
@@ -81,5 +83,12 @@ fn value_line(alloc: Global, value: &Value) -> Result<Text, Memory>
     ensures { IfOk result (λ text. text ≡ line (compact_text (form (view value.now)))) }
 {
     let form = value_form(alloc, value)?;
-    line(Text::new(form.to_string(alloc)?))
+    json_line(alloc, &form)
+}
+
+fn json_line(alloc: Global, json: &Json) -> Result<Text, Memory>
+    requires { has_float (json_view json.now) ≡ false }
+    ensures { IfOk result (λ text. text ≡ line (compact_text (json_view json.now))) }
+{
+    line(Text::new(json.to_string(alloc)?))
 }

@@ -14,18 +14,17 @@ use crate::lines::line;
 use crate::output::Output;
 use compile_core::language::PuppetLanguage;
 use export_store::version::Version;
-use pp_values::fact_pairs::FactPairs;
 use pp_values::fault::Fault;
 use pp_values::memory::Memory;
 use pp_values::pairs::Pairs;
 use pp_values::place::MAIN_MANIFEST;
 use pp_values::text::Text;
-use pp_values::text_pairs::TextPairs;
 use pp_values::value::Value;
 use res_core::catalog::Catalog;
 use res_core::export_set::ExportSet;
 use site_bundle::bundle_stop::BundleStop;
-use site_bundle::site::{Site, make_site};
+use site_bundle::listed_nodes::ListedNodes;
+use site_bundle::site::{Site, site_of_main};
 use site_bundle::stop_lines::stop_text;
 use site_core::compile_stop::CompileStop;
 use site_core::language::Language;
@@ -81,16 +80,12 @@ fn compile_alone(
     PuppetLanguage.compile(alloc, &site, &node, &facts, &Version::empty(alloc))
 }
 
-/// The site of the main manifest alone, without nodes.
-#[tactic(auto, unfolding(site_bundle::specs::SiteView::put_in))]
+/// The site of the main manifest alone, without data and nodes.
 fn site_alone(alloc: Global, manifest: Text) -> Result<Site, Memory>
     requires { length manifest ≤ MOST_FILE_BYTES }
-    ensures { IfOk result (λ s. s
-        ≡ record { manifests = (MAIN_MANIFEST.now, manifest) ∷ []; «data» = []; nodes = [] }) }
+    ensures { IfOk result (λ s. s ≡ record { manifests = (MAIN_MANIFEST.now, manifest) ∷ []; «data» = []; nodes = [] }) }
 {
-    let mut files = TextPairs::new(alloc);
-    files.push((Text::from_str(alloc, MAIN_MANIFEST)?, manifest))?;
-    make_site(alloc, files, FactPairs::new(alloc))
+    site_of_main(alloc, manifest, ListedNodes::new(alloc))
 }
 
 /// The output of a compile that made this catalog.

@@ -51,18 +51,23 @@ put_no_float name d (member l e ms) one all =
     elim (slice_cmp nat_cmp name l) as (λ r. members_have_float
     (match_ordering r (member name d (member l e ms)) (member l d ms) (member l e (put name d ms))) ≡ false) [
       | Less ↦ either _ _ one all
-      | Equal ↦ either _ _ one (or_second _ _ all)
-      | Greater ↦ either _ _ (or_first _ _ all) (put_no_float name d ms one (or_second _ _ all))
+      | Equal ↦ either _ _ one (or_second (has_float e) (members_have_float ms) all)
+      | Greater ↦
+          either _ _ (or_first (has_float e) (members_have_float ms) all)
+          (put_no_float name d ms one (or_second (has_float e) (members_have_float ms) all))
     ]
 
 files_no_float : (fs : List Filed) (ms : Members) → members_have_float ms ≡ false →
     members_have_float (put_all (file_settings fs) ms) ≡ false
 files_no_float [] ms none = none
-files_no_float (f ∷ fs) ms none = files_no_float fs _ (put_no_float f.0 _ ms refl none)
+files_no_float (f ∷ fs) ms none =
+    files_no_float fs (put f.0 (string f.1) ms) (put_no_float f.0 (string f.1) ms refl none)
 
 pub site_no_float : (s : SiteView) → has_float (site_data s) ≡ false
 unfolding site_data site_object
-site_no_float s = either _ _ (files_no_float s.data _ (files_no_float s.manifests no_members refl))
+site_no_float s =
+    either _ _ (files_no_float s.data (put_all (file_settings s.manifests) no_members)
+    (files_no_float s.manifests no_members refl))
     (either _ _ (settings_no_float s.nodes) refl)
 
 export_no_float : (e : Exported) → has_float (export_data e) ≡ false

@@ -237,7 +237,10 @@ const FAULTS: [(&str, &str); 27] = [
         "F31 manifests/site.pp:1 NotBuilt",
     ),
     ("realize(Notify['a'])", "F31 manifests/site.pp:1 NotBuilt"),
-    ("$x = lookup('a')", "F31 manifests/site.pp:1 NotBuilt"),
+    (
+        "\n$x = lookup('a')",
+        "F20 manifests/site.pp:2 LookupMissing a",
+    ),
     (
         "notify { 'a':\n  require => Notify['b'] }",
         "F31 manifests/site.pp:2 NotBuilt",

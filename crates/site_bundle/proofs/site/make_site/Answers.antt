@@ -13,7 +13,7 @@ use Rattle.site_bundle.proofs.site.make_site.Goals as goal
 pub invariant_of-result : goal.invariant_of-result
 invariant_of-result c = (
   c.in_ok-main.ensures,
-  subst (λ (files : KeptFiles). IsSome (find text_cmp MAIN_MANIFEST.now files.manifests)) (sym c.in_ok-read_files.ensures)
+  subst (λ (files : KeptFiles). IsSome (find text_cmp MAIN_MANIFEST.now files.manifests)) (sym c.in_ok-manifests.ensures)
       (found_if_given MAIN_MANIFEST.now (manifests_among c.args.files)
       (key_among is_manifest_path MAIN_MANIFEST.now c.args.files refl c.requires.main)),
 )

@@ -39,7 +39,7 @@ type_given (Some _) = None
 abbrev pub merge_given : Option Datum → Option (Option Merge)
 merge_given None = Some None
 merge_given (Some d.undef) = Some None
-merge_given (Some value) = option_map (λ merge. Some merge) (merge_in value)
+merge_given (Some value) = option_map Some (merge_in value)
 
 abbrev pub options_by : Option Bool → Option (Option Merge) → Option Datum → Option Options
 options_by None merge default = None

@@ -1,5 +1,5 @@
 //! The function `lookup`.
-ghost use Rattle.std.specs.Prelude.{◌≡◌, IfOk, None, option_map};
+ghost use Rattle.std.specs.Prelude.{None, option_map};
 ghost use Rattle.eval_calls.specs.LookUps as spec;
 ghost use Rattle.eval_world.specs.Outcomes.{Gives, same};
 
@@ -8,9 +8,8 @@ use crate::request::Request;
 use crate::requests::request_of;
 use eval_world::{Evaluated, Here, World};
 use hiera_merge::Merge;
-use pp_values::{Memory, Place, Stop, Text, Values, What};
+use pp_values::{Place, Stop, Text, Values, What};
 use scope_core::ScopeId;
-use std::alloc::Global;
 
 /// `lookup`, with its arguments there.
 #[tactic(auto, unfolding(crate::specs::LookUps::lookup_rule))]
@@ -90,16 +89,9 @@ fn default_or_fault(
 fn missing(world: &World<'_>, keys: &[Text], line: u32, here: Here) -> Result<Evaluated, Stop>
     ensures { Gives same (spec.default_or_fault None keys.now line here world.now) result world.now }
 {
-    let key = first_key(world.heap.alloc(), keys)?;
+    let key = match keys {
+        [] => Text::from_str(world.heap.alloc(), "")?,
+        [first, ..] => first.copy(world.heap.alloc())?,
+    };
     Err(Stop::Fault(world.fault(here, line, What::LookupMissing(key))?))
-}
-
-/// The key that a fault names: the first one, or nothing.
-fn first_key(alloc: Global, keys: &[Text]) -> Result<Text, Memory>
-    ensures { IfOk result (λ t. t ≡ spec.first_key keys.now) }
-{
-    match keys {
-        [] => Text::from_str(alloc, ""),
-        [first, ..] => first.copy(alloc),
-    }
 }

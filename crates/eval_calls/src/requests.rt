@@ -58,21 +58,12 @@ fn texts_in(alloc: Global, values: &[Value]) -> Result<Option<Texts>, Memory>
 {
     let mut keys = Texts::new(alloc);
     for value in values {
-        match key_in(alloc, value)? {
-            Some(key) => keys.push(key)?,
-            None => return Ok(None),
+        match value {
+            Value::Text(key) => keys.push(key.copy(alloc)?)?,
+            _ => return Ok(None),
         }
     }
     Ok(Some(keys))
-}
-
-fn key_in(alloc: Global, value: &Value) -> Result<Option<Text>, Memory>
-    ensures { IfOk result (λ o. o ≡ spec.key_in (view value.now)) }
-{
-    match value {
-        Value::Text(key) => Ok(Some(key.copy(alloc)?)),
-        _ => Ok(None),
-    }
 }
 
 /// What stands behind the key.

@@ -140,21 +140,21 @@ pub fn site_of_main(alloc: Global, manifest: Text, nodes: ListedNodes) -> Result
     })
 }
 
-/// The site of these manifests, the main one among them, and these files of data, with nodes that are listed already.
+/// The site of these manifests, the main one among them, and these other files, with nodes that are listed already.
 pub fn site_with(
     alloc: Global,
     manifests: SiteFiles,
-    data: SiteData,
+    others: SiteData,
     nodes: ListedNodes,
 ) -> Result<Site, Memory>
     requires { IsSome (find text_cmp MAIN_MANIFEST.now manifests) }
-    ensures { IfOk result (λ s. s ≡ record { manifests = manifests; «data» = «data»; nodes = nodes }) }
+    ensures { IfOk result (λ s. s ≡ record { manifests = manifests; «data» = others; nodes = nodes }) }
 {
     let main = Text::from_str(alloc, MAIN_MANIFEST)?;
     Ok(Site {
         main,
         manifests,
-        data,
+        data: others,
         nodes,
     })
 }

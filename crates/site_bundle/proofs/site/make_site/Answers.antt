@@ -1,4 +1,4 @@
-use Rattle.std.proofs.Common.{List, sym, subst, refl}
+use Rattle.std.proofs.Common.{sym, subst, refl}
 use Rattle.std.specs.Prelude.{IsSome}
 use Rattle.std.specs.FinMap.{find}
 use Rattle.pp_values.specs.Rising.{text_cmp}

@@ -12,7 +12,7 @@ use crate::nodes::{has_nodes, node_of};
 use crate::starting::start_world;
 use crate::statements::block;
 use eval_classes::{BodyOwner, enter_body, run_instance};
-use eval_world::{Evaluated, Forms, Goal, Here, Environment, World};
+use eval_world::{Environment, Evaluated, Forms, Goal, Here, World};
 use override_rules::Overrides;
 use pp_tree::definition::Node;
 use pp_tree::expr::Expr;

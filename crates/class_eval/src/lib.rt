@@ -11,3 +11,4 @@ mod statements;
 mod top_names;
 
 pub use evaluator::{Evaluator, GREATEST_DEPTH};
+pub use starting::top_scopes;

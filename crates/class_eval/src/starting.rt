@@ -1,14 +1,28 @@
 //! The world before any statement is evaluated.
 ghost use Rattle.std.specs.Prelude.{◌≡◌, [], ◌∷◌, IfOk, OnOk};
 ghost use Rattle.pp_values.specs.Views.{view};
+ghost use Rattle.class_eval.specs.Facts.{with_top_names};
 ghost use Rattle.class_eval.specs.Starting as spec;
+ghost use Rattle.scope_core.specs.Scopes.{top_alone};
 
 use crate::top_names::put_top_names;
-use eval_world::{MAIN_SOURCE, Environment, World};
+use eval_world::{Environment, MAIN_SOURCE, World};
 use pp_values::{Kind, MAIN_MANIFEST, Memory, Place, Text, Texts, Value};
 use res_book::{Book, Mode};
 use res_core::{Attributes, Declared, Resource, Tags, tags_of};
+use scope_core::Scopes;
 use std::alloc::Global;
+
+/// Top scope before evaluation, of a node with these facts: the variables that data are looked up with where no manifest
+/// asks for them.
+pub fn top_scopes(alloc: Global, node: &Text, facts: &Value) -> Result<Scopes, Memory>
+    ensures { IfOk result (λ s. s ≡ with_top_names node.now (view facts.now) top_alone) }
+{
+    let mut scopes = Scopes::new(alloc)?;
+    let at = main_place(alloc)?;
+    put_top_names(alloc, &mut scopes, node, facts, &at)?;
+    Ok(scopes)
+}
 
 pub fn start_world<'a>(
     alloc: Global,

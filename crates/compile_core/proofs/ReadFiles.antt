@@ -4,7 +4,7 @@ use Rattle.std.specs.List.{All}
 use Rattle.pp_tree.specs.declared.manifest_file.ManifestFile.{ManifestFile}
 use Rattle.pp_tree.specs.declared.file.File.{File}
 use Rattle.eval_world.specs.Environment.{Environment}
-use Rattle.site_bundle.specs.SiteView.{SiteView}
+use Rattle.site_bundle.specs.SiteView.{Filed, SiteView}
 use Rattle.site_bundle.specs.Listing.{filed, IsRead, AreRead}
 use Rattle.compile_core.specs.Meaning.{read_file, environment_of}
 
@@ -17,10 +17,11 @@ all_read (e ∷ es) h =
     ap (λ x. x ∷ es) (one_read e (h 0 e (omega arith)))
     ∙ ap (λ xs. read_file (e.0, e.1.text) ∷ xs) (all_read es (λ k d below. h (suc k) d (omega (arith, below))))
 
-abbrev environment : File → List (List ℕ × ManifestFile) → Environment
-environment main es = record { main = main; files = es }
+abbrev environment : File → List (List ℕ × ManifestFile) → List Filed → Environment
+environment main es others = record { main = main; files = es; site_data = others }
 
--- so that they are the manifests of the site
+-- so that they are the manifests of the site, beside its data
 pub manifests_read : (main : File) (es : List (List ℕ × ManifestFile)) (site : SiteView) →
-    AreRead es → filed es ≡ site.files → environment main es ≡ environment_of site main
-manifests_read main es site read same = ap (environment main) (all_read es read ∙ ap (map read_file) same)
+    AreRead es → filed es ≡ site.manifests → environment main es site.data ≡ environment_of site main
+manifests_read main es site read same =
+    ap (λ files. environment main files site.data) (all_read es read ∙ ap (map read_file) same)

@@ -1,2 +1,3 @@
+pub mod LookUp
 pub mod Meaning
 pub mod Puppet

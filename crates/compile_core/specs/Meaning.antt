@@ -20,14 +20,14 @@ use Rattle.class_eval.specs.Starting.{started}
 use Rattle.defined_types.specs.Rounds.{rounds}
 use Rattle.catalog_finish.specs.Finishing.{finished}
 
--- ---- the manifests of a site
+-- ---- the manifests of a site, and its data
 
 -- a file with its tree, or its first fault
 abbrev pub read_file : Filed → List ℕ × ManifestFile
 read_file f = (f.0, record { text = f.1; read = file_of f.0 f.1 })
 
 abbrev pub environment_of : SiteView → File → Environment
-environment_of site main = record { main = main; files = map read_file site.files }
+environment_of site main = record { main = main; files = map read_file site.manifests; site_data = site.data }
 
 -- ---- evaluation and finishing
 

@@ -18,7 +18,9 @@ puppet = meaning
 abbrev pub listed : SiteView → List ℕ → Option Datum
 listed = facts_for
 
--- a manifest is the site of that file alone, without nodes; the node has empty facts, and no node exports anything
+-- a manifest is the site of that file alone, without data and nodes; the node has empty facts, and no node exports
+-- anything
 abbrev pub manifest_meaning : List ℕ → List ℕ → Result (Catalog × ExportSet) Fault
 manifest_meaning node manifest =
-    puppet (record { files = (MAIN_MANIFEST.now, manifest) ∷ []; nodes = [] }) node (hash no_entries) fin.empty
+    puppet (record { manifests = (MAIN_MANIFEST.now, manifest) ∷ []; «data» = []; nodes = [] }) node (hash no_entries)
+    fin.empty

@@ -10,7 +10,7 @@ use eval_world::Environment;
 use export_store::Version;
 use pp_values::{Stop, Text, Value};
 use res_core::{Catalog, ExportSet, LogLines};
-use site_bundle::Site;
+use site_bundle::{Site, data_of};
 use std::alloc::Global;
 
 /// The catalog of a node with these facts and what it exports, by a site and the sets that the nodes export; or the
@@ -27,7 +27,7 @@ pub fn compile(
 {
     match &site.main_file().read {
         Ok(main) => {
-            let environment = Environment::new(main, site.files().as_map());
+            let environment = Environment::new(main, site.manifests().as_map(), data_of(site));
             compile_environment(alloc, environment, node, facts, sets)
         }
         Err(fault) => Err(Stop::Fault(fault.copy(alloc)?)),

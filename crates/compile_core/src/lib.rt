@@ -1,8 +1,11 @@
-//! What a site means for a node: the catalog and what the node exports, or the first fault.
+//! What a site means for a node: the catalog and what the node exports, or the first fault. And what its data have for a
+//! key.
 #![tactic(auto)]
 
 mod compiling;
 pub mod language;
+mod looking_up;
 
 pub use compiling::compile;
 pub use language::PuppetLanguage;
+pub use looking_up::look_up;

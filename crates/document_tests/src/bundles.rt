@@ -100,7 +100,7 @@ fn reads_with_files(alloc: Global, template: &str, want: &str) -> Result<bool, M
     reads_as(alloc, text.as_str().as_bytes(), want)
 }
 
-const MEMBERS: [(&str, &str); 33] = [
+const MEMBERS: [(&str, &str); 31] = [
     (r#"{M}"#, "B2 bundle"),
     (r#"{"bundle":1.0,M}"#, "B2 bundle"),
     (r#"{"bundle":"1",M}"#, "B2 bundle"),
@@ -112,14 +112,13 @@ const MEMBERS: [(&str, &str); 33] = [
         r#"{"bundle":1,"files":{"manifests/site.pp":1}}"#,
         "B2 files.manifests/site.pp",
     ),
-    (r#"{"bundle":1,"files":{"a":"","z":""}}"#, "B2 files.a"),
     (
-        r#"{"bundle":1,"files":{"z":""}}"#,
+        r#"{"bundle":1,"files":{"a":"","z":1}}"#,
         "B2 files.manifests/site.pp",
     ),
     (
-        r#"{"bundle":1,"files":{"manifests/site.ppx":"","manifests/site.pp":""}}"#,
-        "B2 files.manifests/site.ppx",
+        r#"{"bundle":1,"files":{"z":""}}"#,
+        "B2 files.manifests/site.pp",
     ),
     (r#"{"bundle":1,M,"nodes":[]}"#, "B2 nodes"),
     (r#"{"bundle":1,M,"nodes":null}"#, "B2 nodes"),
@@ -179,10 +178,6 @@ const MEMBERS: [(&str, &str); 33] = [
         r#"{"files":{"manifests/site.pp":"","modules/m/manifests/init.pp":"class m {"},"nodes":{}}"#,
     ),
     (
-        r#"{"bundle":1,"files":{"manifests/site.pp":"","hiera.yaml":"{}"}}"#,
-        "B2 files.hiera.yaml",
-    ),
-    (
         r#"{"bundle":2,"bundle":1,M}"#,
         "{\"files\":{\"manifests/site.pp\":\"\"},\"nodes\":{}}",
     ),
@@ -192,6 +187,54 @@ const MEMBERS: [(&str, &str); 33] = [
 fn the_first_bad_member_is_named(rt: HostRuntime) -> Result<(), Fail> {
     for (template, want) in MEMBERS.iter() {
         assert!(rt; reads_with_files(rt.alloc(), template, want)?, "{template}");
+    }
+    Ok(())
+}
+
+// Files whose paths do not end in `.pp` are data, whatever their content says.
+const DATA: [(&str, &str); 9] = [
+    (
+        r#"{"bundle":1,"files":{"manifests/site.pp":"","hiera.yaml":"{}"}}"#,
+        r#"{"files":{"hiera.yaml":"{}","manifests/site.pp":""},"nodes":{}}"#,
+    ),
+    (
+        r#"{"bundle":1,"files":{"modules/m/manifests/init.pp":"class m {}","manifests/site.pp":"","modules/m/hiera.yaml":"[","modules/m/data/a.json":"{}"}}"#,
+        r#"{"files":{"manifests/site.pp":"","modules/m/data/a.json":"{}","modules/m/hiera.yaml":"[","modules/m/manifests/init.pp":"class m {}"},"nodes":{}}"#,
+    ),
+    (
+        r#"{"bundle":1,"files":{"z":"","manifests/site.ppx":"class {","manifests/site.pp":"","manifests/pp":"é","global/hiera.yaml":"{\"version\":4}"}}"#,
+        r#"{"files":{"global/hiera.yaml":"{\"version\":4}","manifests/pp":"é","manifests/site.pp":"","manifests/site.ppx":"class {","z":""},"nodes":{}}"#,
+    ),
+    (
+        r#"{"bundle":1,"files":{"hiera.yaml":"a","manifests/site.pp":"","hiera.yaml":"b"}}"#,
+        r#"{"files":{"hiera.yaml":"b","manifests/site.pp":""},"nodes":{}}"#,
+    ),
+    (
+        r#"{"bundle":1,"files":{"manifests/site.pp":1,"data/a.json":{"x":1}}}"#,
+        "B2 files.data/a.json",
+    ),
+    (
+        r#"{"bundle":1,"files":{"manifests/site.pp":"","modules/m/data/a.json":null,"z.pp":1}}"#,
+        "B2 files.modules/m/data/a.json",
+    ),
+    (
+        r#"{"bundle":1,"files":{"manifests/site.pp":"","a.pp":"","z":true}}"#,
+        "B2 files.z",
+    ),
+    (
+        r#"{"bundle":1,"files":{"hiera.yaml":"","data/a.json":""}}"#,
+        "B2 files.manifests/site.pp",
+    ),
+    (
+        r#"{"bundle":1,"files":{"hiera.yaml":"","manifests/site.pp":""},"nodes":[]}"#,
+        "B2 nodes",
+    ),
+];
+
+#[test]
+fn files_beside_manifests_are_data(rt: HostRuntime) -> Result<(), Fail> {
+    for (text, want) in DATA.iter() {
+        assert!(rt; reads_as(rt.alloc(), text.as_bytes(), want)?, "{text}");
     }
     Ok(())
 }
@@ -259,23 +302,53 @@ fn a_bundle_has_at_most_64_mib(rt: HostRuntime) -> Result<(), Fail> {
     Ok(())
 }
 
-// A manifest of 4 MiB of comments, and then this.
-fn reads_long_manifest(alloc: Global, back: &str, want: &str) -> Result<bool, Memory> {
-    let front = "{\"bundle\":1,\"files\":{\"manifests/site.pp\":\"";
+// A file of 4 MiB of `#`, and then this.
+fn reads_long_file(alloc: Global, path: &str, back: &str, want: &str) -> Result<bool, Memory> {
+    let mut front = String::from_str(alloc, "{\"bundle\":1,\"files\":{\"")?;
+    front.push_str(path)?;
+    front.push_str("\":\"")?;
     let piece = "################################################################";
-    let text = repeated(alloc, front, piece, 65_536, back)?;
+    let text = repeated(alloc, front.as_str(), piece, 65_536, back)?;
     reads_as(alloc, text.as_str().as_bytes(), want)
 }
 
-const LONG: [(&str, &str); 2] = [
-    ("\"},\"nodes\":1}", "B2 nodes"),
-    ("#\"},\"nodes\":1}", "B3 manifests/site.pp"),
+const LONG: [(&str, &str, &str); 4] = [
+    ("manifests/site.pp", "\"},\"nodes\":1}", "B2 nodes"),
+    ("manifests/site.pp", "#\"},\"nodes\":1}", "B3 manifests/site.pp"),
+    ("a.json", "\",\"manifests/site.pp\":1}}", "B2 files.manifests/site.pp"),
+    ("a.json", "#\",\"manifests/site.pp\":1}}", "B3 a.json"),
 ];
 
 #[test]
-fn a_manifest_has_at_most_4_mib(rt: HostRuntime) -> Result<(), Fail> {
-    for (back, want) in LONG.iter() {
-        assert!(rt; reads_long_manifest(rt.alloc(), back, want)?, "{want}");
+fn a_file_has_at_most_4_mib(rt: HostRuntime) -> Result<(), Fail> {
+    for (path, back, want) in LONG.iter() {
+        assert!(rt; reads_long_file(rt.alloc(), path, back, want)?, "{want}");
+    }
+    Ok(())
+}
+
+// So many empty files before the main manifest, every other one a manifest; then the nodes, which are none.
+fn with_many_files(alloc: Global, count: usize) -> Result<String, Memory> {
+    let mut text = String::from_str(alloc, "{\"bundle\":1,\"files\":{")?;
+    for index in 0..count {
+        let end = if index % 2 == 0 { ".pp" } else { "" };
+        write!(text, "\"a{index}{end}\":\"\",")?;
+    }
+    text.push_str("\"manifests/site.pp\":\"\"},\"nodes\":1}")?;
+    Ok(text)
+}
+
+fn reads_many_files(alloc: Global, count: usize, want: &str) -> Result<bool, Memory> {
+    let text = with_many_files(alloc, count)?;
+    reads_as(alloc, text.as_str().as_bytes(), want)
+}
+
+const MANY: [(usize, &str); 2] = [(65_535, "B2 nodes"), (65_536, "B3 manifests/site.pp")];
+
+#[test]
+fn a_bundle_has_at_most_65536_files(rt: HostRuntime) -> Result<(), Fail> {
+    for (count, want) in MANY.iter() {
+        assert!(rt; reads_many_files(rt.alloc(), *count, want)?, "{count}");
     }
     Ok(())
 }

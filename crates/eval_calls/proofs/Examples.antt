@@ -32,11 +32,12 @@ use Rattle.eval_world.specs.declared.here.Here.{Here}
 use Rattle.eval_world.specs.Environment.{Environment}
 use Rattle.eval_calls.specs.Calls.{invoked, invoked_on, words_rule}
 use Rattle.eval_calls.specs.Calls.{plain_rule, evaluated_rule, site_rule, log_rule, with_lambda_rule}
-use Rattle.eval_calls.specs.Calls.{stray_lambda_rule}
+use Rattle.eval_calls.specs.Calls.{data_rule, stray_lambda_rule}
 use Rattle.eval_classes.specs.Included.{included, names_from}
 use Rattle.eval_calls.specs.Iterating.{turns_from, over_rule, iterate_rule, reduce_from, reduced, reduce_rule}
 use Rattle.eval_calls.specs.Iterating.{with_rule, lambda_function_rule}
 use Rattle.eval_calls.specs.Lambdas.{Opened, bind_rule, bind_from, lambda_rule}
+use Rattle.eval_calls.specs.LookUps.{lookup_rule}
 
 -- ---- what the examples are made of
 
@@ -292,16 +293,17 @@ abbrev is_not_built : List ℕ → Type 0
 is_not_built f = (m : Environment) → run (plainly f (one ∷ [])) m ≡ refuses 3 what.NotBuilt
 
 require_to_come : is_not_built (codes "require")
-unfolding plain_rule evaluated_rule site_rule needs_evaluator lambda_function owner_at
+unfolding plain_rule evaluated_rule site_rule data_rule needs_evaluator lambda_function owner_at
 require_to_come m = refl
 
 realize_to_come : is_not_built (codes "realize")
-unfolding plain_rule evaluated_rule site_rule needs_evaluator lambda_function owner_at
+unfolding plain_rule evaluated_rule site_rule data_rule needs_evaluator lambda_function owner_at
 realize_to_come m = refl
 
-lookup_to_come : is_not_built (codes "lookup")
-unfolding plain_rule evaluated_rule site_rule needs_evaluator lambda_function owner_at
-lookup_to_come m = refl
+-- data are looked up: `proofs/LookUpExamples.antt`
+no_key : (m : Environment) → run (plainly (codes "lookup") (one ∷ [])) m ≡ refuses 3 (what.WrongArguments (codes "lookup"))
+unfolding plain_rule evaluated_rule site_rule data_rule lookup_rule needs_evaluator lambda_function owner_at
+no_key m = refl
 
 arguments_before_not_built : (m : Environment)
     → run (calls d.undef fails (codes "include") (refused ∷ []) None) m

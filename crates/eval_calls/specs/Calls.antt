@@ -1,5 +1,6 @@
 -- Calls: `f(1, $a) |$x| { }`, `$a.f(1)` and `notice $a`.
-use Rattle.std.specs.Prelude.{ℕ, if◌then◌else◌, List, [], ◌∷◌, Option, None, Some, option_map}
+use Rattle.std.specs.Prelude.{ℕ, if◌then◌else◌, List, [], ◌∷◌, Option, None, Some, option_map, codes}
+use Rattle.std.specs.Str.{bytes_eq}
 use Rattle.pp_funcs.specs.Functions.{applied}
 use Rattle.pp_funcs.specs.Names.{needs_evaluator}
 use Rattle.pp_tree.specs.declared.expr.Call.{Call, out-Call}
@@ -19,6 +20,7 @@ use Rattle.eval_world.specs.Worlds.{fault, not_built, write_log}
 use Rattle.eval_world.specs.declared.here.Here.{Here}
 use Rattle.eval_calls.specs.Iterating.{lambda_function_rule}
 use Rattle.eval_calls.specs.Lambdas.{Opened, opened}
+use Rattle.eval_calls.specs.LookUps.{lookup_rule}
 use Rattle.eval_calls.specs.Names.{is_function, is_log}
 use Rattle.eval_calls.specs.Places.{at_line, wrong}
 
@@ -30,10 +32,15 @@ log_rule f arguments = do
   write_log f (joined arguments)
   pure undef
 
--- Classes are declared. What is left are `require`, `realize` and `lookup`, which are not evaluated yet.
+-- What is left behind `lookup` are `require` and `realize`, which are not evaluated yet.
+unfoldable pub data_rule : List ℕ → List Datum → ℕ → Here → Step Datum
+data_rule f arguments line here =
+    if bytes_eq f (codes "lookup") then lookup_rule f arguments line here else not_built here line
+
+-- classes are declared, or data are looked up
 abbrev pub site_by : Inner → Option Including → List ℕ → List Datum → ℕ → Here → Step Datum
 site_by inner (Some i) f arguments line here = included inner i f arguments line here
-site_by inner None f arguments line here = not_built here line
+site_by inner None f arguments line here = data_rule f arguments line here
 
 -- a function that needs the site
 unfoldable pub site_rule : Inner → List ℕ → List Datum → ℕ → Here → Step Datum

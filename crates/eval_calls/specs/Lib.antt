@@ -1,5 +1,6 @@
 pub mod Calls
 pub mod Iterating
 pub mod Lambdas
+pub mod LookUps
 pub mod Names
 pub mod Places

@@ -4,7 +4,10 @@
 mod calls;
 mod iterating;
 mod lambdas;
+mod looking_up;
 mod names;
 mod plain;
+mod request;
+mod requests;
 
 pub use calls::{call, method, words};

@@ -7,6 +7,7 @@ ghost use Rattle.eval_world.specs.Outcomes.{Gives, same};
 ghost use Rattle.pp_funcs.specs.Functions.{applied};
 ghost use Rattle.pp_funcs.specs.Names.{needs_evaluator};
 
+use crate::looking_up::look_up;
 use crate::names::{is_function, is_log, unknown, wrong};
 use eval_classes::{Including, include};
 use eval_world::{Evaluated, Forms, Goal, Here, Meaning, World};
@@ -95,7 +96,25 @@ fn call_site<F: Fn(&mut World<'_>, Goal<'_>, Here, u32) -> Result<Evaluated, Sto
 {
     match Including::from_name(function) {
         Some(including) => include(forms, world, including, function, arguments, line, here),
-        None => world.not_built(here, line),
+        None => call_data(world, function, arguments, line, here),
+    }
+}
+
+/// A function of the site's data, or one that is not built yet.
+#[tactic(auto, unfolding(crate::specs::Calls::data_rule))]
+fn call_data(
+    world: &World<'_>,
+    function: &Text,
+    arguments: &Values,
+    line: u32,
+    here: Here,
+) -> Result<Evaluated, Stop>
+    ensures { Gives same (spec.data_rule function.now arguments.now line here world.now) result world.now }
+{
+    if function.is("lookup") {
+        look_up(world, function, arguments, line, here)
+    } else {
+        world.not_built(here, line)
     }
 }
 

@@ -63,7 +63,7 @@ file_with es = record { statements = []; definitions = es }
 
 -- a site of a main manifest with these definitions, and one more file
 abbrev pub site_of : Entries → List (List ℕ × ManifestFile) → Environment
-site_of es files = record { main = file_with es; files = files }
+site_of es files = record { main = file_with es; files = files; site_data = [] }
 
 abbrev pub read_file : List ℕ → Entries → List ℕ × ManifestFile
 read_file path es = (path, record { text = []; read = Ok (file_with es) })

@@ -1,6 +1,7 @@
 -- The parameters of a class or of an instance.
-use Rattle.std.specs.Prelude.{ℕ, if◌then◌else◌, List, [], ◌∷◌, Option, None, Some, Err}
+use Rattle.std.specs.Prelude.{ℕ, Bool, true, false, if◌then◌else◌, List, [], ◌∷◌, ◌++◌, Option, None, Some, Err, codes}
 use Rattle.std.specs.BTreeMap.{insert_entry}
+use Rattle.std.specs.Str.{bytes_eq}
 use Rattle.pp_tree.specs.Building.{line_of}
 use Rattle.pp_tree.specs.declared.expr.Expr.{Expr}
 use Rattle.pp_tree.specs.declared.param.Param.{Param}
@@ -11,6 +12,7 @@ use Rattle.pp_values.specs.Settings.{Setting}
 use Rattle.pp_values.specs.declared.fault.What.TheVariants as what
 use Rattle.pp_values.specs.declared.place.Place.{Place}
 use Rattle.pp_values.specs.declared.reference.Reference.{Reference}
+use Rattle.eval_world.specs.Data.{look_up}
 use Rattle.eval_world.specs.Inner.{Inner}
 use Rattle.eval_world.specs.Outcomes.{Step, ◌>>=◌, ◌>>◌, pure}
 use Rattle.eval_world.specs.Worlds.{assign, not_built}
@@ -21,6 +23,26 @@ use Rattle.eval_classes.specs.Attributes.{is_value}
 abbrev pub Given : Type 0
 Given = List ℕ → Option Datum
 
+-- ---- the site's data
+
+abbrev pub is_class : Reference → Bool
+is_class of = bytes_eq of.kind (codes "class")
+
+-- the key of the parameter `x` of the class `c` is `c::x`, also where the class is declared as a parent
+abbrev pub data_key : Reference → List ℕ → List ℕ
+data_key of x = of.title ++ codes "::" ++ x
+
+abbrev pub data_by : Bool → Reference → List ℕ → Place → Step (Option Datum)
+data_by false of x at = pure None
+data_by true of x at = look_up 0 (data_key of x) None at
+
+-- A class's parameter is looked up with the variables of top scope, by the merge that the data give for its key. Nothing
+-- is looked up for an instance. A fault stands where the class was declared first.
+abbrev pub data_rule : Reference → List ℕ → Place → Step (Option Datum)
+data_rule of x at = data_by (is_class of) of x at
+
+-- ---- the default
+
 -- a class or an instance was declared, at this place, with no value for a parameter
 abbrev pub missing : {A : Type 0} → Reference → List ℕ → Place → Step A
 missing of x at = λ w. Err (faults.fault at (what.MissingParameter of x))
@@ -30,17 +52,28 @@ abbrev pub default_rule : Inner → Option Expr → Reference → List ℕ → P
 default_rule inner None of x at own = missing of x at
 default_rule inner (Some e) of x at own = inner.value e own
 
--- what is given as Undef counts as not given
-abbrev pub given_or_default : Inner → Datum → Param Expr → Reference → Place → Here → Step Datum
-given_or_default inner v p of at own =
-    if is_value v then pure v else default_rule inner p.default of p.name at own
+-- ---- what stands for a parameter
 
-abbrev pub value_by : Inner → Option Datum → Param Expr → Reference → Place → Here → Step Datum
-value_by inner None p of at own = default_rule inner p.default of p.name at own
-value_by inner (Some v) p of at own = given_or_default inner v p of at own
+-- Undef counts as no value
+abbrev pub counted : Option Datum → Option Datum
+counted None = None
+counted (Some v) = if is_value v then Some v else None
 
+abbrev pub or_else : Option Datum → Step Datum → Step Datum
+or_else None next = next
+or_else (Some v) next = pure v
+
+-- what the site's data have, else the default
+unfoldable pub data_or_default : Inner → Param Expr → Reference → Place → Here → Step Datum
+data_or_default inner p of at own = do
+  found ← data_rule of p.name at
+  or_else (counted found) (default_rule inner p.default of p.name at own)
+
+-- what is given, else what stands behind it
 unfoldable pub value_rule : Inner → Given → Param Expr → Reference → Place → Here → Step Datum
-value_rule inner given p of at own = value_by inner (given p.name) p of at own
+value_rule inner given p of at own = or_else (counted (given p.name)) (data_or_default inner p of at own)
+
+-- ---- in order
 
 -- a parameter with a type is not built, at the line of the type
 abbrev pub typed : Option Expr → Here → Step (Unit {0})

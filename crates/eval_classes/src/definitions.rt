@@ -18,7 +18,11 @@ use std::alloc::Global;
 
 /// What stands under the name of a class or define, which is in lower case without a leading `::`.
 #[tactic(auto, unfolding(crate::specs::Definitions::definition_of))]
-pub fn find<'a>(alloc: Global, environment: &Environment<'a>, name: &Text) -> Result<Found<'a>, Memory>
+pub fn find<'a>(
+    alloc: Global,
+    environment: &Environment<'a>,
+    name: &Text,
+) -> Result<Found<'a>, Memory>
     ensures { IfOk result (λ f. spec.told f ≡ spec.definition_of environment.now name.now) }
 {
     match defined_in(alloc, environment.main(), name)? {

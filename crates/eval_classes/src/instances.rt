@@ -8,7 +8,7 @@ use crate::body_owner::BodyOwner;
 use crate::definitions::define_found;
 use crate::entering::enter_body;
 use crate::homes::file_of;
-use eval_world::{Evaluated, Forms, Goal, Here, Environment, Meaning, World};
+use eval_world::{Environment, Evaluated, Forms, Goal, Here, Meaning, World};
 use pp_values::{Memory, Stop, Text};
 use res_core::Declared;
 use scope_core::ScopeKind;

@@ -12,7 +12,7 @@ use crate::homes::file_of;
 use crate::listed::Listed;
 use crate::names::class_name;
 use crate::parents::parent_of;
-use eval_world::{Here, Environment, Owner, Owners, World};
+use eval_world::{Environment, Here, Owner, Owners, World};
 use pp_tree::definition::Class;
 use pp_values::{Memory, Place, Stop, Text};
 use res_core::Attributes;

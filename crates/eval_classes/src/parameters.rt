@@ -1,5 +1,5 @@
 //! The parameters of a class or of an instance.
-ghost use Rattle.std.specs.Prelude.{◌≡◌, [], IfOk, IsTrue};
+ghost use Rattle.std.specs.Prelude.{◌≡◌, ◌++◌, [], Some, IfOk, IsTrue, codes};
 ghost use Rattle.std.specs.BTreeMap.{insert_entry};
 ghost use Rattle.eval_classes.specs.Parameters as spec;
 ghost use Rattle.eval_world.specs.Nests.{Nests};
@@ -18,6 +18,7 @@ use pp_tree::Param;
 use pp_tree::expr::Expr;
 use pp_values::{Fault, Memory, Stop, Text, Value, What};
 use res_core::Attributes;
+use scope_core::ScopeId;
 use std::alloc::Global;
 use std::collections::BTreeMap;
 
@@ -107,7 +108,7 @@ fn check_type(world: &World<'_>, kind: &Option<Expr>, own: Here) -> Result<(), S
     }
 }
 
-/// What was given, and else the default.
+/// What was given, and else what stands behind it.
 #[tactic(auto, unfolding(crate::specs::Parameters::value_rule))]
 fn value<F: Fn(&mut World<'_>, Goal<'_>, Here, u32) -> Result<Evaluated, Stop>, M: Meaning>(
     forms: &Forms<F, M>,
@@ -120,31 +121,92 @@ fn value<F: Fn(&mut World<'_>, Goal<'_>, Here, u32) -> Result<Evaluated, Stop>, 
     ensures { Gives same (spec.value_rule (M.within forms.now.left) (set_in binding.now.given) param.now binding.now.of
         binding.now.at own world.old) result world.new }
 {
-    match binding.given.get(&param.name) {
-        Some(value) => given_or_default(forms, world, value, binding, param, own),
-        None => default_of(forms, world, binding, param, own),
+    match given_value(world.heap.alloc(), &binding.given, &param.name)? {
+        Some(value) => Ok(value),
+        None => data_or_default(forms, world, binding, param, own),
     }
 }
 
-fn given_or_default<
+/// What was given for a parameter, where that counts.
+fn given_value(alloc: Global, given: &Attributes, name: &Text) -> Result<Option<Evaluated>, Memory>
+    ensures { IfOk result (λ o. o ≡ spec.counted (set_in given.now name.now)) }
+{
+    match given.get(name) {
+        Some(value) => counted_copy(alloc, value),
+        None => Ok(None),
+    }
+}
+
+fn counted_copy(alloc: Global, value: &Value) -> Result<Option<Evaluated>, Memory>
+    ensures { IfOk result (λ o. o ≡ spec.counted (Some (view value.now))) }
+{
+    if is_value(value) {
+        return Ok(Some(Evaluated::copy_of(alloc, value)?));
+    }
+    Ok(None)
+}
+
+/// What the site's data have, and else the default.
+#[tactic(auto, unfolding(crate::specs::Parameters::data_or_default))]
+fn data_or_default<
     F: Fn(&mut World<'_>, Goal<'_>, Here, u32) -> Result<Evaluated, Stop>,
     M: Meaning,
 >(
     forms: &Forms<F, M>,
     world: &mut World<'_>,
-    value: &Value,
     binding: &Binding,
     param: &Param,
     own: Here,
 ) -> Result<Evaluated, Stop>
     requires { Nests (M.within forms.now.left) forms.now.left (F.pre forms.now.inner) (F.post forms.now.inner) }
-    ensures { Gives same (spec.given_or_default (M.within forms.now.left) (view value.now) param.now binding.now.of
-        binding.now.at own world.old) result world.new }
+    ensures { Gives same (spec.data_or_default (M.within forms.now.left) param.now binding.now.of binding.now.at own
+        world.old) result world.new }
 {
-    if is_value(value) {
-        return Ok(Evaluated::copy_of(world.heap.alloc(), value)?);
+    let found = data_value(world, binding, &param.name)?;
+    match counted(found) {
+        Some(value) => Ok(value),
+        None => default_of(forms, world, binding, param, own),
     }
-    default_of(forms, world, binding, param, own)
+}
+
+/// What the site's data have for a class's parameter, looked up in top scope. Nothing is looked up for an instance.
+fn data_value(world: &World<'_>, binding: &Binding, name: &Text) -> Result<Option<Evaluated>, Stop>
+    ensures { Gives same (spec.data_rule binding.now.of name.now binding.now.at world.now) result world.now }
+{
+    if binding.of.kind.as_text().is("class") {
+        let key = data_key(world.heap.alloc(), &binding.of.title, name)?;
+        return world.look_up(ScopeId::TOP, &key, None, &binding.at);
+    }
+    Ok(None)
+}
+
+/// The key of a parameter of this class.
+fn data_key(alloc: Global, class: &Text, name: &Text) -> Result<Text, Memory>
+    ensures { IfOk result (λ k. k ≡ class.now ++ codes "::" ++ name.now) }
+{
+    let mut key = String::from_str(alloc, class.as_str())?;
+    key.push_str("::")?;
+    key.push_str(name.as_str())?;
+    Ok(Text::new(key))
+}
+
+/// The value, unless it is Undef.
+fn counted(found: Option<Evaluated>) -> Option<Evaluated>
+    ensures { result ≡ spec.counted found }
+{
+    match found {
+        Some(value) => counted_value(value),
+        None => None,
+    }
+}
+
+fn counted_value(value: Evaluated) -> Option<Evaluated>
+    ensures { result ≡ spec.counted (Some value) }
+{
+    if is_value(value.as_value()) {
+        return Some(value);
+    }
+    None
 }
 
 /// The default, or F9.

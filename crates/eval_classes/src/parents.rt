@@ -27,7 +27,11 @@ pub fn parent_of(
     written_parent(alloc, class)
 }
 
-fn inherits_itself(alloc: Global, environment: &Environment<'_>, class: &Class) -> Result<bool, Memory>
+fn inherits_itself(
+    alloc: Global,
+    environment: &Environment<'_>,
+    class: &Class,
+) -> Result<bool, Memory>
     ensures { IfOk result (λ b. b ≡ spec.inherits_itself environment.now class.now) }
 {
     let name = class_name(alloc, class)?;
@@ -58,7 +62,11 @@ fn comes_to(
     Ok(false)
 }
 
-fn parent_at(alloc: Global, environment: &Environment<'_>, name: &Text) -> Result<Option<Text>, Memory>
+fn parent_at(
+    alloc: Global,
+    environment: &Environment<'_>,
+    name: &Text,
+) -> Result<Option<Text>, Memory>
     ensures { IfOk result (λ p. p ≡ spec.parent_at environment.now name.now) }
 {
     match class_in(find(alloc, environment, name)?) {

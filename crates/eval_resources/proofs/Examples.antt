@@ -141,7 +141,7 @@ definitions =
     ∷ []
 
 abbrev site_of : Entries → Environment
-site_of es = record { main = record { statements = []; definitions = es }; files = [] }
+site_of es = record { main = record { statements = []; definitions = es }; files = []; site_data = [] }
 
 abbrev nothing : Environment
 nothing = site_of []

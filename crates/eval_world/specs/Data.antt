@@ -20,7 +20,7 @@ placed at (Err details) = Err (faults.fault at details)
 -- looked up with the variables of a scope, by this merge, or else by the one that the data give for the key
 abbrev pub looked_up_in : ℕ → List ℕ → Option Merge → Place → World → Result (Option Datum) Fault
 looked_up_in scope key merge at w =
-    placed at (looked_up (world_of w.environment.data (in_scope scope w.scopes)) key merge)
+    placed at (looked_up (world_of w.environment.site_data (in_scope scope w.scopes)) key merge)
 
 unfoldable pub look_up : ℕ → List ℕ → Option Merge → Place → Step (Option Datum)
 look_up scope key merge at = λ w. answered (looked_up_in scope key merge at w) w

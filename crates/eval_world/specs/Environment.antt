@@ -12,11 +12,11 @@ use Rattle.pp_tree.specs.declared.manifest_file.ManifestFile.{ManifestFile}
 pub record Environment : Type 0 where
   pub main : File
   pub files : List (List ℕ × ManifestFile)
-  pub data : List DataFile
+  pub site_data : List DataFile
 
 abbrev pub coded_environment : Coded Environment
 coded_environment =
-    code_by (File × List (List ℕ × ManifestFile) × List DataFile)
+    code_by (File × (List (List ℕ × ManifestFile) × List DataFile))
     (coded× file.the_row.coded (coded× (coded_list (coded× coded_text manifest.the_row.coded))
     (coded_list (coded× coded_text coded_text))))
-    (λ e. (e.main, e.files, e.data)) (λ p. record { main = p.0; files = p.1.0; data = p.1.1 }) (λ _. refl)
+    (λ e. (e.main, (e.files, e.site_data))) (λ p. record { main = p.0; files = p.1.0; site_data = p.1.1 }) (λ _. refl)

@@ -12,7 +12,7 @@ use scope_core::ScopeId;
 impl<'a> World<'a> {
     /// The value that the data have for a key, with the variables of a scope, by the merge, or else by the one that
     /// `lookup_options` gives for the key. None where no source has it. A fault stands at the place.
-    #[tactic(auto, unfolding(crate::specs::Data::look_up), using(crate::proofs::Data::step_of))]
+    #[tactic(auto, unfolding(crate::specs::Data::look_up), using(crate::proofs::Placed::refused_step))]
     pub fn look_up(
         &self,
         scope: ScopeId,
@@ -22,8 +22,9 @@ impl<'a> World<'a> {
     ) -> Result<Option<Evaluated>, Stop>
         ensures { Gives same (spec.look_up scope.number key.now merge at.now self.now) result self.now }
     {
-        let data = self.environment.data();
-        match lookup(self.heap.alloc(), data, &self.scopes, scope, key, merge, at)? {
+        let site_data = self.environment.site_data();
+        let heap = self.heap.alloc();
+        match lookup(heap, site_data, &self.scopes, scope, key, merge, at)? {
             Some(value) => Ok(Some(Evaluated::new(value))),
             None => Ok(None),
         }

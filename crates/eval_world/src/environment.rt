@@ -14,7 +14,7 @@ use std::marker::Model;
 pub struct Environment<'a> {
     main: &'a File,
     files: &'a BTreeMap<Text, ManifestFile>,
-    data: &'a SiteData,
+    site_data: &'a SiteData,
 }
 
 impl<'a> Model for Environment<'a> {
@@ -26,18 +26,22 @@ impl<'a> Model for Environment<'a> {
 
     ghost coded = { coded_environment };
 
-    ghost view = { λ e. record { main = e.main.now; files = e.files.now.entries; data = e.data.now } };
+    ghost view = { λ e. record { main = e.main.now; files = e.files.now.entries; site_data = e.site_data.now } };
 }
 
 impl<'a> Environment<'a> {
     pub fn new(
         main: &'a File,
         files: &'a BTreeMap<Text, ManifestFile>,
-        data: &'a SiteData,
+        site_data: &'a SiteData,
     ) -> Environment<'a>
-        ensures { result ≡ record { main = main.now; files = files.now.entries; data = data.now } }
+        ensures { result ≡ record { main = main.now; files = files.now.entries; site_data = site_data.now } }
     {
-        Environment { main, files, data }
+        Environment {
+            main,
+            files,
+            site_data,
+        }
     }
 
     /// The main manifest.
@@ -55,9 +59,9 @@ impl<'a> Environment<'a> {
     }
 
     /// The data of the site.
-    pub fn data(&self) -> &'a SiteData
-        ensures { result.now ≡ self.now.data }
+    pub fn site_data(&self) -> &'a SiteData
+        ensures { result.now ≡ self.now.site_data }
     {
-        self.data
+        self.site_data
     }
 }

@@ -3,10 +3,10 @@ ghost use Rattle.pp_values.specs.Faults.{fault};
 ghost use Rattle.eval_world.specs.Outcomes.{Gives, nothing, same};
 ghost use Rattle.eval_world.specs.Worlds as spec;
 
+use crate::environment::Environment;
 use crate::evaluated::Evaluated;
 use crate::heap::Heap;
 use crate::here::Here;
-use crate::environment::Environment;
 use crate::owners::Owners;
 use override_rules::Overrides;
 use pp_values::{Fault, Memory, Place, Stop, Text, What};

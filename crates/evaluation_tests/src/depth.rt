@@ -1,7 +1,8 @@
 //! The calls for one expression and for one block, at lawful depths and past them.
 use crate::telling::{facts, parsed, stop_told};
 use class_eval::Evaluator;
-use eval_world::{Evaluated, Here, Environment};
+use eval_world::{Environment, Evaluated, Here};
+use hiera_config::SiteData;
 use pp_tree::expr::Expr;
 use pp_tree::file::File;
 use pp_tree::statement::{Operand, Statement};
@@ -22,7 +23,8 @@ fn value_in(alloc: Global, main: &File, is_block: bool, depth: u32) -> Result<St
     let node = Text::from_str(alloc, "a")?;
     let facts = facts(alloc)?;
     let files = BTreeMap::new(alloc);
-    let environment = Environment::new(main, &files);
+    let site_data = SiteData::new(alloc);
+    let environment = Environment::new(main, &files, &site_data);
     let mut evaluator = Evaluator::start(alloc, environment, &node, &facts)?;
     if is_block {
         return given(

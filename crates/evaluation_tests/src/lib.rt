@@ -10,6 +10,8 @@ mod edges;
 #[cfg(test)]
 mod manifests;
 #[cfg(test)]
+mod parameters;
+#[cfg(test)]
 mod scopes;
 #[cfg(test)]
 mod steps;

@@ -1,10 +1,11 @@
 //! What is told of a manifest, for the tables of the tests.
 use class_eval::Evaluator;
 use eval_world::Environment;
+use hiera_config::{SiteData, data_from};
 use pp_parser::manifest::parse;
 use pp_tree::file::File;
 use pp_tree::manifest_file::ManifestFile;
-use pp_values::{Fault, MAIN_MANIFEST, Memory, Pairs, Stop, Text, Value, write_value};
+use pp_values::{Fault, MAIN_MANIFEST, Memory, Pairs, Stop, Text, TextPairs, Value, write_value};
 use res_core::Resource;
 use site_docs::fault_text;
 use std::alloc::Global;
@@ -15,9 +16,9 @@ pub type Row = (&'static str, &'static str);
 
 /// What is told of a manifest for the node `web1.example.com`: each line of the log, each resource but `Class[main]`,
 /// each pair of `contain` by numbers, and the fault, with `; ` behind each of them.
-fn told(alloc: Global, manifest: &str) -> Result<String, Memory> {
+fn told(alloc: Global, manifest: &str, site_data: &SiteData) -> Result<String, Memory> {
     match parsed(alloc, manifest) {
-        Ok(main) => told_of_main(alloc, &main),
+        Ok(main) => told_of_main(alloc, &main, site_data),
         Err(stop) => stop_told(alloc, &stop),
     }
 }
@@ -33,9 +34,9 @@ pub fn parsed(alloc: Global, manifest: &str) -> Result<File, Stop> {
     }
 }
 
-fn told_of_main(alloc: Global, main: &File) -> Result<String, Memory> {
+fn told_of_main(alloc: Global, main: &File, site_data: &SiteData) -> Result<String, Memory> {
     let files = BTreeMap::new(alloc);
-    told_of(alloc, Environment::new(main, &files))
+    told_of(alloc, Environment::new(main, &files, site_data))
 }
 
 /// A main manifest, the path and the text of one more file, and what is told of them.
@@ -49,7 +50,10 @@ fn site_told(alloc: Global, site: &Site) -> Result<String, Memory> {
     let read = read_file(alloc, &path, &text)?;
     drop(files.insert(path, ManifestFile { text, read })?);
     match parsed(alloc, site.0) {
-        Ok(main) => told_of(alloc, Environment::new(&main, &files)),
+        Ok(main) => {
+            let site_data = SiteData::new(alloc);
+            told_of(alloc, Environment::new(&main, &files, &site_data))
+        }
         Err(stop) => stop_told(alloc, &stop),
     }
 }
@@ -146,7 +150,28 @@ fn put_fact(alloc: Global, facts: &mut Pairs, name: &str, value: i64) -> Result<
 }
 
 pub fn is_told(alloc: Global, row: &Row) -> Result<bool, Memory> {
-    Ok(told(alloc, row.0)?.as_str() == row.1)
+    let site_data = SiteData::new(alloc);
+    Ok(told(alloc, row.0, &site_data)?.as_str() == row.1)
+}
+
+/// The files of a site's data, a path and a text each.
+pub type DataFiles = &'static [(&'static str, &'static str)];
+
+/// A main manifest, the data, and what is told of them.
+pub type DataRow = (&'static str, DataFiles, &'static str);
+
+fn data_of(alloc: Global, files: DataFiles) -> Result<SiteData, Memory> {
+    let mut pairs = TextPairs::new(alloc);
+    for (path, text) in files.iter() {
+        let path = Text::from_str(alloc, path)?;
+        pairs.push((path, Text::from_str(alloc, text)?))?;
+    }
+    data_from(alloc, &pairs)
+}
+
+pub fn is_data_told(alloc: Global, row: &DataRow) -> Result<bool, Memory> {
+    let site_data = data_of(alloc, row.1)?;
+    Ok(told(alloc, row.0, &site_data)?.as_str() == row.2)
 }
 
 pub fn is_site_told(alloc: Global, site: &Site) -> Result<bool, Memory> {

@@ -77,6 +77,13 @@ impl SiteData {
     {
         self.by_path.get(path)
     }
+
+    /// All files, by path in byte order.
+    pub fn as_map(&self) -> &BTreeMap<Text, DataFile>
+        ensures { filed result.now.entries ≡ self.now }
+    {
+        &self.by_path
+    }
 }
 
 /// Keeps these files. Each is read here.

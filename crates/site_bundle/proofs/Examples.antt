@@ -1,5 +1,7 @@
 -- Bundles, and what they say.
-use Rattle.std.proofs.Common.{◌≡◌, ℕ, ◌*◌, true, false, [], ◌∷◌, Some, None, Ok, Err, refl, codes, pos}
+use Rattle.std.proofs.Common.{◌≡◌, ℕ, ◌+◌, ◌*◌, true, false, List, length, [], ◌∷◌, Some, None, Ok, Err, refl, ap, codes, pos}
+use Rattle.std.specs.Prelude.{if◌then◌else◌, nat_lt}
+use Rattle.serde_json.specs.Data.{Data}
 use Rattle.pp_values.specs.Datum.{undef, flag, int, text, list, hash, no_entries, data_of, entries_of}
 use Rattle.pp_values.specs.declared.place.TheConstants.{MAIN_MANIFEST}
 use Rattle.res_core.specs.Asked.{compile, deactivate}
@@ -7,15 +9,18 @@ use Rattle.site_bundle.specs.NodeNames.{is_node_name}
 use Rattle.site_bundle.specs.SiteView.{SiteView, facts_for, main_text, text_at, put_in, site_of}
 use Rattle.site_bundle.specs.Given.{are_distinct, has_main, is_manifest_path}
 use Rattle.site_bundle.specs.declared.limits.TheConstants.{MOST_BUNDLE_BYTES, MOST_FILES, MOST_FILE_BYTES, MOST_NAME_CHARACTERS, MOST_REQUESTS}
-use Rattle.site_bundle.specs.Refusals.{not_json, bad_shape}
+use Rattle.site_bundle.specs.Refusals.{not_json, bad_shape, too_large, result_and_then}
 use Rattle.site_bundle.specs.Bundles.{bundle_of}
-use Rattle.site_bundle.specs.Files.{with_files}
+use Rattle.site_bundle.specs.Files.{content_of, has_room, with_file, with_files}
+use Rattle.site_bundle.specs.Keeping.{with_text}
+use Rattle.site_bundle.specs.declared.kept_files.KeptFiles.{KeptFiles}
 use Rattle.site_bundle.proofs.OnLiterals.{bundle_on_literals}
 
 -- nodes by name, requests in their order
 whole : bundle_of (codes "{\"bundle\": 1, \"files\": {\"manifests/site.pp\": \"\"}, \"nodes\": {\"b\": {}, \"a\": {}}, \"requests\": [{\"node\": \"a\", \"seen\": 2}, {\"node\": \"b\", \"facts\": {}}, {\"deactivate\": \"z\"}]}") ≡ Ok (record {
   site = record {
-    files = (MAIN_MANIFEST.now, []) ∷ [];
+    manifests = (MAIN_MANIFEST.now, []) ∷ [];
+    «data» = [];
     nodes = (codes "a", hash no_entries) ∷
         (codes "b", hash no_entries) ∷ [];
   };
@@ -26,7 +31,7 @@ unfolding bundle_on_literals with_files
 whole = refl
 
 -- nodes and requests may be missing, and other members do not count
-least : bundle_of (codes "{\"bundle\":1,\"files\":{\"manifests/site.pp\":\"x\"},\"other\":[1.5]}") ≡ Ok (record { site = record { files = (MAIN_MANIFEST.now, codes "x") ∷ []; nodes = [] }; requests = [] })
+least : bundle_of (codes "{\"bundle\":1,\"files\":{\"manifests/site.pp\":\"x\"},\"other\":[1.5]}") ≡ Ok (record { site = record { manifests = (MAIN_MANIFEST.now, codes "x") ∷ []; «data» = []; nodes = [] }; requests = [] })
 unfolding bundle_on_literals with_files
 least = refl
 
@@ -60,15 +65,12 @@ files_first : bundle_of (codes "{\"nodes\":[],\"files\":[],\"bundle\":1}") ≡ E
 unfolding bundle_on_literals with_files
 files_first = refl
 
--- a file before the main manifest
-other_file : bundle_of (codes "{\"bundle\":1,\"files\":{\"a\":\"\",\"manifests/site.pp\":\"\"}}") ≡ Err (bad_shape (codes "files.a"))
-unfolding bundle_on_literals with_files
-other_file = refl
-
 -- manifests beside the main one, by path in byte order
 modules : bundle_of (codes "{\"bundle\":1,\"files\":{\"modules/m/manifests/init.pp\":\"m\",\"a.pp\":\"a\",\"manifests/site.pp\":\"\"}}") ≡ Ok (record {
   site = record {
-    files = (codes "a.pp", codes "a") ∷ (MAIN_MANIFEST.now, []) ∷ (codes "modules/m/manifests/init.pp", codes "m") ∷ [];
+    manifests = (codes "a.pp", codes "a") ∷ (MAIN_MANIFEST.now, []) ∷
+        (codes "modules/m/manifests/init.pp", codes "m") ∷ [];
+    «data» = [];
     nodes = [];
   };
   requests = [];
@@ -76,11 +78,35 @@ modules : bundle_of (codes "{\"bundle\":1,\"files\":{\"modules/m/manifests/init.
 unfolding bundle_on_literals with_files
 modules = refl
 
+-- other files before, between and behind manifests: whatever their content is, it is data
+any_file : bundle_of (codes "{\"bundle\":1,\"files\":{\"z\":\"no JSON\",\"modules/m/manifests/init.pp\":\"m\",\"modules/m/hiera.yaml\":\"{\",\"data/a.json\":\"{}\",\"manifests/site.pp\":\"\"}}") ≡ Ok (record {
+  site = record {
+    manifests = (MAIN_MANIFEST.now, []) ∷ (codes "modules/m/manifests/init.pp", codes "m") ∷ [];
+    «data» = (codes "data/a.json", codes "{}") ∷ (codes "modules/m/hiera.yaml", codes "{") ∷ (codes "z", codes "no JSON") ∷
+        [];
+    nodes = [];
+  };
+  requests = [];
+})
+unfolding bundle_on_literals with_files
+any_file = refl
+
+-- a file of data that is no text, before the main manifest; it is told before what stands behind it
+data_no_text : bundle_of (codes "{\"bundle\":1,\"files\":{\"data/a.json\":{},\"z\":1}}") ≡ Err (bad_shape (codes "files.data/a.json"))
+unfolding bundle_on_literals with_files
+data_no_text = refl
+
+-- data does not stand in the main manifest's place
+data_alone : bundle_of (codes "{\"bundle\":1,\"files\":{\"hiera.yaml\":\"\",\"z\":1}}") ≡ Err (bad_shape (codes "files.manifests/site.pp"))
+unfolding bundle_on_literals with_files
+data_alone = refl
+
 -- the first path that is bad decides: here the main manifest's place, which comes before `z.pp`
 missing_before : bundle_of (codes "{\"bundle\":1,\"files\":{\"a.pp\":\"\",\"z.pp\":1}}") ≡ Err (bad_shape (codes "files.manifests/site.pp"))
 unfolding bundle_on_literals with_files
 missing_before = refl
 
+-- a manifest that is no text
 content_no_text : bundle_of (codes "{\"bundle\":1,\"files\":{\"a.pp\":1,\"z\":\"\"}}") ≡ Err (bad_shape (codes "files.a.pp"))
 unfolding bundle_on_literals with_files
 content_no_text = refl
@@ -103,7 +129,8 @@ node_name = refl
 -- facts are read whole, by name in byte order; a number that is no 64-bit integer is Undef
 whole_facts : bundle_of (codes "{\"bundle\":1,\"files\": {\"manifests/site.pp\": \"\"},\"nodes\":{\"a\":{\"n\":3,\"load\":0.5,\"l\":[true,{\"x\":null}]}}}") ≡ Ok (record {
   site = record {
-    files = (MAIN_MANIFEST.now, []) ∷ [];
+    manifests = (MAIN_MANIFEST.now, []) ∷ [];
+    «data» = [];
     nodes = (
       codes "a",
       hash (entries_of ((text (codes "l"), list (data_of (flag true ∷ hash (entries_of ((text (codes "x"), undef) ∷ [])) ∷ []))) ∷
@@ -126,7 +153,7 @@ unfolding bundle_on_literals with_files
 both = refl
 
 -- beside `deactivate` nothing else counts
-ignored : bundle_of (codes "{\"bundle\":1,\"files\": {\"manifests/site.pp\": \"\"},\"requests\":[{\"facts\":1,\"seen\":-1,\"deactivate\":\"a\"}]}") ≡ Ok (record { site = record { files = (MAIN_MANIFEST.now, []) ∷ []; nodes = [] }; requests = deactivate (codes "a") ∷ [] })
+ignored : bundle_of (codes "{\"bundle\":1,\"files\": {\"manifests/site.pp\": \"\"},\"requests\":[{\"facts\":1,\"seen\":-1,\"deactivate\":\"a\"}]}") ≡ Ok (record { site = record { manifests = (MAIN_MANIFEST.now, []) ∷ []; «data» = []; nodes = [] }; requests = deactivate (codes "a") ∷ [] })
 unfolding bundle_on_literals with_files
 ignored = refl
 
@@ -156,7 +183,7 @@ unfolding bundle_on_literals with_files
 machine = refl
 
 -- the last value of a key that stands twice
-twice : bundle_of (codes "{\"bundle\":2,\"bundle\":1,\"files\":{\"manifests/site.pp\":\"\"}}") ≡ Ok (record { site = record { files = (MAIN_MANIFEST.now, []) ∷ []; nodes = [] }; requests = [] })
+twice : bundle_of (codes "{\"bundle\":2,\"bundle\":1,\"files\":{\"manifests/site.pp\":\"\"}}") ≡ Ok (record { site = record { manifests = (MAIN_MANIFEST.now, []) ∷ []; «data» = []; nodes = [] }; requests = [] })
 unfolding bundle_on_literals with_files
 twice = refl
 
@@ -171,7 +198,8 @@ capital_letter = refl
 
 site : SiteView
 site = record {
-  files = (MAIN_MANIFEST.now, []) ∷ [];
+  manifests = (MAIN_MANIFEST.now, []) ∷ [];
+  «data» = [];
   nodes = (codes "a", hash no_entries) ∷
       (codes "c", hash no_entries) ∷ [];
 }
@@ -192,15 +220,32 @@ no_file : text_at site (codes "a.pp") ≡ None
 unfolding site
 no_file = refl
 
+-- a file of data is no manifest
+no_manifest : text_at site (codes "a") ≡ None
+unfolding site
+no_manifest = refl
+
 -- files and nodes stand by path and name in byte order
-in_order : site_of ((MAIN_MANIFEST.now, codes "x") ∷ (codes "a.pp", codes "y") ∷ [])
+in_order : site_of ((codes "z", codes "d") ∷ (MAIN_MANIFEST.now, codes "x") ∷ (codes "hiera.yaml", codes "h") ∷
+    (codes "a.pp", codes "y") ∷ [])
     ((codes "c", hash no_entries) ∷ (codes "a", hash no_entries) ∷ [])
     ≡ record {
-      files = (codes "a.pp", codes "y") ∷ (MAIN_MANIFEST.now, codes "x") ∷ [];
+      manifests = (codes "a.pp", codes "y") ∷ (MAIN_MANIFEST.now, codes "x") ∷ [];
+      «data» = (codes "hiera.yaml", codes "h") ∷ (codes "z", codes "d") ∷ [];
       nodes = (codes "a", hash no_entries) ∷ (codes "c", hash no_entries) ∷ [];
     }
 unfolding put_in
 in_order = refl
+
+-- manifests and other files count together: 65,536 files may come
+full : (files : KeptFiles) (path : List ℕ) (d : Data) → length files.manifests + length files.data ≡ MOST_FILES →
+    with_file files path d ≡ Err (too_large path)
+full files path d h = ap (λ n. if nat_lt n MOST_FILES
+    then result_and_then (λ text. Ok (with_text path text files)) (content_of path d)
+    else Err (too_large path)) h
+
+last_one : (files : KeptFiles) → length files.manifests + length files.data ≡ 65535 → has_room files ≡ true
+last_one files h = ap (λ n. nat_lt n MOST_FILES) h
 
 given : (are_distinct {X = ℕ} ((codes "a", 0) ∷ (codes "b", 0) ∷ []) ≡ true)
     × (are_distinct {X = ℕ} ((codes "a", 0) ∷ (codes "b", 0) ∷ (codes "a", 0) ∷ []) ≡ false)

@@ -1,4 +1,5 @@
 mod SiteLemmas
+mod KeptLemmas
 mod Parsed
 mod Chains
 mod NodeSteps

@@ -117,7 +117,7 @@ some_if : {X : Type 0} (b : Bool) (v : X) (o : Option X) → (b ≡ false → Is
 some_if true v o h = refl
 some_if false v o h = h refl
 
-or_right : (a b : Bool) → a ≡ false → IsTrue (a || b) → IsTrue b
+pub or_right : (a b : Bool) → a ≡ false → IsTrue (a || b) → IsTrue b
 or_right true b e h = absurd cc
 or_right false b e h = h
 

@@ -3,11 +3,12 @@ use Rattle.std.specs.Prelude.{ℕ, ◌==◌, Bool, false, if◌then◌else◌, c
 use Rattle.serde_json.specs.Data.{Data}
 use Rattle.serde_json.specs.Find.{get, as_number, as_u64}
 use Rattle.site_bundle.specs.declared.bundle.Bundle.{Bundle}
+use Rattle.site_bundle.specs.declared.kept_files.KeptFiles.{KeptFiles}
 use Rattle.site_bundle.specs.Refusals.{Refusal, bad_shape, result_and_then}
 use Rattle.site_bundle.specs.Documents.{document_of}
 use Rattle.site_bundle.specs.Files.{files_of}
 use Rattle.site_bundle.specs.Nodes.{nodes_of}
-use Rattle.site_bundle.specs.SiteView.{SiteView, Filed, Listed}
+use Rattle.site_bundle.specs.SiteView.{SiteView, Listed}
 use Rattle.site_bundle.specs.RequestsOf.{requests_of}
 
 abbrev pub is_one : Option ℕ → Bool
@@ -22,8 +23,8 @@ is_bundle d = is_one (option_and_then as_u64 (option_and_then as_number (get (co
 abbrev pub unless_machine : Data → Bundle → Result Bundle Refusal
 unless_machine d bundle = if is_some (get (codes "machine") d) then Err (bad_shape (codes "machine")) else Ok bundle
 
-abbrev pub site_with : List Filed → List Listed → SiteView
-site_with files nodes = record { files = files; nodes = nodes }
+abbrev pub site_with : KeptFiles → List Listed → SiteView
+site_with files nodes = record { manifests = files.manifests; «data» = files.data; nodes = nodes }
 
 -- its members in their order, so that the first one that is bad decides
 unfoldable pub members_of : Data → Result Bundle Refusal

@@ -1,9 +1,10 @@
-pub mod SiteView
 pub mod Given
+pub mod SiteView
 pub mod Listing
 pub mod NodeNames
 pub mod Refusals
 pub mod Documents
+pub mod Keeping
 pub mod Files
 pub mod GivenFacts
 pub mod Nodes

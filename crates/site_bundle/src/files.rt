@@ -1,17 +1,17 @@
 //! The files of a bundle.
-ghost use Rattle.std.specs.Prelude.{◌≡◌, ◌≤◌, [], IfOk, IsSome, length};
+ghost use Rattle.std.specs.Prelude.{◌≡◌, ◌≤◌, IfOk, IsSome, length};
 ghost use Rattle.std.specs.FinMap.{find};
 ghost use Rattle.pp_values.specs.Rising.{text_cmp};
 ghost use Rattle.pp_values.specs.declared.place.TheConstants.{MAIN_MANIFEST as MAIN};
 ghost use Rattle.serde_json.specs.View.{view, members_view};
-ghost use Rattle.site_bundle.specs.Given.{is_manifest_path};
+ghost use Rattle.site_bundle.specs.Keeping.{no_files};
 ghost use Rattle.site_bundle.specs.Refusals.{Reads, ReadsAs};
-ghost use Rattle.site_bundle.specs.Files.{short_text, content_of, manifest_in, with_file, with_files, lacks_main, is_passed, files_of};
+ghost use Rattle.site_bundle.specs.Files.{short_text, content_of, with_file, with_files, lacks_main, is_passed, files_of};
 
 use crate::bundle_stop::BundleStop;
-use crate::limits::{MOST_FILE_BYTES, MOST_FILES};
+use crate::kept_files::KeptFiles;
+use crate::limits::MOST_FILE_BYTES;
 use crate::refusing::{bad_member, bad_shape, too_large};
-use crate::site_files::SiteFiles;
 use pp_values::place::MAIN_MANIFEST;
 use pp_values::text::Text;
 use serde_json::{Map, Value};
@@ -19,9 +19,9 @@ use std::alloc::Global;
 use std::cmp::Ordering;
 
 /// The files of a bundle, the main manifest among them. Each is read here.
-pub fn read_files(alloc: Global, bundle: &Value) -> Result<SiteFiles, BundleStop>
+pub fn read_files(alloc: Global, bundle: &Value) -> Result<KeptFiles, BundleStop>
     ensures files { Reads result (files_of (view bundle.now)) }
-    ensures main { IfOk result (λ fs. IsSome (find text_cmp MAIN.now fs)) }
+    ensures main { IfOk result (λ fs. IsSome (find text_cmp MAIN.now fs.manifests)) }
 {
     match bundle.get("files").and_then(Value::as_object) {
         Some(files) => files_among(alloc, files),
@@ -30,12 +30,12 @@ pub fn read_files(alloc: Global, bundle: &Value) -> Result<SiteFiles, BundleStop
 }
 
 /// The files come by path in byte order.
-fn files_among(alloc: Global, members: &Map<String, Value>) -> Result<SiteFiles, BundleStop>
-    ensures files { Reads result (with_files (members_view members.now.entries) []) }
-    ensures main { IfOk result (λ fs. IsSome (find text_cmp MAIN.now fs)) }
+fn files_among(alloc: Global, members: &Map<String, Value>) -> Result<KeptFiles, BundleStop>
+    ensures files { Reads result (with_files (members_view members.now.entries) no_files) }
+    ensures main { IfOk result (λ fs. IsSome (find text_cmp MAIN.now fs.manifests)) }
 {
     let main = Text::from_str(alloc, MAIN_MANIFEST)?;
-    let mut files = SiteFiles::new(alloc);
+    let mut files = KeptFiles::new(alloc);
     for (path, content) in members {
         if is_passed(&files, &main, path.as_str()) {
             return Err(bad_member(alloc, "files", MAIN_MANIFEST));
@@ -49,7 +49,7 @@ fn files_among(alloc: Global, members: &Map<String, Value>) -> Result<SiteFiles,
 }
 
 /// Whether the path stands behind that of the main manifest, which did not come.
-fn is_passed(files: &SiteFiles, main: &Text, path: &str) -> bool
+fn is_passed(files: &KeptFiles, main: &Text, path: &str) -> bool
     requires { main.now ≡ MAIN.now }
     ensures { result ≡ is_passed files.now path.now }
 {
@@ -60,11 +60,11 @@ fn is_passed(files: &SiteFiles, main: &Text, path: &str) -> bool
     }
 }
 
-fn lacks_main(files: &SiteFiles, main: &Text) -> bool
+fn lacks_main(files: &KeptFiles, main: &Text) -> bool
     requires { main.now ≡ MAIN.now }
     ensures { result ≡ lacks_main files.now }
 {
-    match files.get(main) {
+    match files.manifests.get(main) {
         Some(_) => false,
         None => true,
     }
@@ -74,38 +74,20 @@ fn with_file(
     alloc: Global,
     path: &str,
     content: &Value,
-    files: &mut SiteFiles,
+    files: &mut KeptFiles,
 ) -> Result<(), BundleStop>
     ensures { ReadsAs (λ done. files.new) result (with_file files.old path.now (view content.now)) }
 {
-    if files.len() >= MOST_FILES {
+    if !files.has_room() {
         return Err(too_large(alloc, path));
     }
-    let text = manifest_in(alloc, path, content)?;
+    let text = content_of(alloc, path, content)?;
     let path = Text::from_str(alloc, path)?;
     files.read(alloc, path, text)?;
     Ok(())
 }
 
-fn manifest_in(alloc: Global, path: &str, content: &Value) -> Result<Text, BundleStop>
-    ensures manifest { Reads result (manifest_in path.now (view content.now)) }
-    ensures short { IfOk result (λ t. length t ≤ MOST_FILE_BYTES) }
-{
-    if is_manifest_path(path.as_bytes()) {
-        read_content(alloc, path, content)
-    } else {
-        Err(bad_member(alloc, "files", path))
-    }
-}
-
-fn is_manifest_path(path: &[u8]) -> bool
-    ensures { result ≡ is_manifest_path path.now }
-{
-    let front = path.len().saturating_sub(3);
-    &path[front..] == b".pp".as_slice()
-}
-
-fn read_content(alloc: Global, path: &str, content: &Value) -> Result<Text, BundleStop>
+fn content_of(alloc: Global, path: &str, content: &Value) -> Result<Text, BundleStop>
     ensures text { Reads result (content_of path.now (view content.now)) }
     ensures short { IfOk result (λ t. length t ≤ MOST_FILE_BYTES) }
 {

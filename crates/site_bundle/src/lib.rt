@@ -6,6 +6,7 @@ pub mod bundle_stop;
 mod document;
 mod files;
 mod given_facts;
+pub mod kept_files;
 pub mod limits;
 pub mod listed_nodes;
 pub mod node_name;
@@ -23,6 +24,6 @@ pub use limits::{MOST_BUNDLE_BYTES, MOST_FILE_BYTES, MOST_NAME_CHARACTERS, MOST_
 pub use listed_nodes::ListedNodes;
 pub use node_name::is_node_name;
 pub use reading::read_bundle;
-pub use site::{Site, make_site, site_of_main};
+pub use site::{Site, data_of, make_site, site_of_main};
 pub use site_files::SiteFiles;
 pub use stop_lines::stop_text;

@@ -10,6 +10,7 @@ use crate::bundle::Bundle;
 use crate::bundle_stop::BundleStop;
 use crate::document::read_document;
 use crate::files::read_files;
+use crate::kept_files::KeptFiles;
 use crate::nodes::read_nodes;
 use crate::refusing::bad_shape;
 use crate::requests::read_requests;
@@ -56,12 +57,12 @@ fn members_of(alloc: Global, document: &Value) -> Result<Bundle, BundleStop>
     ensures facts { IfOk result (λ b. IsTrue (give_facts b.requests)) }
     ensures few { IfOk result (λ b. length b.requests ≤ MOST_REQUESTS) }
 {
-    let files = read_files(alloc, document)?;
+    let KeptFiles { manifests, data } = read_files(alloc, document)?;
     let nodes = read_nodes(alloc, document)?;
     let requests = read_requests(alloc, document)?;
     if document.get("machine").is_some() {
         return Err(bad_shape(alloc, "machine"));
     }
-    let site = site_with(alloc, files, nodes)?;
+    let site = site_with(alloc, manifests, data, nodes)?;
     Ok(Bundle { site, requests })
 }

@@ -6,11 +6,14 @@ ghost use Rattle.pp_parser.specs.Manifest.{file_of};
 ghost use Rattle.pp_values.specs.Facts.{are_facts};
 ghost use Rattle.pp_values.specs.Views.{view};
 ghost use Rattle.pp_values.specs.declared.place.TheConstants.{MAIN_MANIFEST};
-ghost use Rattle.site_bundle.specs.Given.{are_distinct, has_main, are_manifests, are_short};
+ghost use Rattle.site_bundle.specs.Given.{are_distinct, has_main, are_short};
+ghost use Rattle.site_bundle.specs.Keeping.{kept};
 ghost use Rattle.site_bundle.specs.SiteView.{facts_for, main_text, have_facts, put_in, site_of};
 
+use crate::kept_files::KeptFiles;
 use crate::listed_nodes::ListedNodes;
 use crate::site_files::SiteFiles;
+use hiera_config::SiteData;
 use pp_tree::manifest_file::ManifestFile;
 use pp_values::fact_pairs::FactPairs;
 use pp_values::memory::Memory;
@@ -21,22 +24,25 @@ use pp_values::value::Value;
 use std::alloc::Global;
 use std::marker::Model;
 
-/// A site: its manifests, which were read when it was made, and the facts that it lists for nodes.
+/// A site: its manifests and the files of its data, which were read when it was made, and the facts that it lists for
+/// nodes.
 ///
-/// A contract sees the paths and texts of the manifests, and the nodes with what their facts say.
+/// A contract sees the paths and texts of the files, and the nodes with what their facts say.
 pub struct Site {
     // The path of the main manifest, by which it is found.
     main: Text,
-    files: SiteFiles,
+    manifests: SiteFiles,
+    data: SiteData,
     nodes: ListedNodes,
 }
 
-// By hand, so that no crate above proves the drops of the manifests and of the facts again.
+// By hand, so that no crate above proves the drops of the files and of the facts again.
 impl Drop for Site {
     fn drop(self) {
         let Site {
             main: _main,
-            files: _files,
+            manifests: _manifests,
+            data: _data,
             nodes: _nodes,
         } = self;
     }
@@ -51,17 +57,17 @@ impl Model for Site {
 
     ghost coded = { coded_site };
 
-    ghost view = { λ s. record { files = s.files; nodes = s.nodes } };
+    ghost view = { λ s. record { manifests = s.manifests; «data» = s.data; nodes = s.nodes } };
 
     ghost invariant = { λ s. (s.main ≡ MAIN_MANIFEST.now)
-        × IsSome (text_at (record { files = s.files; nodes = s.nodes }) MAIN_MANIFEST.now) };
+        × IsSome (text_at (record { manifests = s.manifests; «data» = s.data; nodes = s.nodes }) MAIN_MANIFEST.now) };
 }
 
 impl Site {
-    pub fn files(&self) -> &SiteFiles
-        ensures { result.now ≡ self.now.files }
+    pub fn manifests(&self) -> &SiteFiles
+        ensures { result.now ≡ self.now.manifests }
     {
-        &self.files
+        &self.manifests
     }
 
     pub fn nodes(&self) -> &ListedNodes
@@ -75,7 +81,7 @@ impl Site {
         ensures text { result.now.text ≡ main_text self.now }
         ensures read { result.now.read ≡ file_of MAIN_MANIFEST.now (main_text self.now) }
     {
-        self.files.get(&self.main).unwrap()
+        self.manifests.get(&self.main).unwrap()
     }
 
     /// The facts that are listed for the node.
@@ -87,11 +93,17 @@ impl Site {
     }
 }
 
+/// The files of a site's data: all that are no manifests.
+pub fn data_of(site: &Site) -> &SiteData
+    ensures { result.now ≡ site.now.data }
+{
+    &site.data
+}
+
 /// The site of these files and nodes. Each file is read here.
 pub fn make_site(alloc: Global, files: TextPairs, nodes: FactPairs) -> Result<Site, Memory>
     requires paths { IsTrue (are_distinct files) }
     requires main { IsTrue (has_main files) }
-    requires manifests { IsTrue (are_manifests files) }
     // Places count lines in 32 bits.
     requires short { IsTrue (are_short files) }
     requires names { IsTrue (are_distinct nodes) }
@@ -99,37 +111,44 @@ pub fn make_site(alloc: Global, files: TextPairs, nodes: FactPairs) -> Result<Si
     ensures { IfOk result (λ s. s ≡ site_of files nodes) }
 {
     let main = Text::from_str(alloc, MAIN_MANIFEST)?;
-    let files = read_files(alloc, files)?;
+    let KeptFiles { manifests, data } = read_files(alloc, files)?;
     let nodes = list_nodes(alloc, nodes)?;
-    Ok(Site { main, files, nodes })
+    Ok(Site { main, manifests, data, nodes })
 }
 
 /// The site of a main manifest alone, with nodes that are listed already.
 pub fn site_of_main(alloc: Global, manifest: Text, nodes: ListedNodes) -> Result<Site, Memory>
     // Places count lines in 32 bits.
     requires { length manifest + 1 < 2 ^ 32 }
-    ensures { IfOk result (λ s. s ≡ record { files = (MAIN_MANIFEST.now, manifest) ∷ []; nodes = nodes }) }
+    ensures { IfOk result (λ s.
+        s ≡ record { manifests = (MAIN_MANIFEST.now, manifest) ∷ []; «data» = []; nodes = nodes }) }
 {
     let main = Text::from_str(alloc, MAIN_MANIFEST)?;
-    let mut files = SiteFiles::new(alloc);
-    files.read(alloc, main.copy(alloc)?, manifest)?;
-    Ok(Site { main, files, nodes })
+    let mut manifests = SiteFiles::new(alloc);
+    manifests.read(alloc, main.copy(alloc)?, manifest)?;
+    let data = SiteData::new(alloc);
+    Ok(Site { main, manifests, data, nodes })
 }
 
-/// The site of these files, the main manifest among them, with nodes that are listed already.
-pub fn site_with(alloc: Global, files: SiteFiles, nodes: ListedNodes) -> Result<Site, Memory>
-    requires { IsSome (find text_cmp MAIN_MANIFEST.now files) }
-    ensures { IfOk result (λ s. s ≡ record { files = files; nodes = nodes }) }
+/// The site of these manifests, the main one among them, and these files of data, with nodes that are listed already.
+pub fn site_with(
+    alloc: Global,
+    manifests: SiteFiles,
+    data: SiteData,
+    nodes: ListedNodes,
+) -> Result<Site, Memory>
+    requires { IsSome (find text_cmp MAIN_MANIFEST.now manifests) }
+    ensures { IfOk result (λ s. s ≡ record { manifests = manifests; «data» = «data»; nodes = nodes }) }
 {
     let main = Text::from_str(alloc, MAIN_MANIFEST)?;
-    Ok(Site { main, files, nodes })
+    Ok(Site { main, manifests, data, nodes })
 }
 
-fn read_files(alloc: Global, files: TextPairs) -> Result<SiteFiles, Memory>
+fn read_files(alloc: Global, files: TextPairs) -> Result<KeptFiles, Memory>
     requires { IsTrue (are_short files) }
-    ensures { IfOk result (λ s. s ≡ put_in [] files) }
+    ensures { IfOk result (λ fs. fs ≡ kept files) }
 {
-    let mut read = SiteFiles::new(alloc);
+    let mut read = KeptFiles::new(alloc);
     let mut left = files;
     while let Some((path, text)) = left.pop() {
         read.read(alloc, path, text)?;

@@ -1,8 +1,9 @@
 -- The status of each ending, as far as the input decides it.
 use Rattle.std.proofs.Common.{◌≡◌, ◌⊎◌, ℕ, ◌<◌, ◌≤◌, Bool, true, false, List, [], ◌∷◌, length, sym, ap, ◌∙◌, subst, refl, inl, inr, arith}
 use Rattle.std.proofs.lemmas.Bool.{le-leb}
-use Rattle.std.specs.Prelude.{Result, Ok, Err, Some, if◌then◌else◌, codes}
+use Rattle.std.specs.Prelude.{Option, Result, Ok, Err, Some, if◌then◌else◌, codes}
 use Rattle.std.specs.List.{list_any}
+use Rattle.hiera_merge.specs.declared.merge.Merge.{Merge}
 use Rattle.site_core.specs.declared.history.TheConstants.{MOST_ENTRIES}
 use Rattle.site_core.specs.Events.{opens}
 use Rattle.site_bundle.specs.Bundles.{bundle_in, bundle_of}
@@ -15,13 +16,13 @@ use Rattle.site_commands.specs.declared.output.Output.{Output}
 use Rattle.site_commands.specs.declared.output.Output.TheVariants as a
 use Rattle.site_commands.specs.declared.ending.Ending.{Ending}
 use Rattle.site_commands.specs.declared.ending.Ending.TheVariants as e
-use Rattle.site_commands.specs.Outputs.{IsOutput, TellsOf, HasRun, HasShared, manifest_output, is_refusal, run_text}
-use Rattle.site_commands.specs.Endings.{Ends, IsComplaint, IsCommand, IsSettled, IsStatusFor, IsBatchStatus, output_status, outcome_status, bundle_status}
+use Rattle.site_commands.specs.Outputs.{IsOutput, TellsOf, HasRun, HasShared, HasLookedUp, manifest_output, is_refusal, run_text}
+use Rattle.site_commands.specs.Endings.{Ends, IsComplaint, IsCommand, IsSettled, IsStatusFor, IsBatchStatus, output_status, outcome_status, bundle_status, lookup_status}
 use Rattle.site_commands.specs.Limits.{limit_of}
 use Rattle.compile_core.specs.Puppet.{puppet, listed}
 use Rattle.site_sequence.specs.SequenceLaws.{is_memory}
 use Rattle.site_commands.specs.Status.{status_of}
-use Rattle.site_commands.specs.Words.{CommandLine, manifest, sequence, batch, usage, bad_word, asked_of}
+use Rattle.site_commands.specs.Words.{CommandLine, manifest, sequence, batch, lookup, usage, bad_word, asked_of}
 use Rattle.site_commands.specs.Work.{WritesOr, WritesLogged, WritesShort, Delivers, Serves}
 use Rattle.site_commands.specs.World.{World}
 use Rattle.site_commands.proofs.Told.{read_is_left, left_is_longer, leb-false}
@@ -32,6 +33,7 @@ status-complaint : (asked : CommandLine) (input : List ℕ) → IsComplaint aske
 status-complaint (manifest node) input h = absurd h
 status-complaint sequence input h = absurd h
 status-complaint (batch workers) input h = absurd h
+status-complaint (lookup node key merge) input h = absurd h
 status-complaint usage input h = refl
 status-complaint (bad_word word) input h = refl
 
@@ -49,6 +51,7 @@ status-long (manifest node) input asked long =
     (leb-false (length input) MOST_FILE_BYTES long))
 status-long sequence input asked long = sym (ap bundle_status (bundle_of-long input long))
 status-long (batch workers) input asked long = subst (IsBatchStatus 11) (sym (bundle_of-long input long)) refl
+status-long (lookup node key merge) input asked long = sym (ap (lookup_status node key merge) (bundle_of-long input long))
 status-long usage input asked long = absurd asked
 status-long (bad_word word) input asked long = absurd asked
 
@@ -96,6 +99,11 @@ unfolding IsToldStatus
 status_of-batch workers output (Ok bundle) run = status_of-shared workers output bundle run
 status_of-batch workers output (Err refusal) is = inl (ap output_status is)
 
+status_of-lookup : (node key : List ℕ) (merge : Option Merge) (output : Output) (read : Result Bundle Refusal) →
+    TellsOf (HasLookedUp node key merge) output read → output_status output ≡ lookup_status node key merge read
+status_of-lookup node key merge output (Ok bundle) is = ap output_status is
+status_of-lookup node key merge output (Err refusal) is = ap output_status is
+
 status_of-output : (asked : CommandLine) (output : Output) (input : List ℕ) → IsOutput asked output input →
     length input ≤ limit_of asked →
     IsStatusFor (output_status output) asked input ⊎ (output_status output ≡ 16)
@@ -105,6 +113,8 @@ status_of-output (manifest node) output input is fits =
     (le-leb (length input) MOST_FILE_BYTES fits)))
 status_of-output sequence output input is fits = status_of-bundle output (bundle_of input) is
 status_of-output (batch workers) output input is fits = status_of-batch workers output (bundle_of input) is
+status_of-output (lookup node key merge) output input is fits =
+    inl (status_of-lookup node key merge output (bundle_of input) is)
 status_of-output usage output input is fits = absurd is
 status_of-output (bad_word word) output input is fits = absurd is
 

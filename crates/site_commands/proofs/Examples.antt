@@ -1,18 +1,21 @@
 -- Words, complaints and statuses on examples.
 use Rattle.std.proofs.Common.{◌≡◌, ◌⊎◌, ℕ, List, [], ◌∷◌, ◌++◌, length, replicate, refl, ap, inl, inr, arith, length-append}
 use Rattle.std.specs.Fmt.{digits}
-use Rattle.std.specs.Prelude.{Ok, Err, codes}
-use Rattle.pp_values.specs.declared.fault.What.TheVariants.{Failed}
+use Rattle.std.specs.Prelude.{Ok, Err, Some, None, codes}
+use Rattle.hiera_merge.specs.declared.merge.Merge.TheVariants as by
+use Rattle.pp_values.specs.Datum as d
+use Rattle.pp_values.specs.declared.fault.What.TheVariants.{Failed, LookupMissing}
 use Rattle.res_core.specs.declared.catalog.Catalog.{Catalog}
 use Rattle.site_core.specs.declared.reply.ReplyOf.TheVariants as r
+use Rattle.serde_json.proofs.OnLiterals.{serde_json_on_literals}
 use Rattle.site_docs.specs.CatalogText.{catalog_text}
 use Rattle.site_docs.specs.FaultText.{plain_line, fault_text}
 use Rattle.site_docs.specs.LogText.{log_text}
 use Rattle.site_io.specs.Stream.{Stream}
-use Rattle.site_commands.specs.Outputs.{output_meant, output_of}
+use Rattle.site_commands.specs.Outputs.{output_meant, output_of, looked_up_output}
 use Rattle.site_commands.specs.declared.ending.Ending.TheVariants as e
 use Rattle.site_commands.specs.declared.output.Output.TheVariants as a
-use Rattle.site_commands.specs.Words.{manifest, sequence, batch, usage, bad_word, asked_of}
+use Rattle.site_commands.specs.Words.{manifest, sequence, batch, lookup, usage, bad_word, asked_of}
 use Rattle.site_commands.specs.Endings.{complaint, IsStatusFor}
 use Rattle.site_commands.specs.Work.{HasLogged, WritesLogged}
 use Rattle.site_commands.specs.World.{FailsToSay, line}
@@ -55,6 +58,30 @@ batches : (asked_of (codes "batch" ∷ []) ≡ batch 1)
     × (asked_of (codes "Batch" ∷ []) ≡ usage)
 batches = (refl, refl, refl, refl, refl, refl, refl, refl, refl, refl, refl, refl, refl, refl)
 
+-- `lookup`, with or without a merge; its words are tested in their order
+abbrev look_up_words : List ℕ → List ℕ → List (List ℕ)
+look_up_words node key = codes "lookup" ∷ node ∷ key ∷ []
+
+abbrev look_up_by : List ℕ → List ℕ → List ℕ → List (List ℕ)
+look_up_by node key merge = codes "lookup" ∷ node ∷ key ∷ codes "--merge" ∷ merge ∷ []
+
+look_ups : (asked_of (look_up_words (codes "n") (codes "a::b")) ≡ lookup (codes "n") (codes "a::b") None)
+    × (asked_of (look_up_words (codes "n") (codes "--merge")) ≡ lookup (codes "n") (codes "--merge") None)
+    × (asked_of (look_up_by (codes "n") (codes "k") (codes "first")) ≡ lookup (codes "n") (codes "k") (Some by.First))
+    × (asked_of (look_up_by (codes "n") (codes "k") (codes "unique")) ≡ lookup (codes "n") (codes "k") (Some by.Unique))
+    × (asked_of (look_up_by (codes "n") (codes "k") (codes "hash")) ≡ lookup (codes "n") (codes "k") (Some by.Hash))
+    × (asked_of (look_up_by (codes "n") (codes "k") (codes "deep")) ≡ lookup (codes "n") (codes "k") (Some by.Deep))
+    × (asked_of (look_up_words (codes "N") []) ≡ bad_word (codes "N"))
+    × (asked_of (look_up_words (codes "n") []) ≡ bad_word [])
+    × (asked_of (look_up_by (codes "n") [] (codes "all")) ≡ bad_word [])
+    × (asked_of (look_up_by (codes "n") (codes "k") (codes "all")) ≡ bad_word (codes "all"))
+    × (asked_of (look_up_by (codes "n") (codes "k") []) ≡ bad_word [])
+    × (asked_of (look_up_by (codes "n") (codes "k") (codes "Deep")) ≡ bad_word (codes "Deep"))
+    × (asked_of (codes "lookup" ∷ codes "n" ∷ []) ≡ usage)
+    × (asked_of (codes "lookup" ∷ codes "n" ∷ codes "k" ∷ codes "--merge" ∷ []) ≡ usage)
+    × (asked_of (codes "lookup" ∷ codes "n" ∷ codes "k" ∷ codes "-m" ∷ codes "deep" ∷ []) ≡ usage)
+look_ups = (refl, refl, refl, refl, refl, refl, refl, refl, refl, refl, refl, refl, refl, refl, refl)
+
 complaints : (complaint (bad_word (codes "Web")) ≡ codes "bad word Web" ++ 10 ∷ [])
     × (complaint usage ≡ codes "usage: manifest NODE" ++ 10 ∷ [])
 complaints = (refl, refl)
@@ -90,6 +117,13 @@ outputs : (output_meant (Ok (logged, record { items = [] })) ≡
     a.Fault (codes "F25 m.pp:7 Failed d" ++ 10 ∷ []))
 unfolding log_text fault_text plain_line digits
 outputs = (refl, refl)
+
+-- what was looked up is written on one line, and a fault where there is none
+looked_up : (looked_up_output (Ok (d.text (codes "xy"))) ≡ a.Done (codes "\"xy\"" ++ 10 ∷ []))
+    × (looked_up_output (Err (record { at = record { file = codes "lookup"; line = 1 }; what = LookupMissing (codes "zz") })) ≡
+    a.Fault (codes "F20 lookup:1 LookupMissing zz" ++ 10 ∷ []))
+unfolding fault_text plain_line digits serde_json_on_literals
+looked_up = (refl, refl)
 
 -- where anything was written to out, the log stands whole on err
 log_first : (log text : List ℕ) (out out' err err' : Stream) → WritesLogged e.WriteFault log text out out' err err' →

@@ -4,5 +4,6 @@ mod Examples
 mod Readable
 mod Saying
 mod Sent
+mod SentData
 mod Told
 mod Worked

@@ -47,6 +47,7 @@ use Rattle.site_bundle.specs.contracts.site_files.SiteFiles as site_files
 use Rattle.site_bundle.specs.contracts.listed_nodes.ListedNodes as listed_nodes
 use Rattle.site_bundle.specs.contracts.site.Site as site
 use Rattle.site_batch.proofs.Sent.{parts}
+use Rattle.site_commands.proofs.SentData.{data_send, data_sync}
 
 -- the parts of trees
 pub ruleset sends = (
@@ -323,10 +324,10 @@ pub nodes_sync : IsSync listed_nodes.the_row
 nodes_sync = search (parts, map.the_sync) depth 60 fits 40000
 
 pub site_send : IsSend site.the_row
-site_send = search (sendable, text.the_send, files_send, nodes_send) depth 40 fits 40000
+site_send = search (sendable, text.the_send, files_send, data_send, nodes_send) depth 40 fits 40000
 
 pub site_sync : IsSync site.the_row
-site_sync = search (sendable, text.the_sync, files_sync, nodes_sync) depth 40 fits 40000
+site_sync = search (sendable, text.the_sync, files_sync, data_sync, nodes_sync) depth 40 fits 40000
 
 pub held_send : IsSend (declared.row held.the_type)
 held_send = search parts depth 60 fits 40000

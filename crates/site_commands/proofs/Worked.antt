@@ -50,6 +50,7 @@ pub is_command : (command : Command) → IsCommand (asked_by command)
 is_command (c.Manifest node) = tt
 is_command c.Sequence = tt
 is_command (c.Batch workers) = tt
+is_command (c.Lookup node key merge) = tt
 
 ends_read : (ending : Ending) (words : List (List ℕ)) (input : List ℕ) (s s' out out' err err' : Stream)
     → IsCommand (asked_of words) → HasReadAll input (limit_of (asked_of words)) s s' →

@@ -14,13 +14,15 @@ use Rattle.site_io.specs.Stream.{Stream, Rose}
 use Rattle.site_io.specs.Transfer.{HasReadAll, HasReadPast, HasReadSome, HasReadWithin}
 use Rattle.site_commands.specs.declared.ending.Ending.{Ending}
 use Rattle.site_commands.specs.declared.ending.Ending.TheVariants as e
-use Rattle.site_commands.specs.Outputs.{output_of, manifest_output, run_text}
+use Rattle.site_commands.specs.Outputs.{output_of, manifest_output, looked_up_output, run_text}
 use Rattle.site_commands.specs.declared.output.Output.{Output}
 use Rattle.site_commands.specs.declared.output.Output.TheVariants as a
 use Rattle.site_commands.specs.Limits.{limit_of}
+use Rattle.compile_core.specs.LookUp.{look_up}
 use Rattle.compile_core.specs.Puppet.{puppet, listed}
+use Rattle.hiera_merge.specs.declared.merge.Merge.{Merge}
 use Rattle.site_sequence.specs.Sequence.{Outcome, outcome_of}
-use Rattle.site_commands.specs.Words.{CommandLine, manifest, sequence, batch, usage, bad_word, asked_of}
+use Rattle.site_commands.specs.Words.{CommandLine, manifest, sequence, batch, lookup, usage, bad_word, asked_of}
 use Rattle.site_commands.specs.Work.{Works, SaysOnly, too_long}
 use Rattle.site_commands.specs.World.{World, line}
 
@@ -29,6 +31,7 @@ abbrev pub complaint : CommandLine → List ℕ
 complaint (manifest node) = []
 complaint sequence = []
 complaint (batch workers) = []
+complaint (lookup node key merge) = []
 complaint usage = line (codes "usage: manifest NODE")
 complaint (bad_word word) = codes "bad word " ++ line word
 
@@ -36,6 +39,7 @@ abbrev pub IsComplaint : CommandLine → Type 0
 IsComplaint (manifest node) = ⊥
 IsComplaint sequence = ⊥
 IsComplaint (batch workers) = ⊥
+IsComplaint (lookup node key merge) = ⊥
 IsComplaint usage = Unit {0}
 IsComplaint (bad_word word) = Unit {0}
 
@@ -43,6 +47,7 @@ abbrev pub IsCommand : CommandLine → Type 0
 IsCommand (manifest node) = Unit {0}
 IsCommand sequence = Unit {0}
 IsCommand (batch workers) = Unit {0}
+IsCommand (lookup node key merge) = Unit {0}
 IsCommand usage = ⊥
 IsCommand (bad_word word) = ⊥
 
@@ -107,15 +112,22 @@ abbrev pub IsBatchStatus : ℕ → Result Bundle Refusal → Type 0
 IsBatchStatus status (Ok bundle) = (status ≡ 0) ⊎ (status ≡ 1)
 IsBatchStatus status (Err refusal) = status ≡ 11
 
+-- what is written of a value, or of a fault, has its status
+abbrev pub lookup_status : List ℕ → List ℕ → Option Merge → Result Bundle Refusal → ℕ
+lookup_status node key merge (Ok bundle) = output_status (looked_up_output (look_up bundle.site node key merge))
+lookup_status node key merge (Err refusal) = 11
+
 -- The status of a command on this input, where nothing fails and memory is had. For `manifest`: 0 where its meaning is a
 -- catalog, 1 where it is a fault, 11 where the input is too long or no text. For `sequence`: 0 where no request is
 -- refused, 1 where one is, 11 where the input is no bundle. For `batch`: 0 or 1 where the input is a bundle, 11 where it
--- is none. 10 where the words are faulty.
+-- is none. For `lookup`: 0 where the bundle's data have a value, 1 where they give a fault, 11 where the input is no
+-- bundle. 10 where the words are faulty.
 abbrev pub IsStatusFor : ℕ → CommandLine → List ℕ → Type 0
 IsStatusFor status (manifest node) input =
     status ≡ (if nat_le (length input) MOST_FILE_BYTES then output_status (manifest_output node input) else 11)
 IsStatusFor status sequence input = status ≡ bundle_status (bundle_of input)
 IsStatusFor status (batch workers) input = IsBatchStatus status (bundle_of input)
+IsStatusFor status (lookup node key merge) input = status ≡ lookup_status node key merge (bundle_of input)
 IsStatusFor status usage input = status ≡ 10
 IsStatusFor status (bad_word word) input = status ≡ 10
 

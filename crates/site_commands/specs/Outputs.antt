@@ -1,7 +1,10 @@
 -- What an input gives, as the texts that are to be written.
-use Rattle.std.specs.Prelude.{◌≡◌, ℕ, ◌+◌, if◌then◌else◌, Bool, true, false, List, [], ◌∷◌, ◌++◌, Result, Ok, Err, codes}
+use Rattle.std.specs.Prelude.{◌≡◌, ℕ, ◌+◌, if◌then◌else◌, Bool, true, false, List, [], ◌∷◌, ◌++◌, Option, Result, Ok, Err, codes}
 use Rattle.std.specs.List.{list_any}
 use Rattle.std.specs.Str.{is_utf8}
+use Rattle.hiera_merge.specs.declared.merge.Merge.{Merge}
+use Rattle.json_values.specs.ValueForm.{form}
+use Rattle.pp_values.specs.Datum.{Datum}
 use Rattle.pp_values.specs.declared.fault.Fault.{Fault}
 use Rattle.pp_values.specs.declared.place.TheConstants.{MAIN_MANIFEST}
 use Rattle.res_core.specs.Asked as requests
@@ -23,10 +26,12 @@ use Rattle.site_docs.specs.JournalText.{journal_text}
 use Rattle.site_docs.specs.ReplyText.{reply_line}
 use Rattle.site_commands.specs.declared.output.Output.{Output}
 use Rattle.site_commands.specs.declared.output.Output.TheVariants as a
+use Rattle.compile_core.specs.LookUp.{look_up}
 use Rattle.compile_core.specs.Puppet.{puppet, listed, manifest_meaning}
+use Rattle.serde_json.specs.Written.{compact_text}
 use Rattle.site_sequence.specs.Sequence.{AnsweredInTurn}
 use Rattle.site_sequence.specs.SequenceLaws.{is_memory}
-use Rattle.site_commands.specs.Words.{CommandLine, manifest, sequence, batch, usage, bad_word}
+use Rattle.site_commands.specs.Words.{CommandLine, manifest, sequence, batch, lookup, usage, bad_word}
 use Rattle.site_commands.specs.World.{line}
 
 -- the line that tells why an input is not what a command reads
@@ -88,6 +93,15 @@ pub record HasShared (workers : ℕ) (output : Output) (bundle : Bundle) : Type 
   pub whole : Whole puppet listed MOST_ENTRIES workers bundle.site bundle.requests replies history
   pub is : output ≡ output_of replies (run_text bundle.requests replies history)
 
+-- `lookup`: the form of the value that the bundle's data have, on one line, or the line of the fault. Nothing is asked of
+-- its requests and its manifests.
+abbrev pub looked_up_output : Result Datum Fault → Output
+looked_up_output (Ok value) = a.Done (line (compact_text (form value)))
+looked_up_output (Err fault) = a.Fault (line (fault_text fault))
+
+abbrev pub HasLookedUp : List ℕ → List ℕ → Option Merge → Output → Bundle → Type 0
+HasLookedUp node key merge output bundle = output ≡ looked_up_output (look_up bundle.site node key merge)
+
 -- the output to an input: it is a bundle, of which this came; or it is none, and the output tells why
 abbrev pub TellsOf : (Output → Bundle → Type 0) → Output → Result Bundle Refusal → Type 0
 TellsOf Came output (Ok bundle) = Came output bundle
@@ -98,5 +112,6 @@ abbrev pub IsOutput : CommandLine → Output → List ℕ → Type 0
 IsOutput (manifest node) output input = output ≡ manifest_output node input
 IsOutput sequence output input = TellsOf HasRun output (bundle_of input)
 IsOutput (batch workers) output input = TellsOf (HasShared workers) output (bundle_of input)
+IsOutput (lookup node key merge) output input = TellsOf (HasLookedUp node key merge) output (bundle_of input)
 IsOutput usage output input = ⊥
 IsOutput (bad_word word) output input = ⊥

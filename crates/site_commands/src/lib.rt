@@ -5,6 +5,7 @@ pub mod batch_output;
 pub mod bundle_output;
 pub mod ending;
 mod lines;
+pub mod lookup_output;
 pub mod manifest_output;
 mod numbers;
 pub mod output;

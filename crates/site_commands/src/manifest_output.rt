@@ -85,7 +85,8 @@ fn compile_alone(
 #[tactic(auto, unfolding(site_bundle::specs::SiteView::put_in))]
 fn site_alone(alloc: Global, manifest: Text) -> Result<Site, Memory>
     requires { length manifest ≤ MOST_FILE_BYTES }
-    ensures { IfOk result (λ s. s ≡ record { files = (MAIN_MANIFEST.now, manifest) ∷ []; nodes = [] }) }
+    ensures { IfOk result (λ s. s
+        ≡ record { manifests = (MAIN_MANIFEST.now, manifest) ∷ []; «data» = []; nodes = [] }) }
 {
     let mut files = TextPairs::new(alloc);
     files.push((Text::from_str(alloc, MAIN_MANIFEST)?, manifest))?;
@@ -108,7 +109,8 @@ fn catalog_line(alloc: Global, catalog: &Catalog) -> Result<Text, Memory>
     line(catalog_text(alloc, catalog)?)
 }
 
-fn fault_line(alloc: Global, fault: &Fault) -> Result<Text, Memory>
+/// The line of a fault.
+pub(crate) fn fault_line(alloc: Global, fault: &Fault) -> Result<Text, Memory>
     ensures { IfOk result (λ text. text ≡ line (fault_text fault.now)) }
 {
     line(fault_text(alloc, fault)?)

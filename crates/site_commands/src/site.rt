@@ -12,6 +12,7 @@ ghost use Rattle.site_commands.specs.Endings.{Ends, IsComplaint, IsSettled};
 use crate::batch_output::batch_output;
 use crate::bundle_output::bundle_output;
 use crate::ending::Ending;
+use crate::lookup_output::lookup_output;
 use crate::manifest_output::manifest_output;
 use crate::output::Output;
 use crate::say::{say, say_word};
@@ -30,11 +31,12 @@ use std::thread::Threads;
 /// | Status | When | Error line |
 /// |-|-|-|
 /// | 0 | the catalog was written, or journal and replies were, none of which is a refusal | of `manifest` its log |
-/// | 1 | the manifest has no catalog | its fault |
+/// | 0 | the value that was looked up was written | none |
+/// | 1 | the manifest has no catalog, or the data have no value | the fault |
 /// | 1 | journal and replies were written, one of which is a refusal | none |
 /// | 10 | the words are faulty | `usage: manifest NODE` or `bad word WORD` |
 /// | 11 | the manifest is longer than 4 MiB, or no text in UTF-8 | `B3 manifests/site.pp`, `B2 manifests/site.pp` |
-/// | 11 | the input of `sequence` or `batch` is no bundle | `B1`, `B2 PATH` or `B3 PATH` |
+/// | 11 | the input of another command is no bundle | `B1`, `B2 PATH` or `B3 PATH` |
 /// | 12 | the input could not be read | `read fault` |
 /// | 13 | the output, the log or a fault's line could not be written | the log; or a front of it or of that line |
 /// | 16 | want of memory, in the program or in a reply that was written | `memory` |
@@ -131,7 +133,7 @@ fn run_command<S: Source, K: Sink, E: Sink, G: Gate + Sync, R: Threads + Wait + 
         (world (S.stream source.new) (K.stream out.new) (E.stream err.new)) }
 {
     match command {
-        Command::Manifest { .. } | Command::Sequence => {
+        Command::Manifest { .. } | Command::Sequence | Command::Lookup { .. } => {
             plain_command(alloc, command, source, out, err)
         }
         Command::Batch { .. } => shared_command(rt, alloc, command, source, out, err, gate),
@@ -185,7 +187,7 @@ fn limit_of(command: Command<'_>) -> usize
 {
     match command {
         Command::Manifest { .. } => MOST_FILE_BYTES,
-        Command::Sequence | Command::Batch { .. } => MOST_BUNDLE_BYTES,
+        Command::Sequence | Command::Batch { .. } | Command::Lookup { .. } => MOST_BUNDLE_BYTES,
     }
 }
 
@@ -238,6 +240,9 @@ fn plain_output(alloc: Global, command: Command<'_>, input: Bytes) -> Result<Out
     match command {
         Command::Manifest { node } => manifest_output(alloc, node, input),
         Command::Sequence => bundle_output(alloc, input.as_slice()),
+        Command::Lookup { node, key, merge } => {
+            lookup_output(alloc, node, key, merge, input.as_slice())
+        }
         Command::Batch { .. } => unreachable!(),
     }
 }
@@ -256,7 +261,7 @@ fn shared_output<G: Gate + Sync, R: Threads + Wait + Sync>(
 {
     match command {
         Command::Batch { workers } => batch_output(rt, alloc, input.as_slice(), workers, gate),
-        Command::Manifest { .. } | Command::Sequence => unreachable!(),
+        Command::Manifest { .. } | Command::Sequence | Command::Lookup { .. } => unreachable!(),
     }
 }
 
@@ -277,7 +282,9 @@ fn refuse_long<E: Sink>(command: Command<'_>, err: &mut E) -> Ending
 {
     match command {
         Command::Manifest { .. } => say_word(err, "B3 ", MAIN_MANIFEST),
-        Command::Sequence | Command::Batch { .. } => say_word(err, "B3 ", "bundle"),
+        Command::Sequence | Command::Batch { .. } | Command::Lookup { .. } => {
+            say_word(err, "B3 ", "bundle")
+        }
     }
     Ending::BadInput
 }

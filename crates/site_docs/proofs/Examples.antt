@@ -111,9 +111,10 @@ unfolding log_text
 logs = (refl, refl, refl, refl)
 
 abbrev listing : List ℕ → List (List ℕ) → SiteView
-listing manifest [] = record { files = (MAIN_MANIFEST.now, manifest) ∷ []; nodes = [] }
+listing manifest [] = record { manifests = (MAIN_MANIFEST.now, manifest) ∷ []; «data» = []; nodes = [] }
 listing manifest (n ∷ ns) = record {
-  files = (MAIN_MANIFEST.now, manifest) ∷ [];
+  manifests = (MAIN_MANIFEST.now, manifest) ∷ [];
+  «data» = [];
   nodes = (n, d.hash d.no_entries) ∷
       (listing manifest ns).nodes;
 }
@@ -121,7 +122,8 @@ listing manifest (n ∷ ns) = record {
 -- sites with no node, and with two of which one has a fact
 sites : (site_text (listing [] []) ≡ codes "{\"files\":{\"manifests/site.pp\":\"\"},\"nodes\":{}}")
     × (site_text (record {
-      files = (MAIN_MANIFEST.now, codes "x") ∷ (codes "modules/a/init.pp", codes "y") ∷ [];
+      manifests = (MAIN_MANIFEST.now, codes "x") ∷ (codes "modules/a/init.pp", codes "y") ∷ [];
+      «data» = [];
       nodes = (codes "a", d.hash d.no_entries) ∷ (
         codes "b.c",
         d.hash (d.entry (d.text (codes "os")) (d.flag true) d.no_entries),
@@ -130,6 +132,16 @@ sites : (site_text (listing [] []) ≡ codes "{\"files\":{\"manifests/site.pp\":
     ≡ codes "{\"files\":{\"manifests/site.pp\":\"x\",\"modules/a/init.pp\":\"y\"},\"nodes\":{\"a\":{},\"b.c\":{\"os\":true}}}")
 unfolding site_object site_data digits serde_json_on_literals
 sites = (refl, refl)
+
+-- manifests and other files stand in one object, by path in byte order
+any_file : site_text (record {
+  manifests = (MAIN_MANIFEST.now, codes "x") ∷ (codes "modules/m/manifests/init.pp", codes "y") ∷ [];
+  «data» = (codes "data/a.json", codes "{}") ∷ (codes "modules/m/hiera.yaml", codes "no: JSON") ∷ (codes "z", []) ∷ [];
+  nodes = [];
+})
+    ≡ codes "{\"files\":{\"data/a.json\":\"{}\",\"manifests/site.pp\":\"x\",\"modules/m/hiera.yaml\":\"no: JSON\",\"modules/m/manifests/init.pp\":\"y\",\"z\":\"\"},\"nodes\":{}}"
+unfolding site_object site_data digits serde_json_on_literals
+any_file = refl
 
 -- entry `call` of author 0, who published this set for node `a`
 abbrev published : ℕ → ℕ → List Exported → Event SiteView

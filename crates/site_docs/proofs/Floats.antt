@@ -1,21 +1,32 @@
 -- No document has a float, so that its text is exact.
-use Rattle.std.proofs.Common.{◌≡◌, ℕ, false, List, map, refl}
-use Rattle.serde_json.specs.Data.{string, array}
+use Rattle.std.proofs.Common.{◌≡◌, ℕ, Bool, true, false, ◌||◌, List, [], ◌∷◌, map, refl}
+use Rattle.std.specs.declared.cmp.Ordering.TheVariants.{Less, Equal, Greater}
+use Rattle.std.specs.Cmp.Lexicographic.{slice_cmp}
+use Rattle.std.specs.Ordering.{nat_cmp, match_ordering}
+use Rattle.serde_json.specs.Data.{Data, Members, no_members, member, put, string, array}
 use Rattle.serde_json.specs.View.{items_of}
-use Rattle.serde_json.specs.Written.{has_float}
+use Rattle.serde_json.specs.Written.{has_float, members_have_float}
 use Rattle.pp_values.specs.Datum.{Datum}
 use Rattle.res_core.specs.declared.held.Held.{Held}
 use Rattle.res_core.specs.declared.edge.Edge.{Edge}
 use Rattle.res_core.specs.declared.catalog.Catalog.{Catalog}
 use Rattle.res_core.specs.declared.exported.Exported.{Exported}
 use Rattle.site_core.specs.Events.{Event, opens, publishes, deactivates}
-use Rattle.json_values.specs.ValueForm.{form}
+use Rattle.json_values.specs.ValueForm.{form, put_all}
 use Rattle.json_values.proofs.Floats.{either, form_no_float, settings_no_float, all_no_float}
-use Rattle.site_bundle.specs.SiteView.{SiteView}
+use Rattle.site_bundle.specs.SiteView.{SiteView, Filed}
 use Rattle.site_docs.specs.CatalogText.{index_data, held_object, held_data, edge_data, catalog_object, catalog_data}
 use Rattle.site_docs.specs.SiteText.{site_object, file_settings, site_data}
 use Rattle.site_docs.specs.JournalText.{export_object, export_data, opening_object, publication_object, deactivation_object, count_object, entry_data}
 use Rattle.site_docs.specs.ReplyText.{refused_object, full_object, ahead_object, unknown_object, deactivated_object, memory_object}
+
+or_first : (a b : Bool) → (a || b) ≡ false → a ≡ false
+or_first true b h = h
+or_first false b h = refl
+
+or_second : (a b : Bool) → (a || b) ≡ false → b ≡ false
+or_second true b h = absurd cc
+or_second false b h = h
 
 held_no_float : (h : Held) → has_float (held_data h) ≡ false
 unfolding held_data held_object
@@ -33,9 +44,26 @@ unfolding catalog_data catalog_object
 catalog_no_float c = either _ _ (all_no_float edge_data edge_no_float c.edges)
     (either _ _ (all_no_float held_data held_no_float c.resources) refl)
 
+put_no_float : (name : List ℕ) (d : Data) (ms : Members) → has_float d ≡ false → members_have_float ms ≡ false →
+    members_have_float (put name d ms) ≡ false
+put_no_float name d no_members one all = either _ _ one refl
+put_no_float name d (member l e ms) one all =
+    elim (slice_cmp nat_cmp name l) as (λ r. members_have_float
+    (match_ordering r (member name d (member l e ms)) (member l d ms) (member l e (put name d ms))) ≡ false) [
+      | Less ↦ either _ _ one all
+      | Equal ↦ either _ _ one (or_second _ _ all)
+      | Greater ↦ either _ _ (or_first _ _ all) (put_no_float name d ms one (or_second _ _ all))
+    ]
+
+files_no_float : (fs : List Filed) (ms : Members) → members_have_float ms ≡ false →
+    members_have_float (put_all (file_settings fs) ms) ≡ false
+files_no_float [] ms none = none
+files_no_float (f ∷ fs) ms none = files_no_float fs _ (put_no_float f.0 _ ms refl none)
+
 pub site_no_float : (s : SiteView) → has_float (site_data s) ≡ false
 unfolding site_data site_object
-site_no_float s = either _ _ (settings_no_float (file_settings s.files)) (either _ _ (settings_no_float s.nodes) refl)
+site_no_float s = either _ _ (files_no_float s.data _ (files_no_float s.manifests no_members refl))
+    (either _ _ (settings_no_float s.nodes) refl)
 
 export_no_float : (e : Exported) → has_float (export_data e) ≡ false
 unfolding export_data export_object

@@ -11,16 +11,16 @@ const MAIN: &str = r#"{"attrs":{},"in":[],"tags":["class","main"],"title":"main"
 
 /// How a run ended, and what it wrote.
 #[derive(Drop)]
-struct Outcome {
-    status: u8,
-    out: Bytes,
-    err: Bytes,
+pub(crate) struct Outcome {
+    pub(crate) status: u8,
+    pub(crate) out: Bytes,
+    pub(crate) err: Bytes,
 }
 
 /// Which call of source, output and error stream is to fail, counted from 1; 0 is none.
-type Failing = (u64, u64, u64);
+pub(crate) type Failing = (u64, u64, u64);
 
-const NONE: Failing = (0, 0, 0);
+pub(crate) const NONE: Failing = (0, 0, 0);
 
 /// The words between the bars; an empty text has none.
 fn words_of(alloc: Global, words: &str) -> Result<Vec<String>, AllocError> {
@@ -33,7 +33,7 @@ fn words_of(alloc: Global, words: &str) -> Result<Vec<String>, AllocError> {
     Ok(found)
 }
 
-fn run<R: Threads + Wait + Sync>(
+pub(crate) fn run<R: Threads + Wait + Sync>(
     rt: &R,
     alloc: Global,
     words: &str,
@@ -54,14 +54,14 @@ fn run<R: Threads + Wait + Sync>(
     })
 }
 
-fn is_outcome(outcome: &Outcome, status: u8, out: &str, err: &str) -> bool {
+pub(crate) fn is_outcome(outcome: &Outcome, status: u8, out: &str, err: &str) -> bool {
     outcome.status == status
         && outcome.out.as_slice() == out.as_bytes()
         && outcome.err.as_slice() == err.as_bytes()
 }
 
 /// Whether a run whose streams do not fail ends so.
-fn ends_as<R: Threads + Wait + Sync>(
+pub(crate) fn ends_as<R: Threads + Wait + Sync>(
     rt: &R,
     alloc: Global,
     words: &str,
@@ -200,7 +200,7 @@ fn nesting_is_bounded(rt: HostRuntime) -> Result<(), Fail> {
 
 const USAGE: &str = "usage: manifest NODE\n";
 
-const WORDS: [(&str, &str); 18] = [
+const WORDS: [(&str, &str); 30] = [
     ("", USAGE),
     ("manifest", USAGE),
     ("manifest|n|n", USAGE),
@@ -219,6 +219,18 @@ const WORDS: [(&str, &str); 18] = [
     ("batch|--workers|65", "bad word 65\n"),
     ("batch|--workers|02", "bad word 02\n"),
     ("batch|--workers|", "bad word \n"),
+    ("lookup", USAGE),
+    ("lookup|n", USAGE),
+    ("lookup|n|k|--merge", USAGE),
+    ("lookup|n|k|deep", USAGE),
+    ("lookup|n|k|-merge|deep", USAGE),
+    ("lookup|n|k|--merge|deep|deep", USAGE),
+    ("Lookup|n|k", USAGE),
+    ("lookup|N|", "bad word N\n"),
+    ("lookup|n|", "bad word \n"),
+    ("lookup|n||--merge|all", "bad word \n"),
+    ("lookup|n|k|--merge|all", "bad word all\n"),
+    ("lookup|n|k|--merge|", "bad word \n"),
 ];
 
 #[test]
@@ -284,7 +296,7 @@ fn refuses_input<R: Threads + Wait + Sync>(
     ends_as(rt, alloc, words, bytes.as_slice(), 11, "", line)
 }
 
-const INPUTS: [(&str, &str, &str); 12] = [
+const INPUTS: [(&str, &str, &str); 14] = [
     ("manifest|n", "notify { '\u{c3}", "B2 manifests/site.pp\n"),
     ("manifest|n", "\u{ff}", "B2 manifests/site.pp\n"),
     ("sequence", "", "B1\n"),
@@ -301,6 +313,8 @@ const INPUTS: [(&str, &str, &str); 12] = [
     ("batch", "{", "B1\n"),
     ("batch|--workers|64", "[]", "B2 bundle\n"),
     ("batch|--workers|64", "{\"bundle\":1}", "B2 files\n"),
+    ("lookup|n|k", "{", "B1\n"),
+    ("lookup|n|k|--merge|deep", "{\"bundle\":1}", "B2 files\n"),
 ];
 
 #[test]

@@ -14,6 +14,8 @@ mod folders_data;
 #[cfg(test)]
 mod journals;
 #[cfg(test)]
+mod lookups;
+#[cfg(test)]
 mod puppet;
 #[cfg(test)]
 mod replies;

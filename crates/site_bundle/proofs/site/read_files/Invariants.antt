@@ -1,12 +1,12 @@
 -- To put in the pairs that are left gives the whole.
-use Rattle.std.proofs.Common.{◌≡◌, [], length}
+use Rattle.std.proofs.Common.{length}
 use Rattle.std.specs.Prelude.{IsTrue}
 use Rattle.site_bundle.specs.Given.{are_short}
-use Rattle.site_bundle.specs.SiteView.{put_in}
+use Rattle.site_bundle.proofs.KeptLemmas.{Leads}
 use Rattle.site_bundle.proofs.site.read_files.Given as goal
 
 abbrev pub invariant-loop-path : goal.invariant-loop-path
-invariant-loop-path l = (put_in l.read l.left ≡ put_in [] l.fn.files) × IsTrue (are_short l.left)
+invariant-loop-path l = Leads l.read l.left l.fn.files × IsTrue (are_short l.left)
 
 abbrev pub decreases-loop-path : goal.decreases-loop-path
 decreases-loop-path l = length l.left

@@ -1,0 +1,223 @@
+//! Sites with data: what `lookup` writes, and what `sequence` makes of them, over streams in memory.
+use crate::commands::{Failing, NONE, ends_as, is_outcome, run};
+use std::alloc::{AllocError, Global};
+use std::sync::Wait;
+use std::test::Fail;
+use std::thread::Threads;
+
+/// The value of `a` is a number that is no integer, that of `b` is one.
+const NUMBERS: &str =
+    r#"{"bundle": 1, "files": {"manifests/site.pp": "", "hiera.yaml": "{\"version\":5,\"hierarchy\":[{\"name\":\"common\",\"path\":\"common.json\"}]}", "data/common.json": "{\"a\":0.5,\"b\":1}"}}"#;
+
+/// Three files with hashes.
+const HASHES: &str =
+    r#"{"bundle": 1, "files": {"manifests/site.pp": "", "hiera.yaml": "{\"version\":5,\"hierarchy\":[{\"name\":\"all\",\"paths\":[\"1.json\",\"2.json\",\"3.json\"]}]}", "data/1.json": "{\"k\":{\"a\":1,\"b\":[1,2]}}", "data/2.json": "{\"k\":{\"a\":2,\"b\":[2,3],\"c\":{\"x\":1}}}", "data/3.json": "{\"k\":{\"c\":{\"y\":2},\"d\":5}}"}}"#;
+
+/// Three files with lists and a text, of which the data say by which merge `o` becomes one.
+const LISTS: &str =
+    r#"{"bundle": 1, "files": {"manifests/site.pp": "", "hiera.yaml": "{\"version\":5,\"hierarchy\":[{\"name\":\"all\",\"paths\":[\"1.json\",\"2.json\",\"3.json\"]}]}", "data/1.json": "{\"k\":[1,[2]],\"o\":[1],\"lookup_options\":{\"o\":{\"merge\":\"unique\"}}}", "data/2.json": "{\"k\":[2,3],\"o\":[2]}", "data/3.json": "{\"k\":\"4\"}"}}"#;
+
+/// A key that looks itself up, and one that reads a variable that there is not.
+const WITHIN: &str =
+    r#"{"bundle": 1, "files": {"manifests/site.pp": "", "hiera.yaml": "{\"version\":5,\"hierarchy\":[{\"name\":\"common\",\"path\":\"common.json\"}]}", "data/common.json": "{\"a\":\"%{lookup('a')}\",\"m\":\"x%{nope}y\"}"}}"#;
+
+/// The main manifest has a fault; of the nodes, one has facts and one has none.
+const NODES: &str =
+    r#"{"bundle": 1, "files": {"manifests/site.pp": "notify {", "hiera.yaml": "{\"version\":5,\"hierarchy\":[{\"name\":\"nodes\",\"path\":\"%{trusted.certname}.json\"},{\"name\":\"common\",\"path\":\"common.json\"}]}", "data/web1.json": "{\"who\":\"web1 itself\"}", "data/common.json": "{\"os\":\"<%{os}>\",\"facts\":\"%{alias('all')}\",\"all\":[\"%{facts.os}\"],\"who\":\"%{trusted.hostname} in %{trusted.domain}\",\"at\":\"%{environment}\"}"}, "nodes": {"web1": {"os": "debian"}, "lb": {}}}"#;
+
+const LOOKUPS: [(&str, &str, u8, &str, &str); 26] = [
+    ("lookup|n|b", NUMBERS, 0, "1\n", ""),
+    (
+        "lookup|n|a",
+        NUMBERS,
+        1,
+        "",
+        "F23 lookup:1 BadData data/common.json\n",
+    ),
+    (
+        "lookup|n|k|--merge|first",
+        HASHES,
+        0,
+        "{\"a\":1,\"b\":[1,2]}\n",
+        "",
+    ),
+    (
+        "lookup|n|k|--merge|hash",
+        HASHES,
+        0,
+        "{\"__ptype\":\"Hash\",\"__pvalue\":[\"c\",{\"x\":1},\"d\",5,\"a\",1,\"b\",[1,2]]}\n",
+        "",
+    ),
+    (
+        "lookup|n|k|--merge|deep",
+        HASHES,
+        0,
+        r#"{"__ptype":"Hash","__pvalue":["c",{"__ptype":"Hash","__pvalue":["y",2,"x",1]},"d",5,"a",1,"b",[2,3,1]]}
+"#,
+        "",
+    ),
+    (
+        "lookup|n|k|--merge|unique",
+        HASHES,
+        1,
+        "",
+        "F22 lookup:1 MergeMismatch k\n",
+    ),
+    ("lookup|n|k", HASHES, 0, "{\"a\":1,\"b\":[1,2]}\n", ""),
+    ("lookup|n|k.b.1", HASHES, 0, "2\n", ""),
+    (
+        "lookup|n|k.c",
+        HASHES,
+        1,
+        "",
+        "F20 lookup:1 LookupMissing k.c\n",
+    ),
+    ("lookup|n|k.c|--merge|hash", HASHES, 0, "{\"x\":1}\n", ""),
+    ("lookup|n|k|--merge|unique", LISTS, 0, "[1,2,3,\"4\"]\n", ""),
+    ("lookup|n|o", LISTS, 0, "[1,2]\n", ""),
+    ("lookup|n|o|--merge|first", LISTS, 0, "[1]\n", ""),
+    ("lookup|n|m", WITHIN, 0, "\"xy\"\n", ""),
+    ("lookup|n|a", WITHIN, 1, "", "F21 lookup:1 LookupLoop a\n"),
+    (
+        "lookup|n|zz",
+        WITHIN,
+        1,
+        "",
+        "F20 lookup:1 LookupMissing zz\n",
+    ),
+    (
+        "lookup|n|--merge",
+        WITHIN,
+        1,
+        "",
+        "F20 lookup:1 LookupMissing --merge\n",
+    ),
+    ("lookup|web1|os", NODES, 0, "\"<debian>\"\n", ""),
+    ("lookup|lb|os", NODES, 0, "\"<>\"\n", ""),
+    ("lookup|other|os", NODES, 0, "\"<>\"\n", ""),
+    ("lookup|web1|facts", NODES, 0, "[\"debian\"]\n", ""),
+    ("lookup|other|facts", NODES, 0, "[\"\"]\n", ""),
+    ("lookup|web1|who", NODES, 0, "\"web1 itself\"\n", ""),
+    ("lookup|lb.dom.ain|who", NODES, 0, "\"lb in dom.ain\"\n", ""),
+    ("lookup|lb|at", NODES, 0, "\"production\"\n", ""),
+    (
+        "lookup|n|::os",
+        NODES,
+        1,
+        "",
+        "F20 lookup:1 LookupMissing ::os\n",
+    ),
+];
+
+#[test]
+fn values_are_looked_up(rt: HostRuntime) -> Result<(), Fail> {
+    for (words, bundle, status, out, err) in LOOKUPS.iter() {
+        assert!(rt;
+            ends_as(&rt, rt.alloc(), words, bundle.as_bytes(), *status, out, err)?,
+            "{words}"
+        );
+    }
+    Ok(())
+}
+
+/// Whether a look-up whose streams fail so ends with this status, and writes this.
+fn fails_as<R: Threads + Wait + Sync>(
+    rt: &R,
+    alloc: Global,
+    words: &str,
+    failing: Failing,
+    status: u8,
+    out: &str,
+    err: &str,
+) -> Result<bool, AllocError> {
+    let outcome = run(rt, alloc, words, NUMBERS.as_bytes(), failing)?;
+    Ok(is_outcome(&outcome, status, out, err))
+}
+
+const STREAMS: [(&str, Failing, u8, &str, &str); 6] = [
+    ("lookup|n|b", NONE, 0, "1\n", ""),
+    ("lookup|n|b", (1, 0, 0), 12, "", "read fault\n"),
+    ("lookup|n|b", (0, 1, 0), 13, "", ""),
+    ("lookup|n|b", (0, 0, 1), 0, "1\n", ""),
+    (
+        "lookup|n|z",
+        (0, 1, 0),
+        1,
+        "",
+        "F20 lookup:1 LookupMissing z\n",
+    ),
+    ("lookup|n|z", (0, 0, 1), 13, "", ""),
+];
+
+#[test]
+fn faults_of_streams_are_told(rt: HostRuntime) -> Result<(), Fail> {
+    for (words, failing, status, out, err) in STREAMS.iter() {
+        assert!(rt;
+            fails_as(&rt, rt.alloc(), words, *failing, *status, out, err)?,
+            "{words} {status}"
+        );
+    }
+    Ok(())
+}
+
+/// Bundles with facts and data, and what one request after another comes to.
+const BUNDLES: [(&str, &str); 3] = [
+    (
+        r#"{"bundle": 1, "files": {"manifests/site.pp": "node default { @@host { $trusted['certname']: ip => $facts['networking']['ip'], tag => 'web' } }\nnode 'lb' { Host <<| tag == 'web' |>> }\n"}, "nodes": {"lb": {}, "web1": {"networking": {"ip": "10.0.0.1"}}}, "requests": [{"node": "lb"}, {"node": "web1"}, {"node": "lb"}, {"deactivate": "web1"}, {"node": "lb"}]}"#,
+        r#"{"entry":0,"journal":1,"kind":"open","site":{"files":{"manifests/site.pp":"node default { @@host { $trusted['certname']: ip => $facts['networking']['ip'], tag => 'web' } }\nnode 'lb' { Host <<| tag == 'web' |>> }\n"},"nodes":{"lb":{},"web1":{"networking":{"ip":"10.0.0.1"}}}}}
+{"author":0,"call":0,"entry":1,"facts":{},"k":1,"kind":"publish","node":"lb","set":[]}
+{"author":0,"call":1,"entry":2,"facts":{"networking":{"ip":"10.0.0.1"}},"k":2,"kind":"publish","node":"web1","set":[{"at":"manifests/site.pp:1","attrs":{"ip":"10.0.0.1"},"tags":["class","host","main","web","web1"],"title":"web1","type":"Host"}]}
+{"author":0,"call":2,"entry":3,"facts":{},"k":3,"kind":"publish","node":"lb","set":[]}
+{"author":0,"call":3,"entry":4,"kind":"deactivate","node":"web1"}
+{"author":0,"call":4,"entry":5,"facts":{},"k":5,"kind":"publish","node":"lb","set":[]}
+{"entries":6}
+{"catalog":{"catalog":1,"edges":[],"node":"lb","resources":[{"attrs":{},"in":[],"tags":["class","main"],"title":"main","type":"Class"}]},"entry":1,"k":1,"reply":0}
+{"catalog":{"catalog":1,"edges":[],"node":"web1","resources":[{"attrs":{},"in":[],"tags":["class","main"],"title":"main","type":"Class"}]},"entry":2,"k":2,"reply":1}
+{"catalog":{"catalog":1,"edges":[],"node":"lb","resources":[{"attrs":{},"in":[],"tags":["class","main"],"title":"main","type":"Class"},{"attrs":{"ip":"10.0.0.1"},"in":[0],"tags":["class","host","main","web","web1"],"title":"web1","type":"Host"}]},"entry":3,"k":3,"reply":2}
+{"entry":4,"reply":3}
+{"catalog":{"catalog":1,"edges":[],"node":"lb","resources":[{"attrs":{},"in":[],"tags":["class","main"],"title":"main","type":"Class"}]},"entry":5,"k":5,"reply":4}
+"#,
+    ),
+    (
+        r#"{"bundle":1,"files":{"manifests/site.pp":""},"nodes":{"a":{"load":0.5,"n":3}},"requests":[{"node":"a"},{"node":"b","facts":{"load":0.5,"n":3}}]}"#,
+        r#"{"entry":0,"journal":1,"kind":"open","site":{"files":{"manifests/site.pp":""},"nodes":{"a":{"load":null,"n":3}}}}
+{"author":0,"call":0,"entry":1,"facts":{"load":null,"n":3},"k":1,"kind":"publish","node":"a","set":[]}
+{"author":0,"call":1,"entry":2,"facts":{"load":null,"n":3},"k":2,"kind":"publish","node":"b","set":[]}
+{"entries":3}
+{"catalog":{"catalog":1,"edges":[],"node":"a","resources":[{"attrs":{},"in":[],"tags":["class","main"],"title":"main","type":"Class"}]},"entry":1,"k":1,"reply":0}
+{"catalog":{"catalog":1,"edges":[],"node":"b","resources":[{"attrs":{},"in":[],"tags":["class","main"],"title":"main","type":"Class"}]},"entry":2,"k":2,"reply":1}
+"#,
+    ),
+    (
+        r#"{"bundle": 1, "files": {"manifests/site.pp": "include ntp\n", "modules/ntp/manifests/init.pp": "class ntp($servers, $package = 'ntp') {\n  package { $package: ensure => installed }\n  file { '/etc/ntp.conf': content => join($servers, ' ') }\n}\n", "hiera.yaml": "{\"version\":5,\"hierarchy\":[{\"name\":\"nodes\",\"path\":\"nodes/%{trusted.certname}.json\"},{\"name\":\"common\",\"path\":\"common.json\"}]}", "data/common.json": "{\"ntp::servers\":[\"0.pool\",\"1.pool\"]}", "data/nodes/web1.json": "{\"ntp::servers\":[\"10.0.0.9\"]}"}, "nodes": {"a": {}, "web1": {}}, "requests": [{"node": "a"}, {"node": "web1"}]}"#,
+        r#"{"entry":0,"journal":1,"kind":"open","site":{"files":{"data/common.json":"{\"ntp::servers\":[\"0.pool\",\"1.pool\"]}","data/nodes/web1.json":"{\"ntp::servers\":[\"10.0.0.9\"]}","hiera.yaml":"{\"version\":5,\"hierarchy\":[{\"name\":\"nodes\",\"path\":\"nodes/%{trusted.certname}.json\"},{\"name\":\"common\",\"path\":\"common.json\"}]}","manifests/site.pp":"include ntp\n","modules/ntp/manifests/init.pp":"class ntp($servers, $package = 'ntp') {\n  package { $package: ensure => installed }\n  file { '/etc/ntp.conf': content => join($servers, ' ') }\n}\n"},"nodes":{"a":{},"web1":{}}}}
+{"author":0,"call":0,"entry":1,"facts":{},"k":1,"kind":"publish","node":"a","set":[]}
+{"author":0,"call":1,"entry":2,"facts":{},"k":2,"kind":"publish","node":"web1","set":[]}
+{"entries":3}
+{"catalog":{"catalog":1,"edges":[],"node":"a","resources":[{"attrs":{},"in":[],"tags":["class","main"],"title":"main","type":"Class"},{"attrs":{"package":"ntp","servers":["0.pool","1.pool"]},"in":[],"tags":["class","main","ntp"],"title":"ntp","type":"Class"},{"attrs":{"ensure":"installed"},"in":[1],"tags":["class","main","ntp","package"],"title":"ntp","type":"Package"},{"attrs":{"content":"0.pool 1.pool"},"in":[1],"tags":["class","file","main","ntp"],"title":"/etc/ntp.conf","type":"File"}]},"entry":1,"k":1,"reply":0}
+{"catalog":{"catalog":1,"edges":[],"node":"web1","resources":[{"attrs":{},"in":[],"tags":["class","main"],"title":"main","type":"Class"},{"attrs":{"package":"ntp","servers":["10.0.0.9"]},"in":[],"tags":["class","main","ntp"],"title":"ntp","type":"Class"},{"attrs":{"ensure":"installed"},"in":[1],"tags":["class","main","ntp","package"],"title":"ntp","type":"Package"},{"attrs":{"content":"10.0.0.9"},"in":[1],"tags":["class","file","main","ntp"],"title":"/etc/ntp.conf","type":"File"}]},"entry":2,"k":2,"reply":1}
+"#,
+    ),
+];
+
+fn answers<R: Threads + Wait + Sync>(
+    rt: &R,
+    alloc: Global,
+    bundle: &str,
+    out: &str,
+) -> Result<bool, AllocError> {
+    for words in ["sequence", "batch"].iter() {
+        if !ends_as(rt, alloc, words, bundle.as_bytes(), 0, out, "")? {
+            return Ok(false);
+        }
+    }
+    Ok(true)
+}
+
+#[test]
+fn facts_and_data_count(rt: HostRuntime) -> Result<(), Fail> {
+    for (bundle, out) in BUNDLES.iter() {
+        assert!(rt; answers(&rt, rt.alloc(), bundle, out)?, "{bundle}");
+    }
+    Ok(())
+}

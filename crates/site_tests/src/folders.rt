@@ -16,9 +16,10 @@ pub type Case = (&'static str, &'static str, u8, &'static str);
 pub fn is_answered<R: Threads + Wait + Sync>(
     rt: &R,
     alloc: Global,
-    case: &Case,
+    folder: &str,
+    status: u8,
+    replies: &str,
 ) -> Result<bool, AllocError> {
-    let (_, folder, status, replies) = case;
     let bundle = bundle_of(alloc, folder)?;
     let mut words = Vec::new(alloc);
     words.push(String::from_str(alloc, "sequence")?)?;
@@ -29,7 +30,7 @@ pub fn is_answered<R: Threads + Wait + Sync>(
     let ended = site_main(rt, alloc, words, &mut source, &mut out, &mut err, &OpenGate);
     let written = unbroken(alloc, out.into_written().as_slice())?;
     let wanted = unbroken(alloc, replies.as_bytes())?;
-    Ok(ended == *status && written.as_slice().ends_with(wanted.as_slice()))
+    Ok(ended == status && written.as_slice().ends_with(wanted.as_slice()))
 }
 
 /// The bytes without line feeds.
@@ -464,8 +465,11 @@ class base::shelf { }
 
 #[test]
 fn modules_are_compiled(rt: HostRuntime) -> Result<(), Fail> {
-    for case in MODULES.iter() {
-        assert!(is_answered(&rt, rt.alloc(), case)?);
+    for (name, folder, status, replies) in MODULES.iter() {
+        assert!(rt;
+            is_answered(&rt, rt.alloc(), folder, *status, replies)?,
+            "{name}"
+        );
     }
     Ok(())
 }

@@ -535,16 +535,22 @@ class shop($goods) { }
 
 #[test]
 fn data_are_looked_up(rt: HostRuntime) -> Result<(), Fail> {
-    for case in DATA.iter() {
-        assert!(is_answered(&rt, rt.alloc(), case)?);
+    for (name, folder, status, replies) in DATA.iter() {
+        assert!(rt;
+            is_answered(&rt, rt.alloc(), folder, *status, replies)?,
+            "{name}"
+        );
     }
     Ok(())
 }
 
 #[test]
 fn faults_of_data_are_told(rt: HostRuntime) -> Result<(), Fail> {
-    for case in FAULTS.iter() {
-        assert!(is_answered(&rt, rt.alloc(), case)?);
+    for (name, folder, status, replies) in FAULTS.iter() {
+        assert!(rt;
+            is_answered(&rt, rt.alloc(), folder, *status, replies)?,
+            "{name}"
+        );
     }
     Ok(())
 }

@@ -8,6 +8,10 @@ mod commands;
 #[cfg(test)]
 mod compiling;
 #[cfg(test)]
+mod folders;
+#[cfg(test)]
+mod folders_data;
+#[cfg(test)]
 mod journals;
 #[cfg(test)]
 mod lookups;

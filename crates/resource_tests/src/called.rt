@@ -152,9 +152,9 @@ fn name_of(alloc: Global, called: Called) -> Result<Option<Value>, Memory> {
 
 fn attributes(alloc: Global, kind: &Kind, called: Called) -> Result<Attributes, Memory> {
     let mut items = Vec::new(alloc);
-    if let Some(native) = native(kind.as_text()) {
+    if let Some(found) = native(kind.as_text()) {
         if let Some(name) = name_of(alloc, called)? {
-            put(alloc, &mut items, namevar(native), name)?;
+            put(alloc, &mut items, namevar(found), name)?;
         }
     }
     if let Called::Web(provider) = called {
@@ -208,24 +208,33 @@ fn is_of(reference: &Reference, title: &str) -> bool {
     reference.title.is(title)
 }
 
+fn are_told(told: Option<(&str, &str)>, later: &Reference, earlier: &Reference) -> bool {
+    match told {
+        Some(titles) => is_of(later, titles.0) && is_of(earlier, titles.1),
+        None => false,
+    }
+}
+
+fn is_what(told: Option<(&str, &str)>, what: &What) -> bool {
+    match what {
+        What::SameNamevar { later, earlier } => are_told(told, later, earlier),
+        _ => false,
+    }
+}
+
 /// Whether this is what comes of a book.
 fn is_told(told: Option<(&str, &str)>, outcome: Result<(), Stop>) -> Result<bool, Memory> {
     match outcome {
         Ok(()) => Ok(told.is_none()),
         Err(Stop::Memory) => Err(Memory),
-        Err(Stop::Fault(fault)) => Ok(match (told, fault.what.get()) {
-            (Some(titles), What::SameNamevar { later, earlier }) => {
-                is_of(later, titles.0) && is_of(earlier, titles.1)
-            }
-            _ => false,
-        }),
+        Err(Stop::Fault(fault)) => Ok(is_what(told, fault.what.get())),
     }
 }
 
 fn outcome(alloc: Global, row: &Row) -> Result<(), Stop> {
     let mut book = Book::new(alloc);
-    for (kind, title, called) in row.declared {
-        declare(alloc, &mut book, kind, title, *called)?;
+    for item in row.declared {
+        declare(alloc, &mut book, item.0, item.1, item.2)?;
     }
     finished(alloc, book)
 }

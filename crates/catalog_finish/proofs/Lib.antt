@@ -5,5 +5,6 @@ pub mod LayoutLemmas
 pub mod BelowLemmas
 pub mod ExportLemmas
 pub mod RelatingLemmas
+pub mod NameLemmas
 mod Samples
 mod Examples

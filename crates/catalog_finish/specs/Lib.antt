@@ -12,4 +12,5 @@ pub mod Relating
 pub mod Exporting
 pub mod Naming
 pub mod NameCodes
+pub mod NameKeys
 pub mod Finishing

@@ -1,7 +1,7 @@
 //! The attributes of resources in the catalog, and of those that are exported.
-ghost use Rattle.std.specs.Prelude.{◌≡◌, ◌<◌, ◌∷◌, [], ◌++◌, ◌||◌, filter, length, not, Some, IfOk, IsTrue, OnOk, slice_get, unwrap_or};
+ghost use Rattle.std.specs.Prelude.{◌≡◌, ◌<◌, ◌∷◌, [], ◌++◌, ◌||◌, filter, length, not, option_map, Some, IfOk, IsTrue, OnOk, slice_get, unwrap_or};
 ghost use Rattle.pp_values.specs.Views.{view};
-ghost use Rattle.res_core.specs.AttributeViews.{setting, settings};
+ghost use Rattle.res_core.specs.AttributeViews.{set_in, setting, settings};
 ghost use Rattle.res_core.specs.Metaparameters.{is_relation_name};
 ghost use Rattle.res_core.specs.PlainAttributes.{are_plain};
 ghost use Rattle.override_rules.specs.Names.{attributes_of};
@@ -40,6 +40,21 @@ fn is_native(item: &Declared) -> bool
     ensures { result ≡ native_meant item.now }
 {
     native(item.item.kind.as_text()).is_some()
+}
+
+/// What the declaration, the lines on it and the defaults set for one name.
+pub fn set_attribute(
+    alloc: Global,
+    book: &Book,
+    lines: &Overrides,
+    number: u32,
+    row: &Row,
+    name: &Text,
+) -> Result<Option<Value>, Memory>
+    requires { slice_get book.now number ≡ Some row.now }
+    ensures { IfOk result (λ o. option_map view o ≡ set_in (attributes_of lines.now row.now) name.now) }
+{
+    lines.attribute(alloc, book, number, name)
 }
 
 /// All that the declaration, the lines on it and the defaults set.

@@ -132,6 +132,9 @@ fn cycle_before(alloc: Global, graph: &Graph) -> Result<Option<Indexes>, Memory>
     ensures { IfOk result (λ o. o
         ≡ first_cycle (is_direct graph.now.containers graph.now.edges graph.now.count) graph.now.count) }
 {
+    if !graph.has_cycle() {
+        return Ok(None);
+    }
     match graph.order(alloc) {
         Ok(_order) => Ok(None),
         Err(OrderStop::Cycle(cycle)) => Ok(Some(cycle)),

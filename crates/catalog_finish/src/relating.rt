@@ -2,17 +2,19 @@
 ghost use Rattle.std.specs.Prelude.{◌≡◌, Some, OnOk, slice_get};
 ghost use Rattle.pp_values.specs.Answers.{Answers};
 ghost use Rattle.res_core.specs.AttributeViews.{set_in};
+ghost use Rattle.override_rules.specs.Names.{attributes_of};
 ghost use Rattle.catalog_finish.specs.RelationParameters.{joined_by, name_of, goes_before, does_signal};
 ghost use Rattle.catalog_finish.specs.Relating.{operand_of as operand_meant, side_of as side_meant, ends_of as ends_meant, lines_related as lines_meant, set_targets as set_meant, metaparameter_step, row_related as row_meant, row_step, rows_related as rows_meant, related_pairs as pairs_meant};
 ghost use Rattle.catalog_finish.specs.Sources.{sources_of};
 
+use crate::attributes::set_attribute;
 use crate::collecting::collected;
 use crate::edge_table::EdgeTable;
 use crate::tables::Tables;
 use crate::targets::{target, targets};
 use pp_values::{Memory, Place, Stop, Text};
 use res_book::{RelationLine, Row};
-use res_core::{Attributes, Indexes, Operand};
+use res_core::{Indexes, Operand};
 use std::alloc::Global;
 
 /// The resources on the two sides of a relation.
@@ -122,12 +124,12 @@ fn lines_related(
     Ok(edges)
 }
 
-/// A live resource with its attributes.
+/// A live resource, by its declaration and its index.
 #[derive(Clone, Copy)]
 struct Subject<'a> {
-    at: &'a Place,
+    number: u32,
+    row: &'a Row,
     index: u32,
-    attributes: &'a Attributes,
 }
 
 /// What the attribute of this name says that its resource is related to.
@@ -137,13 +139,19 @@ fn set_targets(
     subject: &Subject<'_>,
     name: &Text,
 ) -> Result<Indexes, Stop>
-    ensures { Answers result (set_meant (sources_of tables.now) subject.now.at.now name.now
-        (set_in subject.now.attributes.now name.now)) }
+    requires { slice_get tables.now.book.now subject.now.number ≡ Some subject.now.row.now }
+    ensures { Answers result (set_meant (sources_of tables.now) subject.now.row.now.item.at name.now
+        (set_in (attributes_of tables.now.lines.now subject.now.row.now) name.now)) }
 {
-    match subject.attributes.get(name) {
+    let Subject {
+        number,
+        row,
+        index: _,
+    } = *subject;
+    match set_attribute(alloc, tables.book, tables.lines, number, row, name)? {
         Some(value) => {
             let found = Indexes::new(alloc);
-            targets(alloc, tables, subject.at, name, value, found)
+            targets(alloc, tables, &row.item.at, name, &value, found)
         }
         None => Ok(Indexes::new(alloc)),
     }
@@ -165,8 +173,9 @@ fn related_by(
     by: Metaparameter,
     edges: EdgeTable,
 ) -> Result<EdgeTable, Stop>
-    ensures { Answers result (metaparameter_step (sources_of tables.now) subject.now.at.now subject.now.index
-        subject.now.attributes.now by edges) }
+    requires { slice_get tables.now.book.now subject.now.number ≡ Some subject.now.row.now }
+    ensures { Answers result (metaparameter_step (sources_of tables.now) subject.now.row.now.item.at subject.now.index
+        (attributes_of tables.now.lines.now subject.now.row.now) by edges) }
 {
     let name = Text::from_str(alloc, by.name())?;
     let others = set_targets(alloc, tables, subject, &name)?;
@@ -186,12 +195,7 @@ fn row_related(
     requires { slice_get tables.now.book.now number ≡ Some row.now }
     ensures { Answers result (row_meant (sources_of tables.now) index row.now edges) }
 {
-    let attributes = tables.lines.attributes(alloc, tables.book, number)?;
-    let subject = Subject {
-        at: &row.item.at,
-        index,
-        attributes: &attributes,
-    };
+    let subject = Subject { number, row, index };
     let edges = related_by(alloc, tables, &subject, Metaparameter::Before, edges)?;
     let edges = related_by(alloc, tables, &subject, Metaparameter::Require, edges)?;
     let edges = related_by(alloc, tables, &subject, Metaparameter::Notify, edges)?;

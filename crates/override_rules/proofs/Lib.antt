@@ -5,6 +5,7 @@ pub mod Places
 pub mod Walks
 pub mod Kept
 pub mod Outward
+pub mod NoDefaults
 pub mod Gathered
 pub mod Among
 pub mod Ranges

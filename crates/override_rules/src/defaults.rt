@@ -1,4 +1,4 @@
-ghost use Rattle.std.specs.Prelude.{◌≡◌, ◌≤◌, ◌<◌, ◌^◌, [], None, length, if◌then◌else◌, is_ok, option_map, OnOk, IfOk};
+ghost use Rattle.std.specs.Prelude.{◌≡◌, ◌≤◌, ◌<◌, ◌^◌, [], None, true, length, if◌then◌else◌, is_ok, option_map, OnOk, IfOk};
 ghost use Rattle.pp_values.specs.Rising.{with_texts};
 ghost use Rattle.pp_values.specs.Views.{view};
 ghost use Rattle.override_rules.specs.Defaults.{default_in, default_key, with_default, defaults_for};
@@ -58,6 +58,13 @@ impl Defaults {
         ensures fits { result ≤ length self.now }
     {
         self.counts.at(kind.as_text())
+    }
+
+    /// Whether no scope has one for a kind.
+    pub fn has_none(&self, kind: &Kind) -> bool
+        ensures { result ≡ true → length (defaults_for kind.now self.now) ≡ 0 }
+    {
+        self.count(kind) == 0
     }
 
     /// What the scope itself has.

@@ -77,8 +77,26 @@ fn put_number(
     }
 }
 
-/// Puts the names of the defaults for the kind on the way out from the scope into the set.
+/// Puts the names of the defaults for the kind on the way out from the scope into the set. Where there are none for the
+/// kind, the way is not gone.
 pub fn put_defaults(
+    alloc: Global,
+    scopes: &Scopes,
+    defaults: &Defaults,
+    kind: &Kind,
+    scope: u32,
+    names: &mut BTreeSet<Text>,
+) -> Result<(), Memory>
+    ensures { OnOk result (names.new.keys
+        ≡ with_texts names.old.keys (names_within (length scopes.now) scopes.now defaults.now kind.now (Some scope))) }
+{
+    if defaults.has_none(kind) {
+        return Ok(());
+    }
+    put_outward(alloc, scopes, defaults, kind, scope, names)
+}
+
+fn put_outward(
     alloc: Global,
     scopes: &Scopes,
     defaults: &Defaults,

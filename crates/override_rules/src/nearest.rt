@@ -7,8 +7,24 @@ use crate::defaults::Defaults;
 use crate::scopes::Scopes;
 use pp_values::{Kind, Text, Value};
 
-/// The default for the kind and name that is nearest to the scope.
+/// The default for the kind and name that is nearest to the scope. Where there is none for the kind, the way out is not
+/// gone.
 pub fn nearest<'a>(
+    scopes: &Scopes,
+    defaults: &'a Defaults,
+    kind: &Kind,
+    name: &Text,
+    scope: u32,
+) -> Option<&'a Value>
+    ensures { option_map (λ v. view v.now) result ≡ nearest_meant scopes.now defaults.now kind.now name.now scope }
+{
+    if defaults.has_none(kind) {
+        return None;
+    }
+    nearest_outward(scopes, defaults, kind, name, scope)
+}
+
+fn nearest_outward<'a>(
     scopes: &Scopes,
     defaults: &'a Defaults,
     kind: &Kind,

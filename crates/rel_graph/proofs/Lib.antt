@@ -13,3 +13,4 @@ pub mod Plain
 pub mod Uniqueness
 pub mod Contained
 pub mod Within
+pub mod SpanLemmas

@@ -8,4 +8,5 @@ pub mod Distances
 pub mod Listing
 pub mod Stops
 pub mod Graphs
+pub mod Spans
 pub mod Laws

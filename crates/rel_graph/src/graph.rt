@@ -3,10 +3,12 @@ ghost use Rattle.rel_graph.specs.Before.{Before, SomeBeforeItself};
 ghost use Rattle.rel_graph.specs.Chains.{Paired};
 ghost use Rattle.rel_graph.specs.Graphs.{NoneInsideItself, containment_pair, edge_pair};
 ghost use Rattle.rel_graph.specs.Pairs.{AllBelow};
+ghost use Rattle.rel_graph.specs.Spans.{IsCyclic};
 ghost use Rattle.rel_graph.specs.Stops.{IsContainedStop, Builds, Sorts};
 
 use crate::containment::{Containers, Containment};
 use crate::sorting::sort;
+use crate::spans::is_laid_out;
 use crate::stops::{GraphStop, OrderStop};
 use res_core::{Edge, EdgeList, Indexes};
 use std::alloc::{AllocError, Global};
@@ -86,6 +88,27 @@ fn is_cyclic(
     }
 }
 
+/// Whether some resource comes before itself, where none stands inside itself. Cycles are looked for only where the
+/// resources can't be laid out on a line.
+fn cyclic_of(
+    alloc: Global,
+    containers: &[(u32, u32)],
+    edges: &[(u32, u32)],
+    count: u32,
+) -> Result<bool, GraphStop>
+    requires below { AllBelow containers.now count }
+    requires edges_below { AllBelow edges.now count }
+    ensures { MatchResult result (IsCyclic containers.now edges.now) (IsContainedStop (Paired containers.now)) }
+{
+    let laid_out = is_laid_out(alloc, containers, edges, count)?;
+    if laid_out {
+        return Ok(false);
+    }
+    check_containment(alloc, containers, count)?;
+    let cyclic = is_cyclic(alloc, containers, edges, count)?;
+    Ok(cyclic)
+}
+
 /// A graph, unless containment leads from a resource back to itself. Of the edges the pairs alone count here, and not
 /// which of them signal.
 pub fn build(
@@ -100,8 +123,7 @@ pub fn build(
 {
     let containers = containment_pairs(alloc, containers.as_slice())?;
     let edges = edge_pairs(alloc, edges.as_slice())?;
-    check_containment(alloc, containers.as_slice(), count)?;
-    let cyclic = is_cyclic(alloc, containers.as_slice(), edges.as_slice(), count)?;
+    let cyclic = cyclic_of(alloc, containers.as_slice(), edges.as_slice(), count)?;
     Ok(Graph {
         count,
         containers,

@@ -10,8 +10,10 @@ mod laws;
 mod listed;
 mod listing;
 mod marks;
+mod points;
 mod ranges;
 mod sorting;
+mod spans;
 mod stops;
 
 pub use containment::{Containers, Containment};

@@ -320,3 +320,150 @@ fn cycles(rt: HostRuntime) -> Result<(), Fail> {
     }
     Ok(())
 }
+
+/// How many resources stand beside each other or within each other, each pair made of an index and the next one.
+const MANY: u32 = 2_000;
+
+/// A graph of many resources, by which of the two of a pair comes first.
+struct Shape {
+    word: &'static str,
+    containers: Side,
+    edges: Side,
+    /// Whether an edge leads from the last resource to the first.
+    closed: bool,
+    cyclic: bool,
+}
+
+#[derive(Clone, Copy)]
+enum Side {
+    None,
+    /// The lesser index.
+    Lesser,
+    /// The greater index.
+    Greater,
+    /// The lesser one where it is even.
+    Turns,
+    /// The first of all.
+    First,
+}
+
+const SHAPES: &[Shape] = &[
+    Shape {
+        word: "each in the one before",
+        containers: Side::Lesser,
+        edges: Side::None,
+        closed: false,
+        cyclic: false,
+    },
+    Shape {
+        word: "each in the one behind",
+        containers: Side::Greater,
+        edges: Side::None,
+        closed: false,
+        cyclic: false,
+    },
+    Shape {
+        word: "one after another in the first",
+        containers: Side::First,
+        edges: Side::None,
+        closed: false,
+        cyclic: false,
+    },
+    Shape {
+        word: "backwards",
+        containers: Side::None,
+        edges: Side::Greater,
+        closed: false,
+        cyclic: false,
+    },
+    Shape {
+        word: "in turns",
+        containers: Side::None,
+        edges: Side::Turns,
+        closed: false,
+        cyclic: false,
+    },
+    Shape {
+        word: "the first before all that is in it",
+        containers: Side::First,
+        edges: Side::First,
+        closed: false,
+        cyclic: true,
+    },
+    Shape {
+        word: "a ring",
+        containers: Side::None,
+        edges: Side::Turns,
+        closed: true,
+        cyclic: false,
+    },
+];
+
+fn pair(side: Side, at: u32) -> Option<(u32, u32)> {
+    match side {
+        Side::None => None,
+        Side::Lesser => Some((at, at + 1)),
+        Side::Greater => Some((at + 1, at)),
+        Side::Turns => {
+            if at % 2 == 0 {
+                return Some((at, at + 1));
+            }
+            Some((at + 1, at))
+        }
+        Side::First => Some((0, at + 1)),
+    }
+}
+
+fn many_containers(alloc: Global, side: Side) -> Result<Containers, Memory> {
+    let mut containers = Containers::new(alloc);
+    for at in 0..MANY - 1 {
+        if let Some((container, member)) = pair(side, at) {
+            containers.push(Containment { container, member })?;
+        }
+    }
+    Ok(containers)
+}
+
+fn many_edges(alloc: Global, side: Side, closed: bool) -> Result<Edges, Memory> {
+    let mut edges = Edges::new(alloc);
+    for at in 0..MANY - 1 {
+        if let Some((from, to)) = pair(side, at) {
+            edges.push(Edge {
+                from,
+                to,
+                signal: false,
+            })?;
+        }
+    }
+    if closed {
+        edges.push(Edge {
+            from: MANY - 1,
+            to: 0,
+            signal: false,
+        })?;
+    }
+    Ok(edges)
+}
+
+/// Whether it is told as it should be whether some resource of the shape comes before itself.
+fn is_cyclic_as_told(alloc: Global, shape: &Shape) -> Result<bool, Memory> {
+    let containers = many_containers(alloc, shape.containers)?;
+    let edges = many_edges(alloc, shape.edges, shape.closed)?;
+    if !are_below(MANY, &containers, &edges) {
+        return Ok(false);
+    }
+    match build(alloc, MANY, &containers, &edges) {
+        Ok(graph) => Ok(graph.has_cycle() == shape.cyclic),
+        Err(GraphStop::Memory) => Err(Memory),
+        Err(GraphStop::Contains(_cycle)) => Ok(false),
+    }
+}
+
+#[test]
+fn many(rt: HostRuntime) -> Result<(), Fail> {
+    for shape in SHAPES.iter() {
+        let word = shape.word;
+        assert!(rt; is_cyclic_as_told(rt.alloc(), shape)?, "{word}");
+    }
+    Ok(())
+}

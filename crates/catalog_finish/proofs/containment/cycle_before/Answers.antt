@@ -3,6 +3,12 @@ use Rattle.rel_graph.proofs.Uniqueness.{order_law}
 use Rattle.catalog_finish.proofs.CycleLemmas.{before_is, before_isnt}
 use Rattle.catalog_finish.proofs.containment.cycle_before.Goals as goal
 
+pub returns-then-not-has_cycle : goal.returns-then-not-has_cycle
+returns-then-not-has_cycle c =
+    let g = c.args.graph.now in
+    sym (before_isnt g.containers g.edges g.count c.requires.below c.requires.edges_below
+    (c.has_cycle.ensures.no c.if-not-has_cycle.true))
+
 pub returns-in-Ok : goal.returns-in-Ok
 returns-in-Ok c =
     let g = c.args.graph.now in

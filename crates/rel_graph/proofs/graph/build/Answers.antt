@@ -1,7 +1,7 @@
 use Rattle.std.proofs.Common.{◌≡◌, ◌∙◌, ℕ, Bool, true, false, List, map, ap, ap₂, sym, subst}
-use Rattle.rel_graph.specs.Before.{Before, SomeBeforeItself}
 use Rattle.rel_graph.specs.Graphs.{Relations, NoneInsideItself, containment_pair, edge_pair}
 use Rattle.rel_graph.specs.Pairs.{AllBelow}
+use Rattle.rel_graph.specs.Spans.{IsCyclic}
 use Rattle.rel_graph.proofs.graph.build.Goals as goal
 
 containers_are : (c : goal.In_ok-cyclic) → c.in_ok-containers.containers.items ≡ map containment_pair
@@ -11,27 +11,25 @@ containers_are c = c.in_ok-containers.ensures ∙ ap (map containment_pair) c.as
 edges_are : (c : goal.In_ok-cyclic) → c.in_ok-edges.edges.items ≡ map edge_pair c.args.edges.now
 edges_are c = c.in_ok-edges.ensures ∙ ap (map edge_pair) c.as_slice-2.ensures
 
+cyclic_is : (c : goal.In_ok-cyclic) →
+    IsCyclic c.in_ok-containers.containers.items c.in_ok-edges.edges.items c.in_ok-cyclic.cyclic
+cyclic_is c =
+    subst (λ es. IsCyclic c.in_ok-containers.containers.items es c.in_ok-cyclic.cyclic) c.as_slice-4.ensures.value
+    (subst (λ cs. IsCyclic cs c.as_slice-4.result.now c.in_ok-cyclic.cyclic) c.as_slice-3.ensures.value
+    c.in_ok-cyclic.ensures)
+
 pub invariant_of-result : goal.invariant_of-result
-invariant_of-result c =
-    let containers : List (ℕ × ℕ) = c.in_ok-containers.containers.items in
-    let b : Bool = c.in_ok-cyclic.cyclic in
-    record {
-      below = subst (λ ps. AllBelow ps c.args.count) (sym (containers_are c)) c.requires.below;
-      edges_below = subst (λ ps. AllBelow ps c.args.count) (sym (edges_are c)) c.requires.edges_below;
-      contains = subst NoneInsideItself c.as_slice-3.ensures.value c.in_ok-check_containment.ensures;
-      no = subst (λ es. b ≡ false → (r : ℕ) → ¬ (Before containers es r r)) c.as_slice-5.ensures.value
-          (subst (λ cs. b ≡ false → (r : ℕ) → ¬ (Before cs c.as_slice-5.result.now r r)) c.as_slice-4.ensures.value
-          c.in_ok-cyclic.ensures.no);
-      yes = subst (λ es. b ≡ true → SomeBeforeItself containers es) c.as_slice-5.ensures.value
-          (subst (λ cs. b ≡ true → SomeBeforeItself cs c.as_slice-5.result.now) c.as_slice-4.ensures.value
-          c.in_ok-cyclic.ensures.yes);
-    }
+invariant_of-result c = let is = cyclic_is c in record {
+  below = subst (λ ps. AllBelow ps c.args.count) (sym (containers_are c)) c.requires.below;
+  edges_below = subst (λ ps. AllBelow ps c.args.count) (sym (edges_are c)) c.requires.edges_below;
+  contains = is.contains;
+  no = is.no;
+  yes = is.yes;
+}
 
 pub returns : goal.returns
 returns c =
     let made : List (ℕ × ℕ) → List (ℕ × ℕ) → Relations =
-    λ cs es. record { count = c.args.count; containers = cs; edges = es } in (
-      ap₂ made (containers_are c) (edges_are c),
-      subst NoneInsideItself (c.as_slice-3.ensures.value ∙
-          containers_are c) c.in_ok-check_containment.ensures,
-    )
+    λ cs es. record { count = c.args.count; containers = cs; edges = es } in
+    let is = cyclic_is c in
+    (ap₂ made (containers_are c) (edges_are c), subst NoneInsideItself (containers_are c) is.contains)

@@ -1,5 +1,5 @@
 use Rattle.std.proofs.Common.{◌≡◌, Some}
-use Rattle.override_rules.proofs.nearest.nearest.Given as goal
+use Rattle.override_rules.proofs.nearest.nearest_outward.Given as goal
 use Rattle.override_rules.specs.Defaults.{nearest, nearest_within}
 
 abbrev pub invariant-loop-left : goal.invariant-loop-left

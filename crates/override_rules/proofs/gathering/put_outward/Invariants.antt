@@ -1,6 +1,6 @@
 use Rattle.std.proofs.Common.{◌≡◌, length, Some}
 use Rattle.pp_values.specs.Rising.{with_texts}
-use Rattle.override_rules.proofs.gathering.put_defaults.Given as goal
+use Rattle.override_rules.proofs.gathering.put_outward.Given as goal
 use Rattle.override_rules.specs.Names.{names_within}
 
 abbrev pub invariant-loop-left : goal.invariant-loop-left

@@ -73,7 +73,7 @@ again (suc n) c = c ∷ again n c
 abbrev pub number : ℕ → ℕ → Expr
 number at n = tree.expr_at at (form.Number (pos n))
 
-abbrev name : ℕ → List ℕ → Expr
+abbrev pub name : ℕ → List ℕ → Expr
 name at text = tree.expr_at at (form.Name text)
 
 abbrev pub variable : ℕ → List ℕ → Expr
@@ -239,3 +239,19 @@ open_levels : (file_of main_path (again 200 40 ++ (codes "1" ++ again 200 41)) �
     × (file_of main_path (line (again 200 33) (codes "1[2]")) ≡ deep 2)
 unfolding read
 open_levels = (refl, refl, refl, refl, refl)
+
+-- the fault stands at the token that opens the level, and not behind it
+too_deep : (file_of main_path (line (again 201 40) (codes "1")) ≡ deep 1)
+    × (file_of main_path (line (line (again 200 40) (codes "{")) (codes "a => 1 }")) ≡ deep 2)
+unfolding read
+too_deep = (refl, refl)
+
+-- a condition stands one level further in, also behind each `elsif`
+levels_of_conditions : (file_of main_path (line (again 199 40 ++ codes "if") (codes "(")) ≡ deep 2)
+    × (file_of main_path (line (again 199 40 ++ codes "unless") (codes "(")) ≡ deep 2)
+    × (file_of main_path (line (again 199 40 ++ codes "case") (codes "(")) ≡ deep 2)
+    × (file_of main_path (line (again 199 40 ++ codes "if a { } elsif") (codes "(")) ≡ deep 2)
+    × (file_of main_path (line (again 199 40 ++ codes "if a { } elsif b { } elsif") (codes "(")) ≡ deep 2)
+    × (file_of main_path (line (again 199 40 ++ codes "if a { } elsif b { } elsif c { } else { ") (codes "]")) ≡ faulty 2)
+unfolding read
+levels_of_conditions = (refl, refl, refl, refl, refl, refl)

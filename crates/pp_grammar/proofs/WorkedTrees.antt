@@ -1,5 +1,5 @@
 -- Each operator and how it binds beside its neighbours: texts with their trees, which the definitions compute.
-use Rattle.std.proofs.Common.{◌≡◌, List, [], ◌∷◌, map, Some, None, Result, refl}
+use Rattle.std.proofs.Common.{◌≡◌, true, false, List, [], ◌∷◌, ◌++◌, map, Some, None, Result, refl}
 use Rattle.std.specs.Prelude.{ℕ, codes}
 use Rattle.pp_values.specs.declared.fault.Fault.{Fault}
 use Rattle.pp_tree.specs.declared.expr.Expr.{Expr}
@@ -11,9 +11,14 @@ use Rattle.pp_tree.specs.declared.operators.BinaryOperator.{BinaryOperator}
 use Rattle.pp_tree.specs.declared.operators.BinaryOperator.TheVariants as binary
 use Rattle.pp_tree.specs.declared.operators.PrefixOperator.{PrefixOperator}
 use Rattle.pp_tree.specs.declared.operators.PrefixOperator.TheVariants as prefix
+use Rattle.pp_tree.specs.declared.resource.Attribute.{Attribute}
+use Rattle.pp_tree.specs.declared.resource.Attribute.TheVariants as attribute
+use Rattle.pp_tree.specs.declared.statement.Operand.TheVariants as operand
+use Rattle.pp_tree.specs.declared.statement.Statement.{Statement}
+use Rattle.pp_tree.specs.declared.statement.Statement.TheVariants as statement
 use Rattle.pp_tree.specs.Building as tree
 use Rattle.pp_parser.specs.Manifest.{main_path, file_of}
-use Rattle.pp_grammar.proofs.Examples.{read, says, alone, number, variable, binary_of}
+use Rattle.pp_grammar.proofs.Examples.{read, says, alone, number, name, variable, binary_of}
 
 -- expressions one behind the other, as statements
 abbrev each : List Expr → Result File Fault
@@ -152,3 +157,36 @@ within_brackets : file_of main_path (codes "(1 or 2) and 3; [1 or 2]; $a[1 or 2]
     ∷ tree.expr_at 1 (form.Assign (codes "a") either) ∷ tree.expr_at 1 (form.Assign (codes "a") (tree.expr_at 1 (form.Assign (codes "b") either))) ∷ [])
 unfolding read
 within_brackets = refl
+
+-- ---- keywords
+
+-- each may name an attribute
+abbrev set : List ℕ → Attribute Expr
+set word = attribute.Set (tree.setting word false (n 1) 1)
+
+keyword_names : file_of main_path (codes "T { and => 1, case => 1, class => 1, default => 1, define => 1, else => 1, elsif => 1, false => 1, function => 1, if => 1, in => 1, inherits => 1, node => 1, or => 1, true => 1, undef => 1, unless => 1 }")
+    ≡ says (statement.Chain (tree.chain (operand.Defaults (tree.defaults (codes "T") (map set (codes "and" ∷ codes "case" ∷ codes "class" ∷ codes "default" ∷ codes "define" ∷ codes "else" ∷ codes "elsif"
+    ∷ codes "false" ∷ codes "function" ∷ codes "if" ∷ codes "in" ∷ codes "inherits" ∷ codes "node" ∷ codes "or" ∷ codes "true" ∷ codes "undef" ∷ codes "unless" ∷ [])) 1)) [] 1) ∷ [])
+unfolding read
+keyword_names = refl
+
+-- each sort of value may be the first argument of a statement function
+abbrev notice : List Expr → Statement
+notice args = statement.Words (tree.words (codes "notice") args 1)
+
+abbrev takes : List ℕ → Expr → Type 0
+takes text x = file_of main_path (codes "notice " ++ text) ≡ says (notice (x ∷ []) ∷ [])
+
+words : (takes (codes "b") (name 1 (codes "b"))) × (takes (codes "err") (name 1 (codes "err"))) × (takes (codes "T") (tree.expr_at 1 (form.Type (codes "T")))) × (takes (codes "$a") a)
+    × (takes (codes "$a::b") (variable 1 (codes "a::b"))) × (takes (codes "true") (tree.expr_at 1 (form.Flag true))) × (takes (codes "false") (tree.expr_at 1 (form.Flag false)))
+    × (takes (codes "undef") (tree.expr_at 1 form.Undef)) × (takes (codes "default") (tree.expr_at 1 form.Default))
+unfolding read
+words = (refl, refl, refl, refl, refl, refl, refl, refl, refl)
+
+others : (takes (codes "1") (n 1)) × (takes (codes "'c'") (tree.expr_at 1 (form.Text (codes "c")))) × (takes (34 ∷ codes "c" ++ 34 ∷ []) (tree.expr_at 1 (form.Text (codes "c"))))
+    × (takes (codes "[1]") (tree.expr_at 1 (form.List (n 1 ∷ [])))) × (takes (codes "(1)") (tree.expr_at 1 (form.Parentheses (n 1))))
+    × (takes (codes "!1") (prefixed prefix.Not (n 1))) × (takes (codes "-1") (prefixed prefix.Negate (n 1))) × (takes (codes "*1") (prefixed prefix.Splat (n 1)))
+    × (takes (codes "unless 1 { }") (tree.expr_at 1 (form.Unless (tree.unless_of (n 1) [] None)))) × (takes (codes "if 1 { }") (tree.expr_at 1 (form.If (tree.if_of (n 1) [] [] None))))
+    × (takes (codes "case 1 { }") (tree.expr_at 1 (form.Case (tree.case_of (n 1) []))))
+unfolding read
+others = (refl, refl, refl, refl, refl, refl, refl, refl, refl, refl, refl)

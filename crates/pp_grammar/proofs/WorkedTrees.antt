@@ -184,9 +184,9 @@ unfolding read
 words = (refl, refl, refl, refl, refl, refl, refl, refl, refl)
 
 others : (takes (codes "1") (n 1)) × (takes (codes "'c'") (tree.expr_at 1 (form.Text (codes "c")))) × (takes (34 ∷ codes "c" ++ 34 ∷ []) (tree.expr_at 1 (form.Text (codes "c"))))
-    × (takes (codes "[1]") (tree.expr_at 1 (form.List (n 1 ∷ [])))) × (takes (codes "(1)") (tree.expr_at 1 (form.Parentheses (n 1))))
+    × (takes (codes "[1]") (tree.expr_at 1 (form.List (n 1 ∷ []))))
     × (takes (codes "!1") (prefixed prefix.Not (n 1))) × (takes (codes "-1") (prefixed prefix.Negate (n 1))) × (takes (codes "*1") (prefixed prefix.Splat (n 1)))
     × (takes (codes "unless 1 { }") (tree.expr_at 1 (form.Unless (tree.unless_of (n 1) [] None)))) × (takes (codes "if 1 { }") (tree.expr_at 1 (form.If (tree.if_of (n 1) [] [] None))))
     × (takes (codes "case 1 { }") (tree.expr_at 1 (form.Case (tree.case_of (n 1) []))))
 unfolding read
-others = (refl, refl, refl, refl, refl, refl, refl, refl, refl, refl, refl)
+others = (refl, refl, refl, refl, refl, refl, refl, refl, refl, refl)

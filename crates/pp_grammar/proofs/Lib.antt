@@ -1,8 +1,9 @@
 pub mod Complete
-mod Examples
+pub mod Examples
 pub mod Joined
 pub mod Local
 pub mod Reader
 pub mod Sound
 pub mod Ways
 pub mod Whole
+mod WorkedTrees

@@ -1,15 +1,19 @@
 -- A mark at the front of a text is a piece of it.
-use Rattle.std.proofs.Common.{◌≡◌, ℕ, ◌-◌, ◌<◌, ◌≤◌, Bool, true, false, List, length, take, get_or, refl, ap, ◌∙◌, subst, arith, get_or-take, nat_eq, nat_lt, ◌&&◌}
+use Rattle.std.proofs.Common.{◌≡◌, ℕ, ◌-◌, ◌<◌, ◌≤◌, Bool, true, false, List, [], ◌∷◌, length, take, get_or, refl, sym, ap, ◌∙◌, subst, arith, get_or-take, nat_eq, nat_lt, ◌&&◌}
 use Rattle.std.specs.List.{starts_with}
 use Rattle.std.proofs.lemmas.Bool.Decides.{nat_tests}
 use Rattle.std.proofs.lemmas.Slice.Eq.{bytes_eq-Decides}
 use Rattle.pp_lexer.specs.Fronts.{IsPiece, mark}
-use Rattle.pp_lexer.specs.Marks.{ends_in_ascii}
+use Rattle.pp_lexer.specs.Marks.{ends_in_ascii, punctuation}
 use Rattle.pp_lexer.specs.declared.kind.Kind.{Kind}
 
 both : (p q : Bool) → (p && q) ≡ true → (p ≡ true) × (q ≡ true)
 both true q h = (refl, h)
 both false q h = absurd (cc)
+
+pub lone_is : (z : List ℕ) (k : Kind) → 0 < length z → ((y : List ℕ) → punctuation (get_or z 0 0 ∷ y) ≡ mark k 1) → mark k 1 ≡ punctuation z
+lone_is [] k some is = absurd (omega arith)
+lone_is (b ∷ z) k some is = sym (is z)
 
 pub mark_is_piece : (z m : List ℕ) (k : Kind) → starts_with nat_eq z m ≡ true → length m ≤ length z → ends_in_ascii (m, k) ≡ true → IsPiece z (mark k (length m))
 mark_is_piece z m k begins within ends =

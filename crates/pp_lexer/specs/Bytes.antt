@@ -1,6 +1,7 @@
 -- White space, comments and lines. A text is the list of its bytes.
 use Rattle.std.specs.Prelude.{ℕ, zero, suc, ◌+◌, ◌-◌, Bool, false, ◌&&◌, ◌||◌, if◌then◌else◌, ◌==◌, List, [], ◌∷◌, drop, slice_index, Option, Some, None}
 use Rattle.std.specs.Char.{is_ascii_alphanumeric}
+use Rattle.std.specs.List.{prefix_len}
 
 -- a space, a tab, a carriage return or a line feed, and nothing else
 abbrev pub is_white : ℕ → Bool
@@ -32,7 +33,7 @@ some_or_zero (Some n) = n
 -- to the end of its line, or from `/*` to the first `*/` behind it.
 unfoldable pub blank_len : List ℕ → ℕ
 blank_len z =
-    if is_white (slice_index z 0) then 1
+    if is_white (slice_index z 0) then prefix_len is_white z
     else (if slice_index z 0 == 35 then line_end 1 (drop 1 z)
     else (if opens_comment z then some_or_zero (comment_end 2 (drop 2 z)) else 0))
 

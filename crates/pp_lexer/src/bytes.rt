@@ -1,7 +1,10 @@
 //! White space, comments and lines.
 
-ghost use Rattle.std.specs.Prelude.{◌≡◌, ◌≢◌, ◌+◌, ◌-◌, ◌^◌, ◌<◌, ◌≤◌, length, drop, slice_index, IfSome, IsTrue};
+ghost use Rattle.std.specs.Prelude.{◌≡◌, ◌≢◌, ◌+◌, ◌-◌, ◌^◌, ◌<◌, ◌≤◌, length, drop, slice_index, IfSome, IsTrue, true};
+ghost use Rattle.std.specs.List.{prefix_len};
 ghost use Rattle.pp_lexer.specs.Bytes as spec;
+
+use memchr::memchr;
 
 /// The byte at a place, or 0 behind the end.
 pub fn byte(bytes: &[u8], at: usize) -> u8
@@ -23,6 +26,21 @@ pub fn is_word(b: u8) -> bool
     b.is_ascii_alphanumeric() || b == b'_'
 }
 
+/// The length of the white space at the front.
+fn white_len(bytes: &[u8]) -> usize
+    requires { spec.is_white (slice_index bytes.now 0) ≡ true }
+    ensures value { result ≡ prefix_len spec.is_white bytes.now }
+    ensures within { (0 < result) × (result ≤ length bytes.now) }
+    ensures ascii { slice_index bytes.now (result - 1) < 128 }
+{
+    for at in 1..bytes.len() {
+        if !is_white(bytes[at]) {
+            return at;
+        }
+    }
+    bytes.len()
+}
+
 /// The place behind the line feed that ends the line.
 fn line_end(bytes: &[u8], from: usize) -> usize
     requires { from ≤ length bytes.now }
@@ -30,12 +48,10 @@ fn line_end(bytes: &[u8], from: usize) -> usize
     ensures within { (from ≤ result) × (result ≤ length bytes.now) }
     ensures ends { result < length bytes.now → slice_index bytes.now (result - 1) < 128 }
 {
-    for at in from..bytes.len() {
-        if bytes[at] == b'\n' {
-            return at + 1;
-        }
+    match memchr(b'\n', &bytes[from..]) {
+        None => bytes.len(),
+        Some(further) => from + further + 1,
     }
-    bytes.len()
 }
 
 /// The place behind the `*/` that ends a comment.
@@ -82,7 +98,7 @@ pub fn blank_len(bytes: &[u8]) -> usize
     ensures ends { 0 < result → result < length bytes.now → slice_index bytes.now (result - 1) < 128 }
 {
     if is_white(bytes[0]) {
-        1
+        white_len(bytes)
     } else if bytes[0] == b'#' {
         line_end(bytes, 1)
     } else if opens_comment(bytes) {

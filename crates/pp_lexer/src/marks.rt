@@ -1,6 +1,6 @@
 //! Punctuation.
 
-ghost use Rattle.std.specs.Prelude.{◌≡◌, ◌<◌, ◌≤◌, length, map, nat_eq, true};
+ghost use Rattle.std.specs.Prelude.{◌≡◌, ℕ, ◌<◌, ◌≤◌, List, ◌∷◌, length, map, nat_eq, slice_index, true, IfSome};
 ghost use Rattle.std.specs.List.{starts_with};
 ghost use Rattle.pp_lexer.specs.Fronts.{IsPiece};
 ghost use Rattle.pp_lexer.specs.Fronts as fronts;
@@ -56,6 +56,44 @@ pub const MARKS: [(&[u8], Kind); 41] = [
     (b"\"", Kind::TextBegin),
 ];
 
+/// A mark of one byte that begins no other mark.
+#[tactic(auto, unfolding(crate::specs::Marks::punctuation))]
+fn lone_mark(b: u8) -> Option<Kind>
+    ensures value { IfSome result (λ k. (z : List ℕ) → spec.punctuation (b ∷ z) ≡ fronts.mark k 1) }
+    ensures ascii { IfSome result (λ _. b < 128) }
+{
+    match b {
+        b'{' => Some(Kind::OpenBrace),
+        b'}' => Some(Kind::CloseBrace),
+        b'(' => Some(Kind::OpenParen),
+        b')' => Some(Kind::CloseParen),
+        b'[' => Some(Kind::OpenBracket),
+        b']' => Some(Kind::CloseBracket),
+        b':' => Some(Kind::Colon),
+        b';' => Some(Kind::Semicolon),
+        b',' => Some(Kind::Comma),
+        b'.' => Some(Kind::Dot),
+        b'?' => Some(Kind::Question),
+        b'*' => Some(Kind::Star),
+        b'/' => Some(Kind::Slash),
+        b'%' => Some(Kind::Percent),
+        b'"' => Some(Kind::TextBegin),
+        _ => None,
+    }
+}
+
+/// A mark of one byte.
+#[tactic(auto, using(crate::proofs::MarkLemmas::lone_is))]
+fn found_lone(bytes: &[u8], kind: Kind) -> Front
+    requires some { 0 < length bytes.now }
+    requires lone { (z : List ℕ) → spec.punctuation (slice_index bytes.now 0 ∷ z) ≡ fronts.mark kind 1 }
+    requires ascii { slice_index bytes.now 0 < 128 }
+    ensures value { result ≡ spec.punctuation bytes.now }
+    ensures piece { IsPiece bytes.now result }
+{
+    Front::mark(kind, 1)
+}
+
 /// The mark with which a text begins.
 fn found_mark(bytes: &[u8], mark: &[u8], kind: Kind) -> Front
     requires begins { starts_with nat_eq bytes.now mark.now ≡ true }
@@ -89,5 +127,8 @@ pub fn punctuation(bytes: &[u8]) -> Front
     ensures value { result ≡ spec.punctuation bytes.now }
     ensures piece { IsPiece bytes.now result }
 {
-    first_mark(&MARKS, bytes)
+    match lone_mark(bytes[0]) {
+        Some(kind) => found_lone(bytes, kind),
+        None => first_mark(&MARKS, bytes),
+    }
 }

@@ -74,11 +74,11 @@ fn continues_word(sort: WordSort, bytes: &[u8], at: usize) -> bool
     ensures ascii { result ≡ true → slice_index bytes.now at < 128 }
     ensures second { result ≡ true → slice_index bytes.now at ≡ 58 → slice_index bytes.now (at + 1) ≡ 58 }
 {
-    let next = byte(bytes, at + 1);
     match bytes[at] {
-        b'-' => takes_dash(sort) && is_word(next),
-        b':' => next == b':' && begins_segment(sort, byte(bytes, at + 2)),
-        b => is_word(b),
+        b if is_word(b) => true,
+        b'-' => takes_dash(sort) && is_word(byte(bytes, at + 1)),
+        b':' => byte(bytes, at + 1) == b':' && begins_segment(sort, byte(bytes, at + 2)),
+        _ => false,
     }
 }
 

@@ -75,8 +75,8 @@ abbrev pub options_in : List Datum → Option Options
 options_in [] = options_of None None None
 options_in (one ∷ []) = options_in_one one
 options_in (of_type ∷ merge ∷ []) = options_of (Some of_type) (Some merge) None
-options_in (of_type ∷ merge ∷ default ∷ []) = options_of (Some of_type) (Some merge) (Some default)
-options_in (of_type ∷ merge ∷ default ∷ more ∷ rest) = None
+options_in (of_type ∷ merge ∷ otherwise ∷ []) = options_of (Some of_type) (Some merge) (Some otherwise)
+options_in (of_type ∷ merge ∷ otherwise ∷ more ∷ rest) = None
 
 -- ---- what is asked for
 

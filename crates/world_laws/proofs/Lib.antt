@@ -1,0 +1,11 @@
+mod Lists
+mod Worlds
+mod Steps
+mod OfWorld
+mod OfForms
+mod OfClasses
+mod OfCalls
+mod OfResources
+mod OfEvaluator
+mod OfRounds
+mod Examples

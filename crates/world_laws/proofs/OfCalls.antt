@@ -1,0 +1,275 @@
+-- Calls, lambdas, and the functions that take them.
+use Rattle.std.proofs.Common.{◌≡◌, ℕ, ◌≤◌, Bool, true, false, List, [], ◌∷◌, ◌++◌, length, Option, None, Some, Result, Ok, Err}
+use Rattle.std.proofs.Common.{option_map, arith}
+use Rattle.std.specs.Prelude.{codes}
+use Rattle.std.specs.Str.{bytes_eq}
+use Rattle.hiera_merge.specs.declared.merge.Merge.{Merge}
+use Rattle.pp_funcs.specs.Names.{needs_evaluator}
+use Rattle.pp_tree.specs.declared.expr.Call.{Call, out-Call}
+use Rattle.pp_tree.specs.declared.expr.Expr.{Expr}
+use Rattle.pp_tree.specs.declared.param.Param.{Param}
+use Rattle.pp_tree.specs.declared.statement.Statement.{Statement}
+use Rattle.pp_tree.specs.declared.statement.Words.{Words}
+use Rattle.pp_values.specs.Datum.{Datum}
+use Rattle.pp_values.specs.declared.place.Place.{Place}
+use Rattle.expr_eval.specs.Gathering.{decides}
+use Rattle.expr_eval.specs.Names.{lambda_function}
+use Rattle.expr_eval.specs.Turns.{Turn}
+use Rattle.expr_eval.specs.declared.functions.Iteration.{Iteration}
+use Rattle.expr_eval.specs.declared.functions.LambdaFunction.{LambdaFunction}
+use Rattle.expr_eval.specs.declared.functions.LambdaFunction.TheVariants as function
+use Rattle.scope_core.specs.Scopes as scopes
+use Rattle.scope_core.specs.declared.scope_kind.ScopeKind.TheVariants as kind
+use Rattle.eval_world.specs.Inner.{Inner}
+use Rattle.eval_world.specs.Outcomes.{Outcome, Step, go_on, ◌>>=◌, ◌>>◌, pure}
+use Rattle.eval_world.specs.Worlds.{enter_lambda, leave, place_at}
+use Rattle.eval_world.specs.declared.here.Here.{Here}
+use Rattle.eval_world.specs.declared.world.World.{World}
+use Rattle.eval_classes.specs.Included.{including_of}
+use Rattle.eval_classes.specs.declared.including.Including.{Including}
+use Rattle.eval_calls.specs.Calls.{log_rule, data_rule, site_by, site_rule, without_lambda_by, evaluated_rule, plain_rule}
+use Rattle.eval_calls.specs.Calls.{stray_lambda_rule, with_lambda_by, with_lambda_rule, called, invoked, call_rule}
+use Rattle.eval_calls.specs.Calls.{invoked_on, method_rule, words_rule}
+use Rattle.eval_calls.specs.Iterating.{turns_from, over_rule, iterate_rule, reduce_from, reduced, reduce_rule, with_rule}
+use Rattle.eval_calls.specs.Iterating.{lambda_function_rule}
+use Rattle.eval_calls.specs.Lambdas.{Opened, opened, bound_by, bind_rule, bind_from, lambda_rule}
+use Rattle.eval_calls.specs.LookUps.{Request, request_of, or_next, first_found, default_or_fault, found_or, found_rule}
+use Rattle.eval_calls.specs.LookUps.{lookup_by, lookup_rule}
+use Rattle.eval_calls.specs.Names.{is_function, is_log}
+use Rattle.world_laws.specs.Extends.{Extends}
+use Rattle.world_laws.specs.Growing.{Reaches, Grows, GrowsInner}
+use Rattle.world_laws.proofs.OfClasses.{included_grows}
+use Rattle.world_laws.proofs.OfWorld.{assign_grows, log_grows, look_up_grows, values_grow}
+use Rattle.world_laws.proofs.Steps.{and_then, pure_grows, answer_grows, fault_grows, either, told}
+use Rattle.world_laws.proofs.Worlds.{extends_on, scope_entered, left_again}
+
+-- ---- lambdas
+
+bound_grows : (t : Option Expr) (x : List ℕ) (d : Datum) (line : ℕ) (own : Here) →
+    Grows (bound_by t x d line own)
+bound_grows None x d line own = assign_grows own x d line
+bound_grows (Some t) x d line own = fault_grows _
+
+bind_grows : (p : Param Expr) (d : Datum) (own : Here) → Grows (bind_rule p d own)
+unfolding bind_rule
+bind_grows p d own = bound_grows p.kind p.name d p.at own
+
+binds_grow : (ps : List (Param Expr)) (ds : List Datum) (own : Here) → Grows (bind_from ps ds own)
+unfolding bind_from
+binds_grow [] ds own = pure_grows
+binds_grow (p ∷ ps) [] own = pure_grows
+binds_grow (p ∷ ps) (d ∷ ds) own = and_then (bind_grows p d own) (λ u. binds_grow ps ds own)
+
+-- ---- `lookup`
+
+or_next_grows : (o : Option Datum) (p : Step (Option Datum)) → Grows p → Grows (or_next o p)
+or_next_grows None p f = f
+or_next_grows (Some v) p f = pure_grows
+
+firsts_grow : (scope : ℕ) (keys : List (List ℕ)) (merge : Option Merge) (at : Place) →
+    Grows (first_found scope keys merge at)
+unfolding first_found
+firsts_grow scope [] merge at = pure_grows
+firsts_grow scope (key ∷ keys) merge at =
+    and_then (look_up_grows scope key merge at) (λ found. or_next_grows found _ (firsts_grow scope keys merge at))
+
+default_grows : (o : Option Datum) (keys : List (List ℕ)) (line : ℕ) (here : Here) →
+    Grows (default_or_fault o keys line here)
+default_grows (Some v) keys line here = pure_grows
+default_grows None keys line here = fault_grows _
+
+found_or_grows : (o : Option Datum) (r : Request) (line : ℕ) (here : Here) → Grows (found_or o r line here)
+found_or_grows (Some v) r line here = pure_grows
+found_or_grows None r line here = default_grows r.options.default r.keys line here
+
+found_grows : (r : Request) (line : ℕ) (here : Here) → Grows (found_rule r line here)
+unfolding found_rule
+found_grows r line here = and_then
+    (told (λ w. first_found here.scope.number r.keys r.options.merge (place_at w here line))
+    (λ w. firsts_grow here.scope.number r.keys r.options.merge _))
+    (λ found. found_or_grows found r line here)
+
+lookup_by_grows : (o : Option Request) (f : List ℕ) (line : ℕ) (here : Here) → Grows (lookup_by o f line here)
+lookup_by_grows None f line here = fault_grows _
+lookup_by_grows (Some r) f line here = either r.options.has_type (fault_grows _) (found_grows r line here)
+
+lookup_grows : (f : List ℕ) (arguments : List Datum) (line : ℕ) (here : Here) →
+    Grows (lookup_rule f arguments line here)
+unfolding lookup_rule
+lookup_grows f arguments line here = lookup_by_grows (request_of arguments) f line here
+
+data_grows : (f : List ℕ) (arguments : List Datum) (line : ℕ) (here : Here) → Grows (data_rule f arguments line here)
+unfolding data_rule
+data_grows f arguments line here =
+    either (bytes_eq f (codes "lookup")) (lookup_grows f arguments line here) (fault_grows _)
+
+-- ---- a call of a lambda
+
+-- where the body of a lambda is evaluated, and the world then
+abbrev own_of : Here → World → Here
+own_of here w = record { scope = record { number = length w.scopes.scopes }; owner = here.owner }
+
+abbrev entered_by : Here → World → World
+entered_by here w = record w { scopes = scopes.entered kind.Lambda here.scope.number w.scopes }
+
+-- what is done in a scope that was not there before, and ends then
+ends : (w v : World) (own : Here) (o : Outcome Datum) → Extends w v → length w.scopes.scopes ≤ own.scope.number →
+    Reaches v o → Reaches w (go_on o (λ d. leave own >> pure d))
+ends w v own (Ok p) f past r = left_again w p.1 own.scope.number past (extends_on w v p.1 f r)
+ends w v own (Err e) f past r = tt
+
+not_less : (n : ℕ) → n ≤ n
+not_less n = omega arith
+
+module _ (inner : Inner) (g : GrowsInner inner) where
+  block_ends : (w v : World) (own : Here) (b : List Statement) (line : ℕ) (o : Outcome (Unit {0})) → Extends w v →
+      length w.scopes.scopes ≤ own.scope.number → Reaches v o →
+      Reaches w (go_on o (λ u. inner.block b line own >>= (λ d. leave own >> pure d)))
+  block_ends w v own b line (Ok p) f past r =
+      ends w p.1 own (inner.block b line own p.1) (extends_on w v p.1 f r) past ((g.block b line own).reaches p.1)
+  block_ends w v own b line (Err e) f past r = tt
+
+  -- A call ends no scope but its own, which was not there before.
+  lambda_grows : (l : Opened) (arguments : List Datum) (line : ℕ) (here : Here) →
+      Grows (lambda_rule inner l arguments line here)
+  unfolding lambda_rule enter_lambda
+  lambda_grows l arguments line here = record {
+    reaches = λ w.
+        block_ends w (entered_by here w) (own_of here w) l.block line
+        (bind_from l.params arguments (own_of here w) (entered_by here w))
+        (scope_entered w kind.Lambda here.scope.number) (not_less (length w.scopes.scopes))
+        ((binds_grow l.params arguments (own_of here w)).reaches (entered_by here w));
+  }
+
+  -- ---- functions that take a lambda
+
+  turns_grow : (f : Iteration) (l : Opened) (done : List Datum) (ts : List Turn) (line : ℕ) (here : Here) →
+      Grows (turns_from inner f l done ts line here)
+  unfolding turns_from
+  turns_grow f l done [] line here = pure_grows
+  turns_grow f l done (t ∷ ts) line here = and_then (lambda_grows l t line here)
+      (λ d. either (decides f d) pure_grows (turns_grow f l _ ts line here))
+
+  over_grows : (f : Iteration) (l : Opened) (d : Datum) (line : ℕ) (here : Here) →
+      Grows (over_rule inner f l d line here)
+  unfolding over_rule
+  over_grows f l d line here =
+      and_then (answer_grows _) (λ ts. and_then (turns_grow f l [] ts line here) (λ ds. pure_grows))
+
+  iterate_grows : (f : Iteration) (l : Opened) (arguments : List Datum) (line : ℕ) (here : Here) →
+      Grows (iterate_rule inner f l arguments line here)
+  unfolding iterate_rule
+  iterate_grows f l [] line here = fault_grows _
+  iterate_grows f l (d ∷ []) line here = over_grows f l d line here
+  iterate_grows f l (d ∷ e ∷ ds) line here = fault_grows _
+
+  reduces_grow : (l : Opened) (memo : Datum) (ds : List Datum) (line : ℕ) (here : Here) →
+      Grows (reduce_from inner l memo ds line here)
+  unfolding reduce_from
+  reduces_grow l memo [] line here = pure_grows
+  reduces_grow l memo (d ∷ ds) line here =
+      and_then (lambda_grows l _ line here) (λ next. reduces_grow l next ds line here)
+
+  reduced_grows : (l : Opened) (ds : List Datum) (line : ℕ) (here : Here) → Grows (reduced inner l ds line here)
+  unfolding reduced
+  reduced_grows l [] line here = pure_grows
+  reduced_grows l (d ∷ ds) line here = reduces_grow l d ds line here
+
+  reduce_grows : (l : Opened) (arguments : List Datum) (line : ℕ) (here : Here) →
+      Grows (reduce_rule inner l arguments line here)
+  unfolding reduce_rule
+  reduce_grows l arguments line here = and_then (answer_grows _) (λ ds. reduced_grows l ds line here)
+
+  with_grows : (l : Opened) (arguments : List Datum) (line : ℕ) (here : Here) →
+      Grows (with_rule inner l arguments line here)
+  unfolding with_rule
+  with_grows l arguments line here = and_then (answer_grows _) (λ t. lambda_grows l t line here)
+
+  lambda_function_grows : (f : LambdaFunction) (l : Opened) (arguments : List Datum) (line : ℕ) (here : Here) →
+      Grows (lambda_function_rule inner f l arguments line here)
+  unfolding lambda_function_rule
+  lambda_function_grows (function.Iterate f) l arguments line here = iterate_grows f l arguments line here
+  lambda_function_grows function.Reduce l arguments line here = reduce_grows l arguments line here
+  lambda_function_grows function.With l arguments line here = with_grows l arguments line here
+
+  -- ---- functions of arguments that are there
+
+  log_rule_grows : (f : List ℕ) (arguments : List Datum) → Grows (log_rule f arguments)
+  unfolding log_rule
+  log_rule_grows f arguments = and_then (log_grows f _) (λ u. pure_grows)
+
+  site_by_grows : (i : Option Including) (f : List ℕ) (arguments : List Datum) (line : ℕ) (here : Here) →
+      Grows (site_by inner i f arguments line here)
+  site_by_grows (Some i) f arguments line here = included_grows inner g i f arguments line here
+  site_by_grows None f arguments line here = data_grows f arguments line here
+
+  site_grows : (f : List ℕ) (arguments : List Datum) (line : ℕ) (here : Here) →
+      Grows (site_rule inner f arguments line here)
+  unfolding site_rule
+  site_grows f arguments line here = site_by_grows (including_of f) f arguments line here
+
+  without_lambda_grows : (o : Option LambdaFunction) (f : List ℕ) (arguments : List Datum) (line : ℕ) (here : Here) →
+      Grows (without_lambda_by inner o f arguments line here)
+  without_lambda_grows (Some o) f arguments line here = fault_grows _
+  without_lambda_grows None f arguments line here = site_grows f arguments line here
+
+  evaluated_grows : (f : List ℕ) (arguments : List Datum) (line : ℕ) (here : Here) →
+      Grows (evaluated_rule inner f arguments line here)
+  unfolding evaluated_rule
+  evaluated_grows f arguments line here = either (is_log f) (log_rule_grows f arguments)
+      (without_lambda_grows (lambda_function f) f arguments line here)
+
+  plain_grows : (f : List ℕ) (arguments : List Datum) (line : ℕ) (here : Here) →
+      Grows (plain_rule inner f arguments line here)
+  unfolding plain_rule
+  plain_grows f arguments line here =
+      either (needs_evaluator f) (evaluated_grows f arguments line here) (answer_grows _)
+
+  -- ---- with a lambda
+
+  stray_grows : (f : List ℕ) (line : ℕ) (here : Here) → Grows (stray_lambda_rule f line here)
+  unfolding stray_lambda_rule
+  stray_grows f line here = either (is_function f) (fault_grows _) (fault_grows _)
+
+  with_lambda_by_grows : (o : Option LambdaFunction) (f : List ℕ) (l : Opened) (arguments : List Datum) (line : ℕ)
+      (here : Here) → Grows (with_lambda_by inner o f l arguments line here)
+  with_lambda_by_grows (Some o) f l arguments line here = lambda_function_grows o l arguments line here
+  with_lambda_by_grows None f l arguments line here = stray_grows f line here
+
+  with_lambda_grows : (f : List ℕ) (l : Opened) (arguments : List Datum) (line : ℕ) (here : Here) →
+      Grows (with_lambda_rule inner f l arguments line here)
+  unfolding with_lambda_rule
+  with_lambda_grows f l arguments line here = with_lambda_by_grows (lambda_function f) f l arguments line here
+
+  -- ---- calls
+
+  called_grows : (f : List ℕ) (l : Option Opened) (arguments : List Datum) (line : ℕ) (here : Here) →
+      Grows (called inner f l arguments line here)
+  called_grows f None arguments line here = plain_grows f arguments line here
+  called_grows f (Some l) arguments line here = with_lambda_grows f l arguments line here
+
+  invoked_grows : (f : List ℕ) (args : List Expr) (l : Option Opened) (line : ℕ) (here : Here) →
+      Grows (invoked inner f args l line here)
+  unfolding invoked
+  invoked_grows f args l line here =
+      and_then (values_grow inner g [] args here) (λ arguments. called_grows f l arguments line here)
+
+  pub call_grows : (c : Call) (line : ℕ) (here : Here) → Grows (call_rule inner c line here)
+  unfolding call_rule
+  call_grows c line here =
+      invoked_grows (out-Call c).function (out-Call c).args (option_map opened (out-Call c).lambda) line here
+
+  invoked_on_grows : (d : Datum) (f : List ℕ) (args : List Expr) (l : Option Opened) (line : ℕ) (here : Here) →
+      Grows (invoked_on inner d f args l line here)
+  unfolding invoked_on
+  invoked_on_grows d f args l line here =
+      and_then (values_grow inner g [] args here) (λ arguments. called_grows f l (d ∷ arguments) line here)
+
+  pub method_grows : (d : Datum) (c : Call) (line : ℕ) (here : Here) → Grows (method_rule inner d c line here)
+  unfolding method_rule
+  method_grows d c line here =
+      invoked_on_grows d (out-Call c).function (out-Call c).args (option_map opened (out-Call c).lambda) line here
+
+  pub words_grow : (x : Words Expr) (here : Here) → Grows (words_rule inner x here)
+  unfolding words_rule
+  words_grow x here = invoked_grows x.function x.args None x.at here

@@ -1,0 +1,156 @@
+-- Worlds that extend each other: one table changes, and the others stay.
+use Rattle.std.proofs.Common.{◌≡◌, ℕ, ◌≤◌, List, [], ◌∷◌, ◌++◌, length, Option, None, Some, refl, sym, ap, subst, ◌∙◌}
+use Rattle.std.specs.Prelude.{slice_get}
+use Rattle.pp_values.specs.Datum.{Datum}
+use Rattle.override_rules.specs.Meaning.{State, scope_opened}
+use Rattle.res_book.proofs.Growth.{grows-not, grows-on}
+use Rattle.res_book.specs.Growth as rows
+use Rattle.res_book.specs.Relations.{Related}
+use Rattle.res_book.specs.declared.row.Row.{Row}
+use Rattle.res_core.specs.declared.log_line.LogLine.{LogLine}
+use Rattle.scope_core.specs.Scopes.{Scopes, Scope, entered, scopes_after, left}
+use Rattle.scope_core.specs.declared.scope_kind.ScopeKind.{ScopeKind}
+use Rattle.eval_world.specs.Owners.{Owners, with_owner}
+use Rattle.eval_world.specs.declared.owner.Owner.{Owner}
+use Rattle.eval_world.specs.declared.world.World.{World}
+use Rattle.world_laws.specs.Extends.{AreKept, OwnersStay, OverridesStay, RelationsGoOn, Extends}
+use Rattle.world_laws.proofs.Lists.{goes_on, stays, further, all_kept, all_kept_on, kept_before, kept_beside}
+
+-- ---- tables that stay
+
+pub same_owners : (o : Owners) → OwnersStay o o
+same_owners o = record { main = refl; others = stays o.others }
+
+pub one_owner : (x : Owner) (o : Owners) → OwnersStay o (with_owner x o)
+one_owner x o = record { main = refl; others = goes_on o.others (x ∷ []) }
+
+pub same_overrides : (s : State) → OverridesStay s s
+same_overrides s = record { lines = stays s.lines; defaults = λ kind scope name d e. e }
+
+pub opened : (scope : ℕ) (parent : Option ℕ) (s : State) → OverridesStay s (scope_opened scope parent s)
+opened scope parent s = record { lines = stays s.lines; defaults = λ kind scope name d e. e }
+
+pub same_relations : (r : Related) → RelationsGoOn r r
+same_relations r = record {
+  lines = stays r.lines;
+  containments = stays r.containments;
+  collectors = stays r.collectors;
+}
+
+overrides_on : {r s t : State} → OverridesStay r s → OverridesStay s t → OverridesStay r t
+overrides_on f g = record {
+  lines = further f.lines g.lines;
+  defaults = λ kind scope name d e. g.defaults kind scope name d (f.defaults kind scope name d e);
+}
+
+relations_on : {r s t : Related} → RelationsGoOn r s → RelationsGoOn s t → RelationsGoOn r t
+relations_on f g = record {
+  lines = further f.lines g.lines;
+  containments = further f.containments g.containments;
+  collectors = further f.collectors g.collectors;
+}
+
+-- ---- all of them
+
+pub same_world : (w : World) → Extends w w
+same_world w = record {
+  environment = refl;
+  declarations = grows-not w.book;
+  scopes = all_kept w.scopes.scopes;
+  owners = same_owners w.owners;
+  overrides = same_overrides w.overrides;
+  relations = same_relations w.relations;
+  log = stays w.log;
+}
+
+pub extends_on : (a b c : World) → Extends a b → Extends b c → Extends a c
+extends_on a b c f g = record {
+  environment = g.environment ∙ f.environment;
+  declarations = grows-on f.declarations g.declarations;
+  scopes = all_kept_on a.scopes.scopes b.scopes.scopes c.scopes.scopes f.scopes g.scopes;
+  owners = record { main = g.owners.main ∙ f.owners.main; others = further f.owners.others g.owners.others };
+  overrides = overrides_on f.overrides g.overrides;
+  relations = relations_on f.relations g.relations;
+  log = further f.log g.log;
+}
+
+-- ---- one table changes
+
+pub scopes_kept : (w : World) (s : Scopes) → AreKept w.scopes.scopes s.scopes → Extends w (record w { scopes = s })
+scopes_kept w s kept = record {
+  environment = refl;
+  declarations = grows-not w.book;
+  scopes = kept;
+  owners = same_owners w.owners;
+  overrides = same_overrides w.overrides;
+  relations = same_relations w.relations;
+  log = stays w.log;
+}
+
+pub book_grows : (w : World) (book : List Row) → rows.Grows w.book book → Extends w (record w { book = book })
+book_grows w book grows = record {
+  environment = refl;
+  declarations = grows;
+  scopes = all_kept w.scopes.scopes;
+  owners = same_owners w.owners;
+  overrides = same_overrides w.overrides;
+  relations = same_relations w.relations;
+  log = stays w.log;
+}
+
+pub relations_grow : (w : World) (r : Related) → RelationsGoOn w.relations r → Extends w (record w { relations = r })
+relations_grow w r grow = record {
+  environment = refl;
+  declarations = grows-not w.book;
+  scopes = all_kept w.scopes.scopes;
+  owners = same_owners w.owners;
+  overrides = same_overrides w.overrides;
+  relations = grow;
+  log = stays w.log;
+}
+
+pub log_goes_on : (w : World) (x : LogLine) → Extends w (record w { log = w.log ++ x ∷ [] })
+log_goes_on w x = record {
+  environment = refl;
+  declarations = grows-not w.book;
+  scopes = all_kept w.scopes.scopes;
+  owners = same_owners w.owners;
+  overrides = same_overrides w.overrides;
+  relations = same_relations w.relations;
+  log = goes_on w.log (x ∷ []);
+}
+
+-- ---- bodies
+
+-- the next owner, in a scope that is opened
+pub owner_added : (w : World) (x : Owner) (scope : ℕ) (parent : Option ℕ) →
+    Extends w (record w {
+      overrides = scope_opened scope parent w.overrides;
+      owners = with_owner x w.owners;
+    })
+owner_added w x scope parent = record {
+  environment = refl;
+  declarations = grows-not w.book;
+  scopes = all_kept w.scopes.scopes;
+  owners = one_owner x w.owners;
+  overrides = opened scope parent w.overrides;
+  relations = same_relations w.relations;
+  log = stays w.log;
+}
+
+pub scope_entered : (w : World) (kind : ScopeKind) (parent : ℕ) →
+    Extends w (record w { scopes = entered kind parent w.scopes })
+scope_entered w kind parent = scopes_kept w (entered kind parent w.scopes) (kept_before w.scopes.scopes _)
+
+-- a scope ends that was not there before
+pub left_again : (w v : World) (n : ℕ) → length w.scopes.scopes ≤ n → Extends w v →
+    Extends w (record v { scopes = left n v.scopes })
+left_again w v n past f = record {
+  environment = f.environment;
+  declarations = f.declarations;
+  scopes = kept_beside n (slice_get v.scopes.scopes n) w.scopes.scopes v.scopes.scopes past f.scopes;
+  owners = f.owners;
+  overrides = f.overrides;
+  relations = f.relations;
+  log = f.log;
+}

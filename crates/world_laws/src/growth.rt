@@ -1,0 +1,44 @@
+//! Evaluation only adds to the world of a compile.
+
+ghost use Rattle.std.specs.Prelude.{ℕ, List, Option};
+ghost use Rattle.pp_tree.specs.declared.expr.Expr.{Expr};
+ghost use Rattle.pp_tree.specs.declared.file.File.{File};
+ghost use Rattle.pp_tree.specs.declared.statement.Statement.{Statement};
+ghost use Rattle.pp_values.specs.Settings.{Setting};
+ghost use Rattle.pp_values.specs.declared.place.Place.{Place};
+ghost use Rattle.export_store.specs.Sets.{Sets};
+ghost use Rattle.eval_world.specs.declared.here.Here.{Here};
+ghost use Rattle.eval_world.specs.declared.world.World.{World};
+ghost use Rattle.class_eval.specs.Evaluating.{value_at, block_at, main_rule, class_at, instance_at};
+ghost use Rattle.class_eval.specs.Meaning.{within};
+ghost use Rattle.defined_types.specs.Rounds.{round, rounds};
+ghost use Rattle.world_laws.specs.Extends.{Extends};
+ghost use Rattle.world_laws.specs.Growing.{Grows, GrowsInner};
+
+/// A world extends itself, and what extends a world that extends another one extends that one too.
+pub fn extending()
+    ensures same { (w : World) → Extends w w }
+    ensures further { (a b c : World) → Extends a b → Extends b c → Extends a c }
+{}
+
+/// Whatever part of a manifest is evaluated, with whatever levels left: an expression, a block, a call without
+/// parentheses, the body of a class or an instance. Where a world comes out, it extends the one before.
+pub fn parts_only_add()
+    ensures { (levels : ℕ) → GrowsInner (within levels) }
+{}
+
+/// The same of what the calls of an evaluator mean.
+pub fn calls_only_add()
+    ensures value_of { (e : Expr) (here : Here) (depth : ℕ) → Grows (value_at e here depth) }
+    ensures run_block { (b : List Statement) (line : ℕ) (here : Here) (depth : ℕ) → Grows (block_at b line here depth) }
+    ensures run_main { (main : File) (node : List ℕ) → Grows (main_rule main node) }
+    ensures declare_class { (x : List ℕ) (given : Option (List Setting)) (at : Place) (here : Here) (depth : ℕ)
+        → Grows (class_at x given at here depth) }
+    ensures run_instance { (number depth : ℕ) → Grows (instance_at number depth) }
+{}
+
+/// The same of one round, and of all rounds.
+pub fn rounds_only_add()
+    ensures one { (node : List ℕ) (sets : Sets) → Grows (round node sets) }
+    ensures all { (node : List ℕ) (sets : Sets) → Grows (rounds node sets) }
+{}

@@ -56,5 +56,5 @@ not_left : (e : Environment) → Grows (leave top) → ⊥
 unfolding AreKept called scope x
 not_left e f =
     let kept : IsKept (scope o.Lambda (x true ∷ [])) (record { owner = o.Ended; parent = 0; names = [] }) =
-        (f.reaches (called e)).scopes.0 in
+    (f.reaches (called e)).scopes.0 in
     let is : o.Ended ≡ o.Lambda = kept.owner in absurd cc

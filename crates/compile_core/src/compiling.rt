@@ -8,6 +8,7 @@ use class_eval::Evaluator;
 use defined_types::run_rounds;
 use eval_world::Environment;
 use export_store::Version;
+use pp_tree::File;
 use pp_values::{Stop, Text, Value};
 use res_core::{Catalog, ExportSet, LogLines};
 use site_bundle::{Site, data_of};
@@ -15,7 +16,7 @@ use std::alloc::Global;
 
 /// The catalog of a node with these facts and what it exports, by a site and the sets that the nodes export; or the
 /// first fault.
-#[tactic(auto, unfolding(crate::specs::Meaning::meaning), using(crate::proofs::ReadFiles::manifests_read))]
+#[tactic(auto, unfolding(crate::specs::Meaning::meaning))]
 pub fn compile(
     alloc: Global,
     site: &Site,
@@ -27,11 +28,18 @@ pub fn compile(
 {
     match &site.main_file().read {
         Ok(main) => {
-            let environment = Environment::new(main, site.manifests().as_map(), data_of(site));
+            let environment = environment_of(site, main);
             compile_environment(alloc, environment, node, facts, sets)
         }
         Err(fault) => Err(Stop::Fault(fault.copy(alloc)?)),
     }
+}
+
+/// What is read of a site: its manifests and its data.
+fn environment_of<'a>(site: &'a Site, main: &'a File) -> Environment<'a>
+    ensures { result ≡ spec.environment_of site.now main.now }
+{
+    Environment::new(main, site.manifests().as_map(), data_of(site))
 }
 
 /// The same by the trees of the manifests.

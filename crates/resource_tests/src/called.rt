@@ -251,7 +251,7 @@ fn outcome_of_many(alloc: Global, count: u32, again: Called) -> Result<(), Stop>
 }
 
 #[test]
-fn called(rt: HostRuntime) -> Result<(), Fail> {
+fn equal_names_are_told(rt: HostRuntime) -> Result<(), Fail> {
     for row in ROWS.iter() {
         let word = row.word;
         assert!(rt; is_told(row.told, outcome(rt.alloc(), row))?, "{word}");
@@ -260,7 +260,7 @@ fn called(rt: HostRuntime) -> Result<(), Fail> {
 }
 
 #[test]
-fn many(rt: HostRuntime) -> Result<(), Fail> {
+fn names_of_many(rt: HostRuntime) -> Result<(), Fail> {
     let free = outcome_of_many(rt.alloc(), 2_000, Called::By("u2000"));
     assert!(rt; is_told(None, free)?);
     let taken = outcome_of_many(rt.alloc(), 2_000, Called::By("u1000"));

@@ -130,12 +130,6 @@ const ROWS: &[Row] = &[
     },
 ];
 
-fn put(alloc: Global, items: &mut Vec<Attribute>, name: &str, value: Value) -> Result<(), Memory> {
-    let name = Text::from_str(alloc, name)?;
-    items.push(Attribute { name, value })?;
-    Ok(())
-}
-
 fn text(alloc: Global, text: &str) -> Result<Value, Memory> {
     Ok(Value::Text(Text::from_str(alloc, text)?))
 }
@@ -146,21 +140,42 @@ fn name_of(alloc: Global, called: Called) -> Result<Option<Value>, Memory> {
         Called::By(name) => Ok(Some(text(alloc, name)?)),
         Called::Number(number) => Ok(Some(Value::Int(number))),
         Called::Flag => Ok(Some(Value::Flag(true))),
-        Called::Web(_provider) => Ok(Some(text(alloc, "web")?)),
+        Called::Web(_provider) => Ok(None),
     }
 }
 
 fn attributes(alloc: Global, kind: &Kind, called: Called) -> Result<Attributes, Memory> {
-    let mut items = Vec::new(alloc);
+    if let Called::Web(provider) = called {
+        return provided(alloc, provider);
+    }
     if let Some(found) = native(kind.as_text()) {
         if let Some(name) = name_of(alloc, called)? {
-            put(alloc, &mut items, namevar(found), name)?;
+            return alone(alloc, namevar(found), name);
         }
     }
-    if let Called::Web(provider) = called {
-        let provider = text(alloc, provider)?;
-        put(alloc, &mut items, "provider", provider)?;
-    }
+    Ok(Attributes::new(alloc))
+}
+
+fn alone(alloc: Global, name: &str, value: Value) -> Result<Attributes, Memory> {
+    let name = Text::from_str(alloc, name)?;
+    let mut items = Vec::new(alloc);
+    items.push(Attribute { name, value })?;
+    Ok(Attributes::from_vec(items))
+}
+
+/// A name that both have, by this provider.
+fn provided(alloc: Global, provider: &str) -> Result<Attributes, Memory> {
+    let name = Attribute {
+        name: Text::from_str(alloc, "name")?,
+        value: text(alloc, "web")?,
+    };
+    let provider = Attribute {
+        name: Text::from_str(alloc, "provider")?,
+        value: text(alloc, provider)?,
+    };
+    let mut items = Vec::new(alloc);
+    items.push(name)?;
+    items.push(provider)?;
     Ok(Attributes::from_vec(items))
 }
 

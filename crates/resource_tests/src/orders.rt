@@ -400,17 +400,18 @@ const SHAPES: &[Shape] = &[
 ];
 
 fn pair(side: Side, at: u32) -> Option<(u32, u32)> {
+    let next = at.saturating_add(1);
     match side {
         Side::None => None,
-        Side::Lesser => Some((at, at + 1)),
-        Side::Greater => Some((at + 1, at)),
+        Side::Lesser => Some((at, next)),
+        Side::Greater => Some((next, at)),
         Side::Turns => {
             if at % 2 == 0 {
-                return Some((at, at + 1));
+                return Some((at, next));
             }
-            Some((at + 1, at))
+            Some((next, at))
         }
-        Side::First => Some((0, at + 1)),
+        Side::First => Some((0, next)),
     }
 }
 

@@ -186,7 +186,7 @@ fn declare(
     title: &str,
     called: Called,
 ) -> Result<(), Stop> {
-    let kind = Kind::from_str(alloc, kind)?;
+    let kind = Kind::from_text(Text::from_str(alloc, kind)?).ok_or(Memory)?;
     let attributes = attributes(alloc, &kind, called)?;
     let item = Resource {
         kind,

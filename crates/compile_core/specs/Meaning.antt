@@ -31,11 +31,11 @@ environment_of site main = record { main = main; files = map read_file site.mani
 
 -- ---- evaluation and finishing
 
--- The main manifest with the node's definition, and then rounds, which see one version of the sets.
-abbrev pub evaluated : Environment → List ℕ → Sets → Step (Unit {0})
-evaluated m node sets = do
+-- The main manifest with the definition of a node, and then rounds for a node, which see one version of the sets.
+abbrev pub evaluated : Environment → List ℕ → List ℕ → Sets → Step (Unit {0})
+evaluated m node own sets = do
   main_rule m.main node
-  rounds node sets
+  rounds own sets
 
 abbrev pub with_log : List LogLine → Catalog × ExportSet → Catalog × ExportSet
 with_log log made = (record made.0 { log = log }, made.1)
@@ -50,7 +50,7 @@ ended node (Err f) = Err f
 
 -- it begins with the names of top scope, made of the node's name and facts, and with `Class[main]`
 abbrev pub meaning_of : Environment → List ℕ → Datum → Sets → Result (Catalog × ExportSet) Fault
-meaning_of m node facts sets = ended node (evaluated m node sets (started m node facts))
+meaning_of m node facts sets = ended node (evaluated m node node sets (started m node facts))
 
 -- ---- the site
 

@@ -1,5 +1,6 @@
-ghost use Rattle.std.specs.Prelude.{◌≡◌};
+ghost use Rattle.std.specs.Prelude.{◌≡◌, Err};
 ghost use Rattle.compile_core.specs.Meaning as spec;
+ghost use Rattle.eval_world.specs.Outcomes.{Gives, nothing};
 ghost use Rattle.pp_values.specs.Answers.{Answers};
 ghost use Rattle.pp_values.specs.Views.{view};
 
@@ -9,14 +10,13 @@ use defined_types::run_rounds;
 use eval_world::Environment;
 use export_store::Version;
 use pp_tree::File;
-use pp_values::{Stop, Text, Value};
+use pp_values::{Fault, Stop, Text, Value};
 use res_core::{Catalog, ExportSet, LogLines};
 use site_bundle::{Site, data_of};
 use std::alloc::Global;
 
 /// The catalog of a node with these facts and what it exports, by a site and the sets that the nodes export; or the
 /// first fault.
-#[tactic(auto, unfolding(crate::specs::Meaning::meaning))]
 pub fn compile(
     alloc: Global,
     site: &Site,
@@ -27,12 +27,16 @@ pub fn compile(
     ensures { Answers result (spec.meaning site.now node.now (view facts.now) sets.now) }
 {
     match &site.main_file().read {
-        Ok(main) => {
-            let environment = environment_of(site, main);
-            compile_environment(alloc, environment, node, facts, sets)
-        }
-        Err(fault) => Err(Stop::Fault(fault.copy(alloc)?)),
+        Ok(main) => compile_environment(alloc, environment_of(site, main), node, facts, sets),
+        Err(fault) => refused(alloc, fault),
     }
+}
+
+/// Where the main manifest has no tree, its fault.
+fn refused(alloc: Global, fault: &Fault) -> Result<(Catalog, ExportSet), Stop>
+    ensures { Answers result (Err fault.now) }
+{
+    Err(Stop::Fault(fault.copy(alloc)?))
 }
 
 /// What is read of a site: its manifests and its data.
@@ -52,10 +56,30 @@ fn compile_environment(
 ) -> Result<(Catalog, ExportSet), Stop>
     ensures { Answers result (spec.meaning_of environment.entry node.now (view facts.now) sets.now) }
 {
-    let mut evaluator = Evaluator::start(alloc, environment, node, facts)?;
-    evaluator.run_main()?;
-    run_rounds(&mut evaluator, sets, node)?;
+    let evaluator = Evaluator::start(alloc, environment, node, facts)?;
+    complete(alloc, evaluator, node, sets)
+}
+
+/// The main manifest and the rounds, and what becomes of the world.
+fn complete(
+    alloc: Global,
+    mut evaluator: Evaluator<'_>,
+    node: &Text,
+    sets: &Version,
+) -> Result<(Catalog, ExportSet), Stop>
+    ensures { Answers result (spec.ended node.now (spec.evaluated evaluator.entry.world.environment
+        evaluator.entry.node node.now sets.now evaluator.entry.world)) }
+{
+    evaluate(&mut evaluator, node, sets)?;
     finish_world(alloc, evaluator, node)
+}
+
+fn evaluate(evaluator: &mut Evaluator<'_>, node: &Text, sets: &Version) -> Result<(), Stop>
+    ensures { Gives nothing (spec.evaluated evaluator.old.world.environment evaluator.old.node node.now sets.now
+        evaluator.old.world) result evaluator.new.world }
+{
+    evaluator.run_main()?;
+    run_rounds(evaluator, sets, node)
 }
 
 fn finish_world(

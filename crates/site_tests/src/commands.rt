@@ -43,7 +43,7 @@ pub(crate) fn run<R: Threads + Wait + Sync>(
     let words = words_of(alloc, words)?;
     let (source, out, err) = failing;
     let mut source = MemSource::new(alloc, input, &[source])?;
-    let mut out = MemSink::new(alloc, 4096, &[out])?;
+    let mut out = MemSink::new(alloc, 65_536, &[out])?;
     let mut err = MemSink::new(alloc, 4096, &[err])?;
     let words = words.as_slice();
     let status = site_main(rt, alloc, words, &mut source, &mut out, &mut err, &OpenGate);

@@ -1,6 +1,5 @@
 //! Sites of several files through `sequence`: what the classes and defines of modules come to.
-use site_commands::site_main;
-use site_io::{MemSink, MemSource, OpenGate};
+use crate::commands::{NONE, run};
 use std::alloc::{AllocError, Global};
 use std::sync::Wait;
 use std::test::Fail;
@@ -21,16 +20,10 @@ pub fn is_answered<R: Threads + Wait + Sync>(
     replies: &str,
 ) -> Result<bool, AllocError> {
     let bundle = bundle_of(alloc, folder)?;
-    let mut words = Vec::new(alloc);
-    words.push(String::from_str(alloc, "sequence")?)?;
-    let mut source = MemSource::new(alloc, bundle.as_bytes(), &[0])?;
-    let mut out = MemSink::new(alloc, 65536, &[0])?;
-    let mut err = MemSink::new(alloc, 4096, &[0])?;
-    let words = words.as_slice();
-    let ended = site_main(rt, alloc, words, &mut source, &mut out, &mut err, &OpenGate);
-    let written = unbroken(alloc, out.into_written().as_slice())?;
+    let outcome = run(rt, alloc, "sequence", bundle.as_bytes(), NONE)?;
+    let written = unbroken(alloc, outcome.out.as_slice())?;
     let wanted = unbroken(alloc, replies.as_bytes())?;
-    Ok(ended == status && written.as_slice().ends_with(wanted.as_slice()))
+    Ok(outcome.status == status && written.as_slice().ends_with(wanted.as_slice()))
 }
 
 /// The bytes without line feeds.

@@ -129,18 +129,18 @@ abbrev values : List Expr
 values = indexed ∷ asked ∷ selected ∷ called ∷ with_lambda ∷ []
 
 -- than a prefix operator
-behind_prefix : file_of main_path (codes "-$a[1]; -$a.b; -$a ? { 1 => 2 }; -f(1); -f(1) |$x| { 2 }") ≡ each (map (prefixed prefix.Negate) values)
+behind_prefix : file_of main_path (codes "-$a[1]; -$a.b; -$a?{ 1 => 2 }; -f(1); -f(1) |$x| { 2 }") ≡ each (map (prefixed prefix.Negate) values)
 unfolding read
 behind_prefix = refl
 
 -- than the tightest operator, on either side
-beside_tightest : file_of main_path (codes "$a[1] in $a[1]; $a.b in $a.b; $a ? { 1 => 2 } in $a ? { 1 => 2 }; f(1) in f(1); f(1) |$x| { 2 } in f(1) |$x| { 2 }")
+beside_tightest : file_of main_path (codes "$a[1] in $a[1]; $a.b in $a.b; $a?{ 1 => 2 } in $a?{ 1 => 2 }; f(1) in f(1); f(1) |$x| { 2 } in f(1) |$x| { 2 }")
     ≡ each (map (λ x. with x binary.In x) values)
 unfolding read
 beside_tightest = refl
 
 -- one behind the other, in their order
-postfixes : file_of main_path (codes "$a[1].b(2) |$x| { 3 }[4] ? { 5 => 6 }.c; f(1)[2]")
+postfixes : file_of main_path (codes "$a[1].b(2) |$x| { 3 }[4]?{ 5 => 6 }.c; f(1)[2]")
     ≡ each (followed a (postfix.Access (n 1 ∷ []) ∷ postfix.Method (tree.call (codes "b") (n 2 ∷ []) (Some (tree.lambda (tree.param None (codes "x") None 1 ∷ []) (alone (n 3) ∷ []))))
     ∷ postfix.Access (n 4 ∷ []) ∷ postfix.Select (tree.pair (n 5) (n 6) ∷ []) ∷ postfix.Method (tree.call (codes "c") [] None) ∷ []) ∷ followed called (postfix.Access (n 2 ∷ []) ∷ []) ∷ [])
 unfolding read
@@ -151,7 +151,7 @@ postfixes = refl
 abbrev either : Expr
 either = with (n 1) binary.Or (n 2)
 
-within_brackets : file_of main_path (codes "(1 or 2) and 3; [1 or 2]; $a[1 or 2]; f(1 or 2); $a ? { 1 or 2 => 1 or 2 }; $a = 1 or 2; $a = $b = 1 or 2")
+within_brackets : file_of main_path (codes "(1 or 2) and 3; [1 or 2]; $a[1 or 2]; f(1 or 2); $a?{ 1 or 2 => 1 or 2 }; $a = 1 or 2; $a = $b = 1 or 2")
     ≡ each (with (tree.expr_at 1 (form.Parentheses either)) binary.And (n 3) ∷ tree.expr_at 1 (form.List (either ∷ [])) ∷ followed a (postfix.Access (either ∷ []) ∷ [])
     ∷ tree.expr_at 1 (form.Call (tree.call (codes "f") (either ∷ []) None)) ∷ followed a (postfix.Select (tree.pair either either ∷ []) ∷ [])
     ∷ tree.expr_at 1 (form.Assign (codes "a") either) ∷ tree.expr_at 1 (form.Assign (codes "a") (tree.expr_at 1 (form.Assign (codes "b") either))) ∷ [])

@@ -25,7 +25,8 @@ use Rattle.world_laws.proofs.Worlds.{same_world, book_grows}
 
 -- ---- local declarations
 
-marks : (b : Bool) (n : ℕ) (w : World) → Reaches {A = Bool} w (cond {A = Outcome Bool} b (Ok (not (is_live_at w.book n), record w { book = with_mark n w.book })) (Ok (false, w)))
+marks : (b : Bool) (n : ℕ) (w : World) →
+    Reaches {A = Bool} w (cond {A = Outcome Bool} b (Ok (not (is_live_at w.book n), record w { book = with_mark n w.book })) (Ok (false, w)))
 marks true n w = book_grows w (with_mark n w.book) (grows-mark n w.book)
 marks false n w = same_world w
 

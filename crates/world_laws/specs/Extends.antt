@@ -39,7 +39,8 @@ pub record OwnersStay (old new : Owners) : Type 0 where
 -- Override lines go on. What a scope says by a default statement for an attribute of a kind, it goes on to say.
 pub record OverridesStay (old new : State) : Type 0 where
   pub lines : GoesOn old.lines new.lines
-  pub defaults : (kind : List ℕ) (scope : ℕ) (name : List ℕ) (d : Datum) → default_in old.defaults kind scope name ≡ Some d → default_in new.defaults kind scope name ≡ Some d
+  pub defaults : (kind : List ℕ) (scope : ℕ) (name : List ℕ) (d : Datum) →
+      default_in old.defaults kind scope name ≡ Some d → default_in new.defaults kind scope name ≡ Some d
 
 -- relation lines, pairs of `contain` and collectors go on
 pub record RelationsGoOn (old new : Related) : Type 0 where

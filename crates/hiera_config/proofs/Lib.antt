@@ -1,4 +1,5 @@
 pub mod Meets
+pub mod PlainTexts
 mod CutLemmas
 mod BlankLemmas
 mod PieceLemmas
@@ -7,5 +8,5 @@ mod ConfigExamples
 mod SourceExamples
 mod ReadLists
 mod FileLemmas
-mod ScopeReads
 mod PathLemmas
+mod PathTexts

@@ -1,7 +1,7 @@
 //! What stands between `%{` and `}`.
 ghost use Rattle.std.specs.Prelude.{◌≡◌, ◌<◌, ◌++◌, length, option_map, codes};
-ghost use Rattle.hiera_config.specs.FormView.{form_view, form_by};
-ghost use Rattle.hiera_config.specs.Pieces.{quoted, argument, argument_of, method_of, form_of, path_form};
+ghost use Rattle.hiera_config.specs.FormView.{form_view};
+ghost use Rattle.hiera_config.specs.Pieces.{quoted, argument, argument_of, method_of, form_of};
 
 use crate::cutting::{after_prefix, before_suffix, cut_at};
 
@@ -72,27 +72,5 @@ pub fn form_of(text: &str) -> Form<'_>
         method_of(text)
     } else {
         Form::Variable(text)
-    }
-}
-
-#[tactic(auto, unfolding(crate::specs::Pieces::path_form))]
-fn path_form(text: &str) -> Form<'_>
-    ensures { form_view result ≡ path_form text.now }
-{
-    if cut_at(text, "(").is_some() {
-        Form::Unlawful
-    } else {
-        Form::Variable(text)
-    }
-}
-
-/// In a path only variables are lawful.
-pub fn form_by(in_path: bool, text: &str) -> Form<'_>
-    ensures { form_view result ≡ form_by in_path text.now }
-{
-    if in_path {
-        path_form(text)
-    } else {
-        form_of(text)
     }
 }

@@ -1,12 +1,13 @@
 //! The pieces of a text of the data.
-ghost use Rattle.std.specs.Prelude.{◌≡◌, [], ◌∷◌, ◌++◌, IfOk, OnOk, option_map, codes};
+ghost use Rattle.std.specs.Prelude.{◌≡◌, [], ◌∷◌, ◌++◌, IfOk, OnOk, is_some, option_map, codes};
 ghost use Rattle.hiera_config.specs.declared.interpolation.Piece.TheVariants as piece;
-ghost use Rattle.hiera_config.specs.FormView.{form_view, form_by};
+ghost use Rattle.hiera_config.specs.Cuts.{cut_at};
+ghost use Rattle.hiera_config.specs.FormView.{form_view};
 ghost use Rattle.hiera_config.specs.Written.{piece_in, goes_on};
-ghost use Rattle.hiera_config.specs.Pieces.{pieces, path_pieces, pieces_by, whole_alias, if_ends, alias_of};
+ghost use Rattle.hiera_config.specs.Pieces.{pieces, whole_alias, if_ends, alias_of};
 
 use crate::cutting::{after_prefix, cut_at, trimmed};
-use crate::forms::{Form, form_by, form_of};
+use crate::forms::{Form, form_of};
 use pp_values::{Memory, Text};
 use std::alloc::Global;
 
@@ -26,19 +27,6 @@ pub enum Piece {
 pub fn pieces(alloc: Global, text: &str) -> Result<Vec<Piece>, Memory>
     ensures { IfOk result (λ v. v.items ≡ pieces text.now) }
 {
-    pieces_by(alloc, false, text)
-}
-
-/// The pieces of a path or a folder of a configuration.
-pub fn path_pieces(alloc: Global, text: &str) -> Result<Vec<Piece>, Memory>
-    ensures { IfOk result (λ v. v.items ≡ path_pieces text.now) }
-{
-    pieces_by(alloc, true, text)
-}
-
-fn pieces_by(alloc: Global, in_path: bool, text: &str) -> Result<Vec<Piece>, Memory>
-    ensures { IfOk result (λ v. v.items ≡ pieces_by (form_by in_path) text.now) }
-{
     let mut pieces = Vec::new(alloc);
     let mut rest = text;
     while let Some((before, behind)) = cut_at(rest, "%{") {
@@ -47,7 +35,7 @@ fn pieces_by(alloc: Global, in_path: bool, text: &str) -> Result<Vec<Piece>, Mem
             add_broken(alloc, &mut pieces, behind)?;
             return Ok(pieces);
         };
-        if !add_form(alloc, &mut pieces, form_by(in_path, trimmed(inner)), behind)? {
+        if !add_form(alloc, &mut pieces, form_of(trimmed(inner)), behind)? {
             return Ok(pieces);
         }
         rest = after;
@@ -98,6 +86,13 @@ fn add_broken(alloc: Global, pieces: &mut Vec<Piece>, behind: &str) -> Result<()
     text.push_str(behind)?;
     pieces.push(Piece::Broken(Text::new(text)))?;
     Ok(())
+}
+
+/// Whether the text interpolates anything. A text that does not is its one piece.
+pub fn interpolates(text: &str) -> bool
+    ensures { result ≡ is_some (cut_at (codes "%{") text.now) }
+{
+    cut_at(text, "%{").is_some()
 }
 
 /// The key of an alias that is the whole text.

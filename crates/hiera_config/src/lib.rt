@@ -18,7 +18,7 @@ pub mod variables;
 
 pub use config::{Config, Layer, Level, LevelPaths, Levels};
 pub use config_reading::read_config;
-pub use interpolation::{Piece, pieces, whole_alias};
+pub use interpolation::{Piece, interpolates, pieces, whole_alias};
 pub use modules::module_of;
 pub use refused::{Refused, bad_data, bad_interpolation};
 pub use searching::{Source, sources};

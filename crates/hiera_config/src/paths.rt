@@ -1,13 +1,15 @@
 //! Paths of data files.
-ghost use Rattle.std.specs.Prelude.{◌≡◌, ◌++◌, [], IfOk, OnOk, string_bytes};
-ghost use Rattle.pp_values.specs.Views.{view};
-ghost use Rattle.hiera_config.specs.Meant.{MeetsBy};
+ghost use Rattle.std.specs.Prelude.{◌≡◌, ◌++◌, IfOk, OnOk, codes, string_bytes};
+ghost use Rattle.pp_values.specs.declared.fault.What.TheVariants as what;
+ghost use Rattle.hiera_config.specs.Meant.{MeetsBy, Tells, in_turn};
+ghost use Rattle.hiera_config.specs.Pieces.{path_form, path_pieces};
 ghost use Rattle.hiera_config.specs.Seen.{names_seen};
-ghost use Rattle.hiera_config.specs.Variables.{path_text, path_piece, variable, text_or_none};
-ghost use Rattle.hiera_config.specs.Sources.{path_of, joined_path};
+ghost use Rattle.hiera_config.specs.Variables.{path_piece, variable, text_or_none};
+ghost use Rattle.hiera_config.specs.Sources.{path_of};
+ghost use Rattle.hiera_config.specs.Written.{piece_in};
 
 use crate::config::Level;
-use crate::interpolation::{Piece, path_pieces};
+use crate::cutting::{cut_at, trimmed};
 use crate::names::Names;
 use crate::refused::{Refused, bad_interpolation};
 use pp_values::{Memory, Text, write_value};
@@ -23,48 +25,77 @@ pub fn path_of(
 ) -> Result<Text, Refused>
     ensures { MeetsBy (λ t. t) result (path_of (names_seen names.now) folder.now level.now template.now) }
 {
-    let inner = path_text(alloc, names, &level.folder)?;
-    let path = path_text(alloc, names, template)?;
-    Ok(joined_path(alloc, folder, &inner, &path)?)
+    let mut path = with_room(alloc, folder)?;
+    add_text(alloc, names, &mut path, level.folder.as_str())?;
+    path.push_str("/")?;
+    add_text(alloc, names, &mut path, template.as_str())?;
+    Ok(Text::new(path))
 }
 
-fn joined_path(alloc: Global, folder: &str, inner: &Text, path: &Text) -> Result<Text, Memory>
-    ensures { IfOk result (λ t. t ≡ joined_path folder.now inner.now path.now) }
+/// How long a path mostly is at most.
+const USUAL: usize = 64;
+
+/// The text, with room for a usual path.
+pub fn with_room(alloc: Global, text: &str) -> Result<String, Memory>
+    ensures { IfOk result (λ s. string_bytes s ≡ text.now) }
 {
-    let mut joined = String::from_str(alloc, folder)?;
-    joined.push_str(inner.as_str())?;
-    joined.push_str("/")?;
-    joined.push_str(path.as_str())?;
-    Ok(Text::new(joined))
+    let mut path = String::with_capacity(alloc, USUAL)?;
+    path.push_str(text)?;
+    Ok(path)
 }
 
-/// The text with its variables filled in.
-fn path_text(alloc: Global, names: &Names<'_>, text: &Text) -> Result<Text, Refused>
-    ensures { MeetsBy (λ t. t) result (path_text (names_seen names.now) text.now) }
+/// Appends the text with its variables filled in, without a copy of its pieces.
+fn add_text(alloc: Global, names: &Names<'_>, out: &mut String, text: &str) -> Result<(), Refused>
+    ensures { MeetsBy (λ u. string_bytes out.new) result
+        (in_turn (path_piece (names_seen names.now)) (string_bytes out.old) (path_pieces text.now)) }
 {
-    let pieces = path_pieces(alloc, text.as_str())?;
-    let mut out = String::new(alloc);
-    for piece in pieces.as_slice() {
-        write_piece(alloc, names, &mut out, piece)?;
+    let mut rest = text;
+    while let Some((before, behind)) = cut_at(rest, "%{") {
+        out.push_str(before)?;
+        let Some((inner, after)) = cut_at(behind, "}") else {
+            return Err(broken(alloc, behind));
+        };
+        add_form(alloc, names, out, trimmed(inner), behind)?;
+        rest = after;
     }
-    Ok(Text::new(out))
+    out.push_str(rest)?;
+    Ok(())
 }
 
-fn write_piece(
+/// Appends what stands between `%{` and `}`: in a path only variables are lawful.
+#[tactic(auto, unfolding(crate::specs::Pieces::path_form))]
+fn add_form(
     alloc: Global,
     names: &Names<'_>,
     out: &mut String,
-    piece: &Piece,
+    inner: &str,
+    behind: &str,
 ) -> Result<(), Refused>
     ensures { MeetsBy (λ u. string_bytes out.new) result
-        (path_piece (names_seen names.now) (string_bytes out.old) piece.now) }
+        (path_piece (names_seen names.now) (string_bytes out.old) (piece_in behind.now (path_form inner.now))) }
 {
-    match piece {
-        Piece::Letters(text) => Ok(out.push_str(text.as_str())?),
-        Piece::Reads(name) => Ok(write_variable(alloc, names, out, name.as_str())?),
-        Piece::Asks(_) => Ok(()),
-        Piece::Broken(text) => Err(bad_interpolation(alloc, text.as_str())),
+    if cut_at(inner, "(").is_some() {
+        return Err(broken(alloc, behind));
     }
+    Ok(write_variable(alloc, names, out, inner)?)
+}
+
+/// The fault of an interpolation that is none, by what stands behind its `%{`.
+fn broken(alloc: Global, behind: &str) -> Refused
+    ensures { Tells result (what.BadInterpolation (codes "%{" ++ behind.now)) }
+{
+    match opened(alloc, behind) {
+        Ok(text) => bad_interpolation(alloc, text.as_str()),
+        Err(Memory) => Refused::Memory,
+    }
+}
+
+fn opened(alloc: Global, behind: &str) -> Result<Text, Memory>
+    ensures { IfOk result (λ t. t ≡ codes "%{" ++ behind.now) }
+{
+    let mut text = String::from_str(alloc, "%{")?;
+    text.push_str(behind)?;
+    Ok(Text::new(text))
 }
 
 fn write_variable(

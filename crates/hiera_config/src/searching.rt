@@ -12,7 +12,7 @@ ghost use Rattle.hiera_config.specs.Variables.{variable as variable_of, mapped_v
 use crate::config::{Config, Level, LevelPaths};
 use crate::mapping::mapped_values;
 use crate::names::Names;
-use crate::paths::path_of;
+use crate::paths::{path_of, with_room};
 use crate::refused::{Refused, bad_data};
 use crate::site_data::SiteData;
 use crate::variables::Variables;
@@ -147,7 +147,7 @@ fn default_levels_of<'a>(config: Option<&'a Config>) -> &'a [Level]
 fn module_folder(alloc: Global, name: &str) -> Result<Text, Memory>
     ensures { IfOk result (λ t. t ≡ spec.module_folder name.now) }
 {
-    let mut folder = String::from_str(alloc, "modules/")?;
+    let mut folder = with_room(alloc, "modules/")?;
     folder.push_str(name)?;
     folder.push_str("/")?;
     Ok(Text::new(folder))
@@ -175,7 +175,7 @@ fn config_in<'a>(
 fn config_path(alloc: Global, folder: &str) -> Result<Text, Memory>
     ensures { IfOk result (λ t. t ≡ spec.config_path folder.now) }
 {
-    let mut path = String::from_str(alloc, folder)?;
+    let mut path = with_room(alloc, folder)?;
     path.push_str("hiera.yaml")?;
     Ok(Text::new(path))
 }

@@ -4,7 +4,7 @@ ghost use Rattle.hiera_config.specs.Seen.{seen};
 ghost use Rattle.hiera_config.specs.Variables.{in_scope, variable};
 
 use hiera_merge::{dig, parts, root, steps};
-use pp_values::{Memory, Place, Text, Value};
+use pp_values::{Memory, Text, Value};
 use scope_core::{ScopeId, Scopes};
 use std::alloc::Global;
 
@@ -38,15 +38,7 @@ impl<'a> Variables<'a> {
     pub(crate) fn read(&self, alloc: Global, name: &str) -> Result<Option<&Value>, Memory>
         ensures { IfOk result (λ o. option_map (λ v. view v.now) o ≡ seen self.now name.now) }
     {
-        let file = Text::from_str(alloc, "")?;
         let name = Text::from_str(alloc, name)?;
-        // A name without a value is the only fault, and its place is not told.
-        match self
-            .scopes
-            .read(alloc, self.scope, &name, &Place { file, line: 0 })
-        {
-            Ok(value) => Ok(Some(value)),
-            Err(_) => Ok(None),
-        }
+        Ok(self.scopes.get(self.scope, &name))
     }
 }

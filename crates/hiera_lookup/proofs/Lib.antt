@@ -1,5 +1,6 @@
 pub mod Calls
 mod Examples
 pub mod Lists
+mod PlainTexts
 pub mod Sources
 pub mod Steps

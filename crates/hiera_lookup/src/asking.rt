@@ -5,7 +5,7 @@ ghost use Rattle.pp_values.specs.Datum.{data_of, entries_of};
 ghost use Rattle.pp_values.specs.Views.{view, views, pair_views};
 ghost use Rattle.hiera_lookup.specs.Asks.{piece_asks, text_asks, asks, list_asks, pair_asks};
 
-use hiera_config::{Piece, pieces, whole_alias};
+use hiera_config::{Piece, interpolates, pieces, whole_alias};
 use pp_values::{Memory, Text, Value};
 use std::alloc::Global;
 
@@ -52,7 +52,18 @@ fn add_pairs(alloc: Global, asked: &mut Vec<Ask>, pairs: &[(Value, Value)]) -> R
     Ok(())
 }
 
+/// Most texts interpolate nothing, and are not taken to pieces.
 fn add_text(alloc: Global, asked: &mut Vec<Ask>, text: &str) -> Result<(), Memory>
+    ensures { OnOk result (asked.new.items ≡ asked.old.items ++ text_asks text.now) }
+{
+    if interpolates(text) {
+        add_of_pieces(alloc, asked, text)
+    } else {
+        Ok(())
+    }
+}
+
+fn add_of_pieces(alloc: Global, asked: &mut Vec<Ask>, text: &str) -> Result<(), Memory>
     ensures { OnOk result (asked.new.items ≡ asked.old.items ++ text_asks text.now) }
 {
     match whole_alias(text) {

@@ -10,7 +10,7 @@ ghost use Rattle.hiera_lookup.specs.World.{seen};
 
 use crate::answer::{Answers, answer_to};
 use crate::world::World;
-use hiera_config::{Piece, pieces, whole_alias};
+use hiera_config::{Piece, interpolates, pieces, whole_alias};
 use pp_values::{Memory, Pairs, Text, Value, Values, copy, text_of, write_value};
 use std::alloc::Global;
 
@@ -81,7 +81,23 @@ pub fn as_key(alloc: Global, value: &Value) -> Result<Value, Memory>
     }
 }
 
+/// Most texts interpolate nothing, and stand for themselves.
 fn fill_text(
+    alloc: Global,
+    world: &World<'_>,
+    answers: &Answers,
+    text: &str,
+) -> Result<Value, Memory>
+    ensures { IfOk result (λ v. view v ≡ text_filled ((seen world.now).reads) (answer_to answers.now) text.now) }
+{
+    if interpolates(text) {
+        fill_opened(alloc, world, answers, text)
+    } else {
+        Ok(Value::Text(Text::from_str(alloc, text)?))
+    }
+}
+
+fn fill_opened(
     alloc: Global,
     world: &World<'_>,
     answers: &Answers,

@@ -37,6 +37,16 @@ impl Drop for Source {
     }
 }
 
+impl Source {
+    /// The value, without its path.
+    pub fn into_value(self) -> Value
+        ensures { result ≡ self.value }
+    {
+        let Source { value, path: _path } = self;
+        value
+    }
+}
+
 /// What is looked for: a key, in the files of a configuration's folder.
 #[derive(Clone, Copy)]
 struct Search<'a> {

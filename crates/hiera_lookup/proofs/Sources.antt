@@ -1,15 +1,18 @@
 -- Sources as the code holds them.
 use denote.Ref.{Bor}
 use Rattle.std.proofs.Common.{◌≡◌, ℕ, zero, suc, ◌+◌, ◌-◌, ◌<◌, ◌≤◌, true, false, List, [], ◌∷◌, length, drop, take, get_or, Option, None, Some, option_map, map, Ok, refl, sym, ap, ◌∙◌, arith}
-use Rattle.std.specs.Prelude.{option_copied}
+use Rattle.std.specs.Prelude.{option_copied, slice_get}
 use Rattle.pp_values.specs.Views.{view}
 use Rattle.pp_values.specs.declared.value.Value.{Value}
 use Rattle.hiera_config.specs.Found.{source_views}
 use Rattle.hiera_config.specs.declared.searching.Source.{Source}
 use Rattle.hiera_merge.specs.declared.merge.Merge.{Merge}
+use Rattle.hiera_merge.specs.declared.merge.Merge.TheVariants as by
+use Rattle.hiera_merge.specs.Digging.{dug}
+use Rattle.pp_values.specs.Datum.{Datum}
 use Rattle.hiera_merge.specs.Merges.{merged}
 use Rattle.hiera_lookup.specs.Filled.{Answer}
-use Rattle.hiera_lookup.specs.Found.{found_in, dug_or_refused}
+use Rattle.hiera_lookup.specs.Found.{found_in, dug_or_refused, steps_of}
 use Rattle.hiera_lookup.specs.Options.{has_options, highest_path}
 use Rattle.hiera_lookup.specs.World.{World}
 
@@ -47,6 +50,16 @@ found_more key merge (x ∷ xs) high h at =
     ∙ ap (λ (y : Source). dug_or_refused key
     (merged merge (view y.value) (map (λ s. view s.value) (take (length (x ∷ xs) - 1) (drop 1 (x ∷ xs))))))
     (sym at)
+
+-- by `first`, the highest alone
+pub found_first : (key : List ℕ) (merge : Merge) (xs : List Source) (steps : List (List ℕ)) (d : Datum)
+    (found : Option Datum) → merge ≡ by.First → slice_get (map (λ s. view s.value) xs) 0 ≡ Some d → steps ≡ steps_of key
+    → found ≡ dug steps d → found_in key merge (source_views xs) ≡ Ok found
+unfolding found_in
+found_first key merge [] steps d found first at same is = absurd (cc at)
+found_first key merge (x ∷ xs) steps d found first at same is =
+    let high : view x.value ≡ d = cc at in
+    rw (first, is, same, sym high) refl
 
 -- ---- the file of options that are none
 

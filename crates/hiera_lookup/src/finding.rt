@@ -1,5 +1,5 @@
 //! What the sources have for a key.
-ghost use Rattle.std.specs.Prelude.{◌≡◌, IfOk, map, option_map};
+ghost use Rattle.std.specs.Prelude.{◌≡◌, ◌<◌, IfOk, Some, length, map, option_map, slice_get};
 ghost use Rattle.pp_values.specs.Views.{view};
 ghost use Rattle.hiera_config.specs.Meant.{MeetsBy};
 ghost use Rattle.hiera_config.specs.Found.{source_views};
@@ -30,10 +30,35 @@ pub fn found(
 {
     let parts = parts(alloc, key)?;
     let sources = sources(alloc, world.data, &world.variables, of_module, root(&parts))?;
-    found_in(alloc, key, steps(&parts), merge, &sources)
+    found_in(alloc, key, steps(&parts), merge, sources)
 }
 
 fn found_in(
+    alloc: Global,
+    key: &str,
+    steps: &[&str],
+    merge: Merge,
+    sources: Vec<Source>,
+) -> Result<Option<Value>, Refused>
+    requires { map (λ x. x.now) steps.now ≡ steps_of key.now }
+    ensures { MeetsBy (option_map view) result (found_in key.now merge (source_views sources.items)) }
+{
+    match merge {
+        Merge::First if !sources.is_empty() => Ok(part(alloc, highest(sources), steps)?),
+        _ => found_in_all(alloc, key, steps, merge, &sources),
+    }
+}
+
+/// The value of the highest source.
+fn highest(sources: Vec<Source>) -> Value
+    requires { 0 < length sources.items }
+    ensures { slice_get (map (λ s. view s.value) sources.items) 0 ≡ Some (view result) }
+{
+    let mut sources = sources;
+    sources.swap_remove(0).into_value()
+}
+
+fn found_in_all(
     alloc: Global,
     key: &str,
     steps: &[&str],
@@ -61,9 +86,6 @@ fn found_among(
     ensures { MeetsBy (option_map view) result
         (dug_or_refused key.now (merged merge (view high.now.value) (map (λ s. view s.value) lower.now))) }
 {
-    if merge == Merge::First {
-        return Ok(copied(alloc, dig(&high.value, steps))?);
-    }
     let lower = values(alloc, lower)?;
     match merged(alloc, merge, &high.value, &lower)? {
         Some(value) => Ok(part(alloc, value, steps)?),

@@ -16,4 +16,4 @@ unfolding found
 returns c =
     let is : c.root.result.now ≡ root_of c.args.key.now =
     c.root.ensures ∙ ap (λ xs. root (map (λ x. x.now) xs)) c.deref.ensures.value ∙ ap root c.in_ok-parts.ensures in
-    after_ok _ (rw is at c.in_ok-sources.ensures) (rw c.deref-3.ensures.value at c.found_in.ensures)
+    after_ok _ (rw is at c.in_ok-sources.ensures) c.found_in.ensures

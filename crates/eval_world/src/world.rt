@@ -1,4 +1,4 @@
-ghost use Rattle.std.specs.Prelude.{◌≡◌, IfOk};
+ghost use Rattle.std.specs.Prelude.{◌≡◌, [], IfOk};
 ghost use Rattle.pp_values.specs.Faults.{fault};
 ghost use Rattle.eval_world.specs.Outcomes.{Gives, nothing, same};
 ghost use Rattle.eval_world.specs.Worlds as spec;
@@ -92,6 +92,17 @@ impl<'a> World<'a> {
         })
     }
 
+    /// A place for a step whose fault, if there is one, is told anew at its own place. It takes no memory.
+    pub fn nowhere(&self) -> Place
+        ensures file { result.file ≡ [] }
+        ensures line { result.line ≡ 0 }
+    {
+        Place {
+            file: Text::new(String::new(self.heap.alloc())),
+            line: 0,
+        }
+    }
+
     /// A fault at a line of the file whose code is evaluated.
     pub fn fault(&self, here: Here, line: u32, what: What) -> Result<Fault, Memory>
         ensures { IfOk result (λ f. f ≡ fault (spec.place_at self.now here line) what) }
@@ -121,8 +132,9 @@ impl<'a> World<'a> {
         }
     }
 
-    /// Sets a variable. F3 is placed at this line.
-    #[tactic(auto, unfolding(crate::specs::Worlds::assign))]
+    /// Sets a variable. F3 is placed at this line, and a place is made only for it: the scopes are asked with no
+    /// place at all.
+    #[tactic(auto, unfolding(crate::specs::Worlds::assign), using(crate::proofs::Elsewhere::set_here, crate::proofs::Elsewhere::refused_here))]
     pub fn assign(
         &mut self,
         here: Here,
@@ -132,8 +144,19 @@ impl<'a> World<'a> {
     ) -> Result<(), Stop>
         ensures { Gives nothing (spec.assign here name.now value line self.old) result self.new }
     {
-        let at = self.place(here, line)?;
-        self.scopes.assign(self.heap.alloc(), here.scope, name, value.into_value(), &at)
+        let alloc = self.heap.alloc();
+        let nowhere = self.nowhere();
+        match self
+            .scopes
+            .assign(alloc, here.scope, name, value.into_value(), &nowhere)
+        {
+            Ok(()) => Ok(()),
+            Err(Stop::Memory) => Err(Stop::Memory),
+            Err(Stop::Fault(_)) => {
+                let name = name.copy(alloc)?;
+                Err(Stop::Fault(self.fault(here, line, What::Reassigned(name))?))
+            }
+        }
     }
 
     /// The scope of one call of a lambda that stands here.

@@ -1,2 +1,3 @@
 mod Samples
 mod Examples
+mod Elsewhere

@@ -11,9 +11,35 @@ use expr_eval::{combine, is_of};
 use pp_ops::op::Op;
 use pp_values::{Fault, Memory, Stop};
 
-/// The value of an operator over two values.
-#[tactic(auto, unfolding(crate::specs::Answering::combined))]
+/// The value of an operator over two values. A place is made only where there is a fault to tell: the operator is asked
+/// with no place first, and once more with its own where it refuses.
+#[tactic(auto, using(crate::proofs::Elsewhere::combined_here))]
 pub fn combined(
+    world: &World<'_>,
+    op: Op,
+    left: &Evaluated,
+    right: &Evaluated,
+    line: u32,
+    here: Here,
+) -> Result<Evaluated, Stop>
+    ensures { Gives same (spec.combined op left.now right.now line here world.now) result world.now }
+{
+    let nowhere = world.nowhere();
+    match combine(
+        world.heap.alloc(),
+        op,
+        left.as_value(),
+        right.as_value(),
+        &nowhere,
+    ) {
+        Ok(value) => Ok(Evaluated::new(value)),
+        Err(Stop::Memory) => Err(Stop::Memory),
+        Err(Stop::Fault(_)) => combined_at(world, op, left, right, line, here),
+    }
+}
+
+#[tactic(auto, unfolding(crate::specs::Answering::combined))]
+fn combined_at(
     world: &World<'_>,
     op: Op,
     left: &Evaluated,
@@ -34,8 +60,31 @@ pub fn combined(
     Ok(Evaluated::new(value))
 }
 
-/// Whether a value is of a type.
+/// Whether a value is of a type. A place is made only where there is a fault to tell.
+#[tactic(auto, using(crate::proofs::Elsewhere::tested_here))]
 pub fn is_of_type(
+    world: &World<'_>,
+    value: &Evaluated,
+    kind: &Evaluated,
+    line: u32,
+    here: Here,
+) -> Result<bool, Stop>
+    ensures { Gives same (spec.answered_at (is_of value.now kind.now) line here world.now) result world.now }
+{
+    let nowhere = world.nowhere();
+    match is_of(
+        world.heap.alloc(),
+        value.as_value(),
+        kind.as_value(),
+        &nowhere,
+    ) {
+        Ok(is_one) => Ok(is_one),
+        Err(Stop::Memory) => Err(Stop::Memory),
+        Err(Stop::Fault(_)) => is_of_type_at(world, value, kind, line, here),
+    }
+}
+
+fn is_of_type_at(
     world: &World<'_>,
     value: &Evaluated,
     kind: &Evaluated,

@@ -68,6 +68,9 @@ fn with_pair<F: Fn(&mut World<'_>, Goal<'_>, Here, u32) -> Result<Evaluated, Sto
     Ok(done)
 }
 
+/// How many bytes a text with interpolation begins with room for, so that most of them are taken from memory once.
+const TEXT_ROOM: usize = 64;
+
 /// `"a${b}c"`
 #[tactic(auto, unfolding(crate::specs::Literals::interpolated_rule, crate::specs::Literals::pieces_from))]
 pub fn interpolated<
@@ -82,7 +85,7 @@ pub fn interpolated<
     requires { Nests (M.within forms.now.left) forms.now.left (F.pre forms.now.inner) (F.post forms.now.inner) }
     ensures { Gives same (spec.interpolated_rule (M.within forms.now.left) pieces.now here world.old) result world.new }
 {
-    let mut done = String::new(world.heap.alloc());
+    let mut done = String::with_capacity(world.heap.alloc(), TEXT_ROOM)?;
     let mut rest = pieces.as_slice();
     while let Some((piece, more)) = rest.split_first() {
         done = with_piece(forms, world, done, piece, here)?;

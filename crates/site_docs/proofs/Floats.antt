@@ -1,4 +1,4 @@
--- No document has a float, so that its text is exact.
+-- No document that is made as a tree has a float, so that its text is exact.
 use Rattle.std.proofs.Common.{◌≡◌, ℕ, Bool, true, false, ◌||◌, List, [], ◌∷◌, map, refl}
 use Rattle.std.specs.declared.cmp.Ordering.TheVariants.{Less, Equal, Greater}
 use Rattle.std.specs.Cmp.Lexicographic.{slice_cmp}
@@ -7,15 +7,11 @@ use Rattle.serde_json.specs.Data.{Data, Members, no_members, member, put, string
 use Rattle.serde_json.specs.View.{items_of}
 use Rattle.serde_json.specs.Written.{has_float, members_have_float}
 use Rattle.pp_values.specs.Datum.{Datum}
-use Rattle.res_core.specs.declared.held.Held.{Held}
-use Rattle.res_core.specs.declared.edge.Edge.{Edge}
-use Rattle.res_core.specs.declared.catalog.Catalog.{Catalog}
 use Rattle.res_core.specs.declared.exported.Exported.{Exported}
 use Rattle.site_core.specs.Events.{Event, opens, publishes, deactivates}
 use Rattle.json_values.specs.ValueForm.{form, put_all}
 use Rattle.json_values.proofs.Floats.{either, form_no_float, settings_no_float, all_no_float}
 use Rattle.site_bundle.specs.SiteView.{SiteView, Filed}
-use Rattle.site_docs.specs.CatalogText.{index_data, held_object, held_data, edge_data, catalog_object, catalog_data}
 use Rattle.site_docs.specs.SiteText.{site_object, file_settings, site_data}
 use Rattle.site_docs.specs.JournalText.{export_object, export_data, opening_object, publication_object, deactivation_object, count_object, entry_data}
 use Rattle.site_docs.specs.ReplyText.{refused_object, full_object, ahead_object, unknown_object, deactivated_object, memory_object}
@@ -27,22 +23,6 @@ or_first false b h = refl
 or_second : (a b : Bool) → (a || b) ≡ false → b ≡ false
 or_second true b h = absurd cc
 or_second false b h = h
-
-held_no_float : (h : Held) → has_float (held_data h) ≡ false
-unfolding held_data held_object
-held_no_float h =
-    either _ _ (settings_no_float h.item.attributes)
-    (either _ _ (all_no_float index_data (λ i. refl) h.inside)
-    (either _ _ (all_no_float string (λ t. refl) h.item.tags) refl))
-
-edge_no_float : (e : Edge) → has_float (edge_data e) ≡ false
-unfolding edge_data
-edge_no_float e = refl
-
-pub catalog_no_float : (c : Catalog) → has_float (catalog_data c) ≡ false
-unfolding catalog_data catalog_object
-catalog_no_float c = either _ _ (all_no_float edge_data edge_no_float c.edges)
-    (either _ _ (all_no_float held_data held_no_float c.resources) refl)
 
 put_no_float : (name : List ℕ) (d : Data) (ms : Members) → has_float d ≡ false → members_have_float ms ≡ false →
     members_have_float (put name d ms) ≡ false

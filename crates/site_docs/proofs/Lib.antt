@@ -1,4 +1,5 @@
 pub mod LineLemmas
 pub mod Nodes
 pub mod Floats
+pub mod Outlines
 mod Examples

@@ -4,7 +4,6 @@ use Rattle.serde_json.specs.Data.{Data, boolean, number, unsigned, string, array
 use Rattle.serde_json.specs.View.{items_of}
 use Rattle.serde_json.specs.Written.{compact_text}
 use Rattle.pp_values.specs.Words.{kind_text}
-use Rattle.res_core.specs.declared.resource.Resource.{Resource}
 use Rattle.res_core.specs.declared.held.Held.{Held}
 use Rattle.res_core.specs.declared.edge.Edge.{Edge}
 use Rattle.res_core.specs.declared.catalog.Catalog.{Catalog}

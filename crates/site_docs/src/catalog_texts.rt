@@ -1,115 +1,154 @@
 //! Catalogs as text.
-ghost use Rattle.std.specs.Prelude.{◌≡◌, map, IfOk};
-ghost use Rattle.serde_json.specs.View.{view as json_view};
-ghost use Rattle.site_docs.specs.CatalogText.{index_data, held_object as object_of_held, held_data, edge_data, catalog_object as object_of_catalog, catalog_data, catalog_text};
+ghost use Rattle.std.specs.Prelude.{◌≡◌, ◌++◌, map, IfOk, OnOk};
+ghost use Rattle.serde_json.specs.Data.{string, array, object};
+ghost use Rattle.serde_json.specs.View.{items_of};
+ghost use Rattle.json_values.specs.ValueForm.{setting_members};
+ghost use Rattle.pp_values.specs.Words.{kind_text as text_of_kind};
+ghost use Rattle.site_docs.specs.Tokens.{data_tokens};
+ghost use Rattle.site_docs.specs.CatalogText.{index_data, held_data, edge_data, catalog_data, catalog_text};
 
-use crate::resource_forms::{attributes_form, json_text, text_forms};
+use crate::json_output::JsonOutput;
+use crate::value_output::write_value;
+use pp_values::kind::Kind;
 use pp_values::memory::Memory;
 use pp_values::printing::kind_text;
 use pp_values::text::Text;
+use res_core::attributes::Attributes;
 use res_core::catalog::Catalog;
 use res_core::edge::Edge;
 use res_core::held::Held;
-use serde_json::{Value as Json, json};
 use std::alloc::{AllocError, Global};
 
 /// The catalog as one line of compact JSON, without a line feed at its end.
-#[tactic(auto, using(crate::proofs::Floats::catalog_no_float))]
+#[tactic(auto, using(crate::proofs::Outlines::printed_data))]
 pub fn catalog_text(alloc: Global, catalog: &Catalog) -> Result<Text, Memory>
     ensures { IfOk result (λ t. t ≡ catalog_text catalog.now) }
 {
-    let value = catalog_value(alloc, catalog)?;
-    json_text(alloc, &value)
+    let mut out = JsonOutput::new(alloc)?;
+    write_catalog(alloc, &mut out, catalog)?;
+    Ok(out.into_text())
 }
 
-#[tactic(auto, unfolding(crate::specs::CatalogText::catalog_data))]
-fn catalog_value(alloc: Global, catalog: &Catalog) -> Result<Json, Memory>
-    ensures { IfOk result (λ j. json_view j ≡ catalog_data catalog.now) }
+#[tactic(auto, unfolding(crate::specs::CatalogText::catalog_data, crate::specs::CatalogText::catalog_object))]
+fn write_catalog(alloc: Global, out: &mut JsonOutput, catalog: &Catalog) -> Result<(), Memory>
+    ensures { OnOk result (out.new ≡ out.old ++ data_tokens (catalog_data catalog.now)) }
 {
-    let edges = Json::Array(edge_values(alloc, catalog.edges.as_slice())?);
-    let resources = Json::Array(held_values(alloc, catalog.resources.as_slice())?);
-    Ok(catalog_object(alloc, edges, catalog.node.as_str(), resources)?)
+    out.begin_object()?;
+    out.key("catalog")?;
+    out.index(1)?;
+    out.key("edges")?;
+    write_edges(out, catalog.edges.as_slice())?;
+    out.key("node")?;
+    out.string(catalog.node.as_str())?;
+    out.key("resources")?;
+    write_resources(alloc, out, catalog.resources.as_slice())?;
+    out.end_object()?;
+    Ok(())
 }
 
-#[tactic(auto, unfolding(crate::specs::CatalogText::catalog_object))]
-fn catalog_object(
-    alloc: Global,
-    edges: Json,
-    node: &str,
-    resources: Json,
-) -> Result<Json, AllocError>
-    ensures { IfOk result (λ j. json_view j ≡ object_of_catalog (json_view edges) node.now (json_view resources)) }
+fn write_edges(out: &mut JsonOutput, edges: &[Edge]) -> Result<(), AllocError>
+    ensures { OnOk result (out.new ≡ out.old ++ data_tokens (array (items_of (map edge_data edges.now)))) }
 {
-    json!(in alloc; {"catalog": 1u32, "edges": edges, "node": node, "resources": resources})
-}
-
-fn edge_values(alloc: Global, edges: &[Edge]) -> Result<Vec<Json>, Memory>
-    ensures { IfOk result (λ v. map json_view v.items ≡ map edge_data edges.now) }
-{
-    let mut values = Vec::new(alloc);
+    out.begin_array()?;
     let mut left = edges;
     while let [edge, after @ ..] = left {
-        values.push(edge_value(alloc, edge)?)?;
+        write_edge(out, edge)?;
         left = after;
     }
-    Ok(values)
+    out.end_array()?;
+    Ok(())
 }
 
 #[tactic(auto, unfolding(crate::specs::CatalogText::edge_data))]
-fn edge_value(alloc: Global, edge: &Edge) -> Result<Json, AllocError>
-    ensures { IfOk result (λ j. json_view j ≡ edge_data edge.now) }
+fn write_edge(out: &mut JsonOutput, edge: &Edge) -> Result<(), AllocError>
+    ensures { OnOk result (out.new ≡ out.old ++ data_tokens (edge_data edge.now)) }
 {
-    json!(in alloc; [edge.from, edge.to, edge.signal])
+    out.begin_array()?;
+    out.index(edge.from)?;
+    out.index(edge.to)?;
+    out.boolean(edge.signal)?;
+    out.end_array()?;
+    Ok(())
 }
 
-fn held_values(alloc: Global, resources: &[Held]) -> Result<Vec<Json>, Memory>
-    ensures { IfOk result (λ v. map json_view v.items ≡ map held_data resources.now) }
+fn write_resources(alloc: Global, out: &mut JsonOutput, resources: &[Held]) -> Result<(), Memory>
+    ensures { OnOk result (out.new ≡ out.old ++ data_tokens (array (items_of (map held_data resources.now)))) }
 {
-    let mut values = Vec::new(alloc);
+    out.begin_array()?;
     let mut left = resources;
     while let [held, after @ ..] = left {
-        values.push(held_value(alloc, held)?)?;
+        write_held(alloc, out, held)?;
         left = after;
     }
-    Ok(values)
+    out.end_array()?;
+    Ok(())
 }
 
-#[tactic(auto, unfolding(crate::specs::CatalogText::held_data))]
-fn held_value(alloc: Global, held: &Held) -> Result<Json, Memory>
-    ensures { IfOk result (λ j. json_view j ≡ held_data held.now) }
+fn write_held(alloc: Global, out: &mut JsonOutput, held: &Held) -> Result<(), Memory>
+    ensures { OnOk result (out.new ≡ out.old ++ data_tokens (held_data held.now)) }
 {
     let item = held.item.as_resource();
-    let attributes = attributes_form(alloc, &item.attributes)?;
-    let inside = Json::Array(index_values(alloc, held.inside.as_slice())?);
-    let tags = Json::Array(text_forms(alloc, item.tags.as_slice())?);
-    let kind = kind_text(alloc, &item.kind)?;
-    let title = item.title.as_str();
-    Ok(held_object(alloc, attributes, inside, tags, title, kind.as_str())?)
+    out.begin_object()?;
+    out.key("attrs")?;
+    write_attributes(out, &item.attributes)?;
+    out.key("in")?;
+    write_indexes(out, held.inside.as_slice())?;
+    out.key("tags")?;
+    write_texts(out, item.tags.as_slice())?;
+    out.key("title")?;
+    out.string(item.title.as_str())?;
+    out.key("type")?;
+    write_kind(alloc, out, &item.kind)?;
+    out.end_object()?;
+    Ok(())
 }
 
-#[tactic(auto, unfolding(crate::specs::CatalogText::held_object))]
-fn held_object(
-    alloc: Global,
-    attributes: Json,
-    inside: Json,
-    tags: Json,
-    title: &str,
-    kind: &str,
-) -> Result<Json, AllocError>
-    ensures { IfOk result (λ j. json_view j
-        ≡ object_of_held (json_view attributes) (json_view inside) (json_view tags) title.now kind.now) }
+/// The attributes as an object: each name with the form of its value.
+fn write_attributes(out: &mut JsonOutput, attributes: &Attributes) -> Result<(), AllocError>
+    ensures { OnOk result (out.new ≡ out.old ++ data_tokens (object (setting_members attributes.now))) }
 {
-    json!(in alloc; {"attrs": attributes, "in": inside, "tags": tags, "title": title, "type": kind})
-}
-
-fn index_values(alloc: Global, indexes: &[u32]) -> Result<Vec<Json>, Memory>
-    ensures { IfOk result (λ v. map json_view v.items ≡ map index_data indexes.now) }
-{
-    let mut values = Vec::new(alloc);
-    let mut left = indexes;
-    while let [index, after @ ..] = left {
-        values.push(Json::from(*index))?;
+    out.begin_object()?;
+    let mut left = attributes.as_slice();
+    while let [attribute, after @ ..] = left {
+        out.key(attribute.name.as_str())?;
+        write_value(out, &attribute.value)?;
         left = after;
     }
-    Ok(values)
+    out.end_object()?;
+    Ok(())
+}
+
+fn write_indexes(out: &mut JsonOutput, indexes: &[u32]) -> Result<(), AllocError>
+    ensures { OnOk result (out.new ≡ out.old ++ data_tokens (array (items_of (map index_data indexes.now)))) }
+{
+    out.begin_array()?;
+    let mut left = indexes;
+    while let [index, after @ ..] = left {
+        out.index(*index)?;
+        left = after;
+    }
+    out.end_array()?;
+    Ok(())
+}
+
+fn write_texts(out: &mut JsonOutput, texts: &[Text]) -> Result<(), AllocError>
+    ensures { OnOk result (out.new ≡ out.old ++ data_tokens (array (items_of (map string texts.now)))) }
+{
+    out.begin_array()?;
+    let mut left = texts;
+    while let [text, after @ ..] = left {
+        out.string(text.as_str())?;
+        left = after;
+    }
+    out.end_array()?;
+    Ok(())
+}
+
+/// The kind as it is printed, `Web::Vhost` for `web::vhost`.
+fn write_kind(alloc: Global, out: &mut JsonOutput, kind: &Kind) -> Result<(), Memory>
+    ensures { OnOk result (out.new ≡ out.old ++ data_tokens (string (text_of_kind kind.now))) }
+{
+    let text = kind_text(alloc, kind)?;
+    out.string(text.as_str())?;
+    Ok(())
 }

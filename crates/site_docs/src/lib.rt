@@ -5,10 +5,12 @@ pub mod catalog_texts;
 pub mod fault_names;
 pub mod fault_texts;
 pub mod journals;
+mod json_output;
 pub mod log_texts;
 pub mod replies;
 mod resource_forms;
 pub mod site_texts;
+mod value_output;
 
 pub use catalog_texts::catalog_text;
 pub use fault_names::FAULT_NAMES;

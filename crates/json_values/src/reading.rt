@@ -102,10 +102,12 @@ fn last_value(members: Vec<(Value, Value)>) -> Value
 fn hash_in_turn(alloc: Global, value: Value) -> Result<Value, FormStop>
     ensures { IsForm view result (hash_in_turn (view value)) }
 {
-    match value {
-        Value::List(items) => long_hash(in_turn(alloc, items.into_vec())?),
-        _ => Err(FormStop::NoForm),
+    match &value {
+        Value::List(_items) => {}
+        _ => return Err(FormStop::NoForm),
     }
+    let members = value.into_members(alloc)?;
+    long_hash(in_turn(alloc, members.into_vec())?)
 }
 
 /// Keys and values that stand in turn, as pairs.

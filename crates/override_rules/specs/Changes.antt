@@ -1,6 +1,7 @@
 -- What one line makes of an attribute's value. `None` is an attribute that is not set.
-use Rattle.std.specs.Prelude.{Bool, if◌then◌else◌, List, [], ◌∷◌, ◌++◌, Option, None, Some}
-use Rattle.pp_values.specs.Datum.{Datum, undef, list, data_of, members_of}
+use Rattle.std.specs.Prelude.{Bool, if◌then◌else◌, ◌++◌, Option, None, Some}
+use Rattle.pp_values.specs.Datum.{Datum, undef, list, data_of}
+use Rattle.pp_values.specs.Members.{opened}
 
 -- `=>`: sets, and Undef unsets
 abbrev pub set_to : Datum → Option Datum
@@ -11,11 +12,6 @@ set_to d = Some d
 abbrev pub set_by : Option Datum → Option Datum
 set_by None = None
 set_by (Some d) = set_to d
-
--- a list's members, or else the value alone; lists within stay as they are
-abbrev pub opened : Datum → List Datum
-opened (list ds) = members_of ds
-opened d = d ∷ []
 
 -- `+>`: sets what is not set as `=>` does, and else makes a list of the old value and of the new one
 abbrev pub appended : Datum → Option Datum → Option Datum

@@ -1,7 +1,7 @@
 //! What one line makes of a value.
 ghost use Rattle.std.specs.Prelude.{◌≡◌, IfOk, option_map};
 ghost use Rattle.pp_values.specs.Views.{view, views};
-ghost use Rattle.override_rules.specs.Changes.{set_to as set_to_meant, opened as opened_meant, changed as changed_meant, appended as appended_meant};
+ghost use Rattle.override_rules.specs.Changes.{set_to as set_to_meant, changed as changed_meant, appended as appended_meant};
 
 use pp_values::{Memory, Value, Values, copy};
 use std::alloc::Global;
@@ -16,20 +16,6 @@ pub fn set_to(alloc: Global, value: &Value) -> Result<Option<Value>, Memory>
     }
 }
 
-/// The members of a list, or the value alone.
-fn opened(alloc: Global, value: Value) -> Result<Vec<Value>, Memory>
-    ensures { IfOk result (λ v. views v.items ≡ opened_meant (view value)) }
-{
-    match value {
-        Value::List(values) => Ok(values.into_vec()),
-        other => {
-            let mut items = Vec::new(alloc);
-            items.push(other)?;
-            Ok(items)
-        }
-    }
-}
-
 /// `+>` of a value.
 fn appended(alloc: Global, value: &Value, old: Option<Value>) -> Result<Option<Value>, Memory>
     ensures { IfOk result (λ o. option_map view o ≡ appended_meant (view value.now) (option_map view old)) }
@@ -37,8 +23,8 @@ fn appended(alloc: Global, value: &Value, old: Option<Value>) -> Result<Option<V
     match old {
         None => set_to(alloc, value),
         Some(old) => {
-            let mut items = opened(alloc, old)?;
-            let mut more = opened(alloc, copy(alloc, value)?)?;
+            let mut items = old.into_members(alloc)?.into_vec();
+            let mut more = copy(alloc, value)?.into_members(alloc)?.into_vec();
             items.append(&mut more)?;
             Ok(Some(Value::List(Values::from_vec(items))))
         }

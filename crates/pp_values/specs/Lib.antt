@@ -1,3 +1,4 @@
+pub mod TextForms
 pub mod References
 pub mod Kinds
 pub mod Sort
@@ -23,3 +24,4 @@ pub mod PairLists
 pub mod Equal
 pub mod Order
 pub mod TextOf
+pub mod Members

@@ -14,9 +14,15 @@ use std::mem;
 ///
 /// A contract sees what each key and value says.
 #[cycle(value)]
-#[derive(Drop)]
 pub struct Pairs {
     items: Vec<(Value, Value)>,
+}
+
+impl Drop for Pairs {
+    #[cycle(dropping)]
+    fn drop(self) {
+        let Pairs { items: _items } = self;
+    }
 }
 
 impl Model for Pairs {
@@ -64,7 +70,8 @@ impl Pairs {
         ensures pairs { pair_views result.items ≡ self }
         ensures distinct { IsTrue (are_distinct self) }
     {
-        self.items
+        let Pairs { items } = self;
+        items
     }
 
     pub fn len(&self) -> usize

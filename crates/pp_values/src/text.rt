@@ -5,52 +5,83 @@ ghost use Rattle.std.specs.Cmp.{partial_equiv_from_equiv};
 ghost use Rattle.std.specs.Str.{IsUtf8};
 
 use crate::memory::Memory;
+use arrayvec::ArrayString;
 use std::alloc::Global;
 use std::cmp::Ordering;
 use std::convert::AsStr;
 use std::fmt;
 use std::marker::Model;
 
+/// How many bytes a text has at most that lies in its value, without memory of its own.
+const SHORT: usize = 24;
+
 /// A text. A contract sees it as its bytes in UTF-8.
-#[derive(Drop)]
+///
+/// Names, titles and tags are short, and are copied more often than anything else: up to 24 bytes lie in the value.
 pub struct Text {
-    string: String,
+    form: TextForm,
+}
+
+#[derive(Drop)]
+pub(crate) enum TextForm {
+    Short(ArrayString<SHORT>),
+    Long(String),
+}
+
+// By hand, so that letting one go is one step for whoever holds it.
+impl Drop for Text {
+    fn drop(self) {
+        let Text { form: _form } = self;
+    }
 }
 
 impl Model for Text {
-    ghost use Rattle.std.specs.Prelude.{ℕ, List, string_bytes};
+    ghost use Rattle.std.specs.Prelude.{ℕ, List};
+    ghost use Rattle.pp_values.specs.TextForms.{form_bytes};
 
     ghost Value = { List ℕ };
 
-    ghost view = { λ t. string_bytes t.string };
+    ghost view = { λ t. form_bytes t.form };
 }
 
 impl Text {
     pub fn new(string: String) -> Text
         ensures { result ≡ string_bytes string }
     {
-        Text { string }
+        Text {
+            form: TextForm::Long(string),
+        }
     }
 
     pub fn from_str(alloc: Global, text: &str) -> Result<Text, Memory>
         ensures { IfOk result (λ t. t ≡ text.now) }
     {
-        Ok(Text {
-            string: String::from_str(alloc, text)?,
-        })
+        let form = match ArrayString::from(text) {
+            Ok(short) => TextForm::Short(short),
+            Err(_) => TextForm::Long(String::from_str(alloc, text)?),
+        };
+        Ok(Text { form })
     }
 
     pub fn as_str(&self) -> &str
         ensures text { result.now ≡ self.now }
         ensures utf8 { IsUtf8 self.now }
     {
-        self.string.as_str()
+        match &self.form {
+            TextForm::Short(short) => short.as_str(),
+            TextForm::Long(string) => string.as_str(),
+        }
     }
 
-    pub fn into_string(self) -> String
-        ensures { string_bytes result ≡ self }
+    /// Takes memory for a short text alone.
+    pub fn into_string(self, alloc: Global) -> Result<String, Memory>
+        ensures { IfOk result (λ string. string_bytes string ≡ self) }
     {
-        self.string
+        let Text { form } = self;
+        match form {
+            TextForm::Short(short) => Ok(String::from_str(alloc, short.as_str())?),
+            TextForm::Long(string) => Ok(string),
+        }
     }
 
     pub fn copy(&self, alloc: Global) -> Result<Text, Memory>

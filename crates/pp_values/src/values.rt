@@ -8,9 +8,15 @@ use std::marker::Model;
 
 /// A list of values. A contract sees what each of them says.
 #[cycle(value)]
-#[derive(Drop)]
 pub struct Values {
     items: Vec<Value>,
+}
+
+impl Drop for Values {
+    #[cycle(dropping)]
+    fn drop(self) {
+        let Values { items: _items } = self;
+    }
 }
 
 impl Model for Values {
@@ -52,7 +58,8 @@ impl Values {
     pub fn into_vec(self) -> Vec<Value>
         ensures { views result.items ≡ self }
     {
-        self.items
+        let Values { items } = self;
+        items
     }
 
     pub fn len(&self) -> usize

@@ -56,10 +56,13 @@ impl<T: Drop> Named<T> {
     }
 
     /// Sets the value of a name. Where there is no memory, all stays as it was.
-    pub fn set(&mut self, name: Text, value: T) -> Result<(), Memory>
+    pub fn set(&mut self, alloc: Global, name: Text, value: T) -> Result<(), Memory>
         ensures { self.new ≡ (if is_ok result then with_value name value self.old else self.old) }
     {
-        drop(self.map.insert(name.into_string().into_bytes(), value)?);
+        drop(
+            self.map
+                .insert(name.into_string(alloc)?.into_bytes(), value)?,
+        );
         Ok(())
     }
 

@@ -62,11 +62,11 @@ impl Scope {
     }
 
     /// Sets a name. Where there is no memory, the scope stays as it was.
-    pub fn set(&mut self, name: Text, value: Binding) -> Result<(), Memory>
+    pub fn set(&mut self, alloc: Global, name: Text, value: Binding) -> Result<(), Memory>
         ensures { self.new
             ≡ (if is_ok result then record self.old { names = with_value name value self.old.names } else self.old) }
     {
-        self.names.set(name, value)
+        self.names.set(alloc, name, value)
     }
 
     /// Ends the scope of a lambda's call.

@@ -71,7 +71,7 @@ impl Scopes {
                 self.node = number;
             }
             ScopeKind::Class(name) => {
-                self.classes.set(lowered(name), number)?;
+                self.classes.set(alloc, lowered(alloc, name)?, number)?;
                 self.add(alloc, Owner::Class, parent)?;
             }
             ScopeKind::Instance => self.add(alloc, Owner::Instance, parent)?,
@@ -123,7 +123,7 @@ impl Scopes {
             return Err(Stop::from(reassigned(alloc, name, at)?));
         }
         let name = name.copy(alloc)?;
-        set_name(&mut self.scopes, scope.number as usize, name, value)?;
+        set_name(alloc, &mut self.scopes, scope.number as usize, name, value)?;
         Ok(())
     }
 
@@ -259,12 +259,12 @@ impl Scopes {
 }
 
 /// A class's name, in lower case.
-fn lowered(name: Text) -> Text
-    ensures { result ≡ map to_ascii_lowercase name }
+fn lowered(alloc: Global, name: Text) -> Result<Text, Memory>
+    ensures { IfOk result (λ lowered. lowered ≡ map to_ascii_lowercase name) }
 {
-    let mut name = name.into_string();
+    let mut name = name.into_string(alloc)?;
     name.make_ascii_lowercase();
-    Text::new(name)
+    Ok(Text::new(name))
 }
 
 fn end_scope(scopes: &mut Vec<Scope>, place: usize)
@@ -275,14 +275,20 @@ fn end_scope(scopes: &mut Vec<Scope>, place: usize)
     }
 }
 
-fn set_name(scopes: &mut Vec<Scope>, place: usize, name: Text, value: Binding) -> Result<(), Memory>
+fn set_name(
+    alloc: Global,
+    scopes: &mut Vec<Scope>,
+    place: usize,
+    name: Text,
+    value: Binding,
+) -> Result<(), Memory>
     ensures { scopes.new.items
         ≡ (if is_ok result
         then spec.set_in place name value (slice_get scopes.old.items place) scopes.old.items
         else scopes.old.items) }
 {
     match scopes.get_mut(place) {
-        Some(scope) => scope.set(name, value),
+        Some(scope) => scope.set(alloc, name, value),
         None => Ok(()),
     }
 }

@@ -46,7 +46,7 @@ pub(crate) fn refuse_bundle(alloc: Global, stop: &BundleStop) -> Result<Output, 
 {
     match stop {
         BundleStop::Memory => Err(Memory),
-        _ => Ok(Output::BadInput(line(stop_text(alloc, stop)?)?)),
+        _ => Ok(Output::BadInput(line(alloc, stop_text(alloc, stop)?)?)),
     }
 }
 
@@ -71,7 +71,7 @@ pub(crate) fn run_text(
     requires { length requests.now ≤ MOST_REQUESTS }
     ensures { IfOk result (λ text. text ≡ run_text requests.now replies.now history.now.entries) }
 {
-    let mut out = write_journal(alloc, history)?.into_string();
+    let mut out = write_journal(alloc, history)?.into_string(alloc)?;
     write_replies(alloc, &mut out, requests.as_slice(), replies.as_slice())?;
     Ok(Text::new(out))
 }

@@ -90,5 +90,5 @@ fn json_line(alloc: Global, json: &Json) -> Result<Text, Memory>
     requires { has_float (json_view json.now) ≡ false }
     ensures { IfOk result (λ text. text ≡ line (compact_text (json_view json.now))) }
 {
-    line(Text::new(json.to_string(alloc)?))
+    line(alloc, Text::new(json.to_string(alloc)?))
 }

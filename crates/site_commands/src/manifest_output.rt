@@ -51,7 +51,7 @@ fn no_text(alloc: Global) -> Result<Output, Memory>
 {
     let path = Text::from_str(alloc, MAIN_MANIFEST)?;
     let refusal = stop_text(alloc, &BundleStop::BadShape(path))?;
-    Ok(Output::BadInput(line(refusal)?))
+    Ok(Output::BadInput(line(alloc, refusal)?))
 }
 
 fn output_of_text(alloc: Global, node: &str, manifest: Text) -> Result<Output, Memory>
@@ -101,12 +101,12 @@ fn catalog_output(alloc: Global, catalog: &Catalog) -> Result<Output, Memory>
 fn catalog_line(alloc: Global, catalog: &Catalog) -> Result<Text, Memory>
     ensures { IfOk result (λ text. text ≡ line (catalog_text catalog.now)) }
 {
-    line(catalog_text(alloc, catalog)?)
+    line(alloc, catalog_text(alloc, catalog)?)
 }
 
 /// The line of a fault.
 pub(crate) fn fault_line(alloc: Global, fault: &Fault) -> Result<Text, Memory>
     ensures { IfOk result (λ text. text ≡ line (fault_text fault.now)) }
 {
-    line(fault_text(alloc, fault)?)
+    line(alloc, fault_text(alloc, fault)?)
 }

@@ -25,13 +25,13 @@ pub fn write_reply<L: Language>(
     ensures { IfOk result (λ t. t ≡ reply_line L.catalog_form L.fault_form index (asked request.now) reply.now) }
 {
     let text = reply_text(alloc, language, index, request, reply)?;
-    line(text)
+    line(alloc, text)
 }
 
-fn line(text: Text) -> Result<Text, Memory>
+fn line(alloc: Global, text: Text) -> Result<Text, Memory>
     ensures { IfOk result (λ t. t ≡ text ++ 10 ∷ []) }
 {
-    let mut line = text.into_string();
+    let mut line = text.into_string(alloc)?;
     line.push('\n')?;
     Ok(Text::new(line))
 }

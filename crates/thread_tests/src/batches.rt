@@ -13,17 +13,14 @@ use res_core::exports::Exports;
 use res_core::requests::Requests;
 use site_batch::{BatchResult, run_batch};
 use site_core::compile_stop::CompileStop;
-use site_core::history::History;
 use site_core::language::Language;
 use site_io::{Gate, OpenGate};
-use site_replies::Replies;
-use site_sequence::run_sequence;
 use std::alloc::Global;
 use std::sync::atomic::{AtomicU64, Ordering};
 use std::sync::{Arc, Wait};
 use std::test::Fail;
 use std::thread::Threads;
-use toy_language::{Toy, ToySite, requests, toy_site, write_entries, write_reply};
+use toy_language::{Toy, ToySite, requests, toy_site};
 
 /// How far the compiles have come.
 #[derive(Drop)]
@@ -181,68 +178,6 @@ fn batch<R: Threads + Wait + Sync>(
     Ok((came, gate.calls.load(Ordering::SeqCst)))
 }
 
-/// Writes the replies and then the history.
-fn write_all(
-    out: &mut String,
-    replies: &Replies<Toy>,
-    history: &History<ToySite>,
-) -> Result<(), Memory> {
-    for reply in replies.as_slice() {
-        write_reply(out, reply)?;
-    }
-    write_entries(out, history.entries.as_slice())?;
-    Ok(())
-}
-
-fn in_turn(alloc: Global, requests: &Requests) -> Result<String, Memory>
-    requires { IsTrue (give_facts requests.now) }
-{
-    let mut out = String::new(alloc);
-    let came = run_sequence(alloc, &Toy, toy_site(alloc), requests)?;
-    write_all(&mut out, &came.replies, &came.history)?;
-    Ok(out)
-}
-
-fn by_one<R: Threads + Wait + Sync>(
-    rt: &R,
-    alloc: Global,
-    requests: &Requests,
-) -> Result<String, Memory>
-    requires { IsTrue (give_facts requests.now) }
-{
-    let mut out = String::new(alloc);
-    let (came, _) = batch(rt, alloc, requests, 1)?;
-    write_all(&mut out, &came.replies, &came.history)?;
-    Ok(out)
-}
-
-/// Whether one worker answers the requests as they are answered in turn.
-fn are_answered_alike<R: Threads + Wait + Sync>(
-    rt: &R,
-    alloc: Global,
-    words: &str,
-) -> Result<bool, Memory> {
-    let requests = requests(alloc, words)?;
-    let alone = by_one(rt, alloc, &requests)?;
-    let in_turn = in_turn(alloc, &requests)?;
-    Ok(alone.as_str() == in_turn.as_str())
-}
-
-const SEQUENCES: [&str; 4] = [
-    "",
-    "a +b -a +b +bad b bad a/9 a/1 -none",
-    "b +b +a/0 a/2 a/3 -b -b +bad a a a b/7",
-    "-a -b a/3 +a -a +b",
-];
-
-#[test]
-fn one_worker_answers_in_turn(rt: HostRuntime) -> Result<(), Fail> {
-    for words in SEQUENCES.iter() {
-        assert!(rt; are_answered_alike(&rt, rt.alloc(), words)?, "{words}");
-    }
-    Ok(())
-}
-
 /// Whether a crowd's replies fit one history, and the gate was called once for each compile.
 fn fits_one_history<R: Threads + Wait + Sync>(
     rt: &R,
@@ -279,30 +214,6 @@ fn replies_fit_one_history(rt: HostRuntime) -> Result<(), Fail> {
             fits_one_history(&rt, rt.alloc(), *workers, *count)?,
             "{workers} workers, {count} requests"
         );
-    }
-    Ok(())
-}
-
-/// How often the gate is called where one worker answers these.
-fn gate_calls<R: Threads + Wait + Sync>(rt: &R, alloc: Global, words: &str) -> Result<u64, Memory> {
-    let requests = requests(alloc, words)?;
-    let (_, calls) = batch(rt, alloc, &requests, 1)?;
-    Ok(calls)
-}
-
-const GATED: [(&str, u64); 6] = [
-    ("", 0),
-    ("a", 1),
-    ("+bad", 1),
-    ("-a -a", 0),
-    ("b bad a/2", 0),
-    ("a +b -a bad +bad a/9 a/1 b +b", 5),
-];
-
-#[test]
-fn compiles_come_to_the_gate(rt: HostRuntime) -> Result<(), Fail> {
-    for (words, calls) in GATED.iter() {
-        assert!(rt; gate_calls(&rt, rt.alloc(), words)? == *calls, "{words}");
     }
     Ok(())
 }

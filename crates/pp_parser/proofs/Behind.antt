@@ -112,7 +112,7 @@ module _ (inner : Inner) where
   climb_alone bars zero strength x i none some = refl
   climb_alone bars (suc n) strength x i none some =
       rw (repeat_stops (operation_rule inner (chain inner bars (strength - 1) None) strength) i (operation_none (chain inner bars (strength - 1) None) strength i none some))
-        (climb_alone bars n (strength + 1) x i none (omega arith))
+      (climb_alone bars n (strength + 1) x i none (omega arith))
 
   pub climb_on : (bars : Bool) (end strength : ℕ) (x : Expr) (i : Input) → strength < end
       → climb inner bars (end - strength) strength x i

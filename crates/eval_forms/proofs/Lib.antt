@@ -1,3 +1,4 @@
 mod Samples
 mod Examples
 mod Elsewhere
+mod Numbers

@@ -31,6 +31,9 @@ pub fn binary<F: Fn(&mut World<'_>, Goal<'_>, Here, u32) -> Result<Evaluated, St
     let mut done = forms.value(world, first, here)?;
     let mut rest = operations.as_slice();
     while let Some((operation, more)) = rest.split_first() {
+        if more.is_empty() {
+            return operated(forms, world, &done, operation, line, here);
+        }
         done = operated(forms, world, &done, operation, line, here)?;
         rest = more;
     }

@@ -1,3 +1,4 @@
+pub mod Alone
 pub mod Evaluating
 pub mod Facts
 pub mod LeafLaw

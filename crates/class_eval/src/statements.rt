@@ -1,16 +1,18 @@
 //! Statements and blocks.
-ghost use Rattle.std.specs.Prelude.{◌≡◌};
+ghost use Rattle.std.specs.Prelude.{◌≡◌, IfSome};
+ghost use Rattle.class_eval.specs.Alone.{IsAlone, IsExpression};
 ghost use Rattle.class_eval.specs.Statements as spec;
 ghost use Rattle.eval_world.specs.Nests.{Nests};
 ghost use Rattle.eval_world.specs.Outcomes.{Gives, same};
 
 use eval_resources::{collector, resource};
 use eval_world::{Evaluated, Forms, Goal, Here, Meaning, World};
+use pp_tree::expr::Expr;
 use pp_tree::statement::{Block, Chain, Operand, Statement};
 use pp_values::{Stop, Value};
 
 /// The value of a block: that of its last statement that gives one, and Undef where none does.
-#[tactic(auto, unfolding(crate::specs::Statements::statements_from))]
+#[tactic(auto, unfolding(crate::specs::Statements::statements_from, crate::specs::Statements::after_statement), using(crate::proofs::After::only_value))]
 pub fn block<F: Fn(&mut World<'_>, Goal<'_>, Here, u32) -> Result<Evaluated, Stop>, M: Meaning>(
     forms: &Forms<F, M>,
     world: &mut World<'_>,
@@ -20,16 +22,38 @@ pub fn block<F: Fn(&mut World<'_>, Goal<'_>, Here, u32) -> Result<Evaluated, Sto
     requires { Nests (M.within forms.now.left) forms.now.left (F.pre forms.now.inner) (F.post forms.now.inner) }
     ensures { Gives same (spec.block_rule (M.within forms.now.left) block.now here world.old) result world.new }
 {
+    if let Some(expr) = only_expression(block) {
+        return forms.value(world, expr, here);
+    }
     let mut last = Evaluated::new(Value::Undef);
     let mut rest = block.as_slice();
     while let Some((next, more)) = rest.split_first() {
-        if more.is_empty() {
+        if let [] = more {
             return after_statement(forms, world, next, last, here);
         }
         last = after_statement(forms, world, next, last, here)?;
         rest = more;
     }
     Ok(last)
+}
+
+/// The expression that a block is, where it is nothing more.
+fn only_expression(block: &Block) -> Option<&Expr>
+    ensures { IfSome result (λ e. IsExpression e.now block.now) }
+{
+    match block.as_slice() {
+        [Statement::Chain(chain)] => alone(chain),
+        _ => None,
+    }
+}
+
+fn alone(chain: &Chain) -> Option<&Expr>
+    ensures { IfSome result (λ e. IsAlone e.now chain.now) }
+{
+    match (chain.links.as_slice(), &chain.first) {
+        ([], Operand::Expr(expr)) => Some(expr),
+        _ => None,
+    }
 }
 
 /// The value after a statement: its own, or the one before it where it gives none.

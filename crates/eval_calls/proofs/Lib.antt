@@ -1,3 +1,4 @@
+mod Binding
 mod Examples
 mod LookUpExamples
 mod Members

@@ -127,13 +127,14 @@ fn bind_both(
         [] => Ok(()),
         [param, rest @ ..] => {
             bind_one(world, param, first, own)?;
-            bind_last(world, rest, second, own)
+            bind_last(world, rest, second, own)?;
+            Ok(())
         }
     }
 }
 
 /// Sets the first parameter. Those behind it have no argument.
-#[tactic(auto, unfolding(crate::specs::Lambdas::bind_from))]
+#[tactic(auto, unfolding(crate::specs::Lambdas::bind_from), using(crate::proofs::Binding::no_arguments))]
 fn bind_last(
     world: &mut World<'_>,
     params: &[Param],
@@ -144,9 +145,9 @@ fn bind_last(
 {
     match params {
         [] => Ok(()),
-        [param, rest @ ..] => {
+        [param, ..] => {
             bind_one(world, param, argument, own)?;
-            bind(world, rest, &[], own)
+            Ok(())
         }
     }
 }

@@ -2,3 +2,4 @@ mod Samples
 mod Examples
 mod Elsewhere
 mod Numbers
+mod Operations

@@ -111,6 +111,10 @@ fn add_piece<F: Fn(&mut World<'_>, Goal<'_>, Here, u32) -> Result<Evaluated, Sto
     match piece {
         Piece::Text(text) => done.push_str(text.as_str())?,
         Piece::Value(expr) => {
+            if let Some(value) = forms.known(world, expr, here) {
+                write_value(done, value)?;
+                return Ok(());
+            }
             let value = forms.value(world, expr, here)?;
             write_value(done, value.as_value())?;
         }

@@ -1,7 +1,10 @@
-ghost use Rattle.std.specs.Prelude.{◌≡◌, IfOk, IfSome};
+ghost use Rattle.std.specs.Prelude.{◌≡◌, IfOk, IfSome, Ok};
 ghost use Rattle.pp_tree.specs.Building.{form_of};
 ghost use Rattle.pp_tree.specs.Layers.{out-Form, Form-F};
-ghost use Rattle.pp_values.specs.Datum.{text};
+ghost use Rattle.pp_values.specs.Datum.{int, text};
+ghost use Rattle.pp_values.specs.Views.{view};
+ghost use Rattle.eval_world.specs.declared.here.Here.{Here};
+ghost use Rattle.eval_world.specs.declared.world.World.{World};
 ghost use Rattle.eval_world.specs.Nests.{Nests};
 ghost use Rattle.eval_world.specs.Outcomes.{Gives, same};
 
@@ -53,10 +56,22 @@ impl<F: Fn(&mut World<'_>, Goal<'_>, Here, u32) -> Result<Evaluated, Stop>, M: M
         (self.inner)(world, Goal::Value(expr), here, self.left)
     }
 
+    /// The value of an expression that is a variable, where that has one and does not stand too deep: without a copy.
+    pub fn known<'w>(&self, world: &'w World<'_>, expr: &Expr, here: Here) -> Option<&'w Value>
+        ensures { IfSome result (λ v. (M.within self.now.left).value expr.now here world.now
+            ≡ Ok (view v.now, world.now)) }
+    {
+        match expr.form.get() {
+            Form::Variable(name) if self.left != 0 => world.scopes.get(here.scope, name),
+            _ => None,
+        }
+    }
+
     /// The integer that an expression is by itself, where it does not stand too deep.
     pub fn number(&self, expr: &Expr) -> Option<i64>
-        ensures level { IfSome result (λ _. ¬ (self.now.left ≡ 0)) }
         ensures form { IfSome result (λ z. out-Form (form_of expr.now) ≡ Form-F.Number z) }
+        ensures said { IfSome result (λ z. (here : Here) → (w : World)
+            → (M.within self.now.left).value expr.now here w ≡ Ok (int z, w)) }
     {
         match expr.form.get() {
             Form::Number(number) if self.left != 0 => Some(*number),

@@ -1,12 +1,11 @@
 //! What `reduce` goes through, and what `with` calls its lambda with.
-ghost use Rattle.std.specs.Prelude.{◌≡◌, ◌∷◌, ◌==◌, IfOk, None, option_map, if◌then◌else◌};
+ghost use Rattle.std.specs.Prelude.{◌≡◌, ◌++◌, ◌==◌, IfOk, None, option_map, if◌then◌else◌};
 ghost use Rattle.pp_values.specs.Answers.{Answers};
 ghost use Rattle.pp_values.specs.Views.{view, views};
 ghost use Rattle.expr_eval.specs.Turns.{members, reduce_members, reduced_over, turn_of_with};
 
 use crate::faults::wrong_arguments;
-use pp_ops::listing::{add_copies, extended};
-use pp_values::copying::copy;
+use pp_ops::listing::extended;
 use pp_values::fault::Stop;
 use pp_values::memory::Memory;
 use pp_values::place::Place;
@@ -47,40 +46,25 @@ fn reduce_members(alloc: Global, arguments: &[Value]) -> Result<Option<Values>, 
     ensures { IfOk result (λ l. l ≡ reduce_members (views arguments.now)) }
 {
     match arguments {
-        [value] => members(alloc, value),
-        [value, start] => members_after(alloc, start, value),
+        [value] => members_behind(alloc, &[], value),
+        [value, _start] => members_behind(alloc, &arguments[1..], value),
         _ => Ok(None),
     }
 }
 
-/// The members of a list, or the pairs of a hash as lists of two.
-fn members(alloc: Global, value: &Value) -> Result<Option<Values>, Memory>
-    ensures { IfOk result (λ l. l ≡ members (view value.now)) }
+/// The members of a list, or the pairs of a hash as lists of two, with the start value before them, if there is one.
+fn members_behind(
+    alloc: Global,
+    start: &[Value],
+    value: &Value,
+) -> Result<Option<Values>, Memory>
+    ensures { IfOk result (λ l. l ≡ option_map (λ ds. views start.now ++ ds) (members (view value.now))) }
 {
     match value {
-        Value::List(_) => Ok(Some(extended(alloc, &[], value)?)),
-        Value::Hash(_) => Ok(Some(extended(alloc, &[], value)?)),
+        Value::List(_) => Ok(Some(extended(alloc, start, value)?)),
+        Value::Hash(_) => Ok(Some(extended(alloc, start, value)?)),
         _ => Ok(None),
     }
-}
-
-/// The members with the start value before them.
-fn members_after(alloc: Global, start: &Value, value: &Value) -> Result<Option<Values>, Memory>
-    ensures { IfOk result (λ l. l ≡ option_map (λ ds. view start.now ∷ ds) (members (view value.now))) }
-{
-    match members(alloc, value)? {
-        Some(members) => Ok(Some(behind(alloc, start, &members)?)),
-        None => Ok(None),
-    }
-}
-
-fn behind(alloc: Global, first: &Value, rest: &Values) -> Result<Values, Memory>
-    ensures { IfOk result (λ l. l ≡ view first.now ∷ rest.now) }
-{
-    let mut all = Values::new(alloc);
-    all.push(copy(alloc, first)?)?;
-    add_copies(alloc, &mut all, rest.as_slice())?;
-    Ok(all)
 }
 
 /// What `with` calls a lambda of so many parameters with: these arguments, of which there have to be as many.

@@ -1,4 +1,5 @@
 mod Turns
 mod Keys
+mod Puts
 mod Sets
 mod Examples

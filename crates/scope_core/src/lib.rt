@@ -9,6 +9,7 @@ mod owner;
 mod scope;
 pub mod scope_id;
 pub mod scope_kind;
+mod scope_names;
 pub mod scopes;
 
 pub use scope_id::ScopeId;

@@ -59,17 +59,8 @@ impl<T: Drop> Named<T> {
     pub fn set(&mut self, alloc: Global, name: Text, value: T) -> Result<(), Memory>
         ensures { self.new ≡ (if is_ok result then with_value name value self.old else self.old) }
     {
-        drop(
-            self.map
-                .insert(name.into_string(alloc)?.into_bytes(), value)?,
-        );
+        let name = name.into_string(alloc)?;
+        drop(self.map.insert(name.into_bytes(), value)?);
         Ok(())
-    }
-
-    /// Takes all names out.
-    pub fn clear(&mut self)
-        ensures { self.new ≡ [] }
-    {
-        self.map.clear();
     }
 }

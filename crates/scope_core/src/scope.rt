@@ -4,8 +4,8 @@ ghost use Rattle.scope_core.specs.Names.{value_of, with_value};
 ghost use Rattle.scope_core.specs.Scopes.{scope_of, ended};
 
 use crate::binding::Binding;
-use crate::named::Named;
 use crate::owner::Owner;
+use crate::scope_names::ScopeNames;
 use pp_values::{Memory, Text, Value};
 use std::alloc::Global;
 use std::marker::Model;
@@ -15,7 +15,8 @@ use std::marker::Model;
 pub struct Scope {
     owner: Owner,
     parent: u32,
-    names: Named<Binding>,
+    /// None where no name was set, or the scope has ended.
+    names: Option<ScopeNames>,
 }
 
 impl Model for Scope {
@@ -25,18 +26,20 @@ impl Model for Scope {
 
     ghost coded = { coded_scope };
 
-    ghost view = { λ s. record { owner = s.owner; parent = s.parent; names = s.names } };
+    ghost use Rattle.std.specs.Prelude.{[], unwrap_or};
+
+    ghost view = { λ s. record { owner = s.owner; parent = s.parent; names = unwrap_or s.names [] } };
 }
 
 impl Scope {
     /// A scope without names.
-    pub fn new(alloc: Global, owner: Owner, parent: u32) -> Scope
+    pub fn new(owner: Owner, parent: u32) -> Scope
         ensures { result ≡ scope_of owner parent }
     {
         Scope {
             owner,
             parent,
-            names: Named::new(alloc),
+            names: None,
         }
     }
 
@@ -55,8 +58,8 @@ impl Scope {
     pub fn value_of(&self, name: &[u8]) -> Option<&Value>
         ensures { option_map (λ v. view v.now) result ≡ value_of name.now self.now.names }
     {
-        match self.names.get(name) {
-            Some(binding) => Some(binding.as_value()),
+        match &self.names {
+            Some(names) => names.value_of(name),
             None => None,
         }
     }
@@ -66,7 +69,11 @@ impl Scope {
         ensures { self.new
             ≡ (if is_ok result then record self.old { names = with_value name value self.old.names } else self.old) }
     {
-        self.names.set(alloc, name, value)
+        if let Some(names) = &mut self.names {
+            return names.set(alloc, name, value);
+        }
+        self.names = Some(ScopeNames::of_one(alloc, name, value)?);
+        Ok(())
     }
 
     /// Ends the scope of a lambda's call.
@@ -76,7 +83,7 @@ impl Scope {
         if self.owner == Owner::Lambda {
             self.owner = Owner::Ended;
             self.parent = 0;
-            self.names.clear();
+            self.names = None;
         }
     }
 }

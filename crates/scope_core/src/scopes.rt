@@ -43,7 +43,7 @@ impl Scopes {
         ensures { IfOk result (λ s. s ≡ spec.top_alone) }
     {
         let mut scopes = Vec::new(alloc);
-        scopes.push(Scope::new(alloc, Owner::Top, 0))?;
+        scopes.push(Scope::new(Owner::Top, 0))?;
         Ok(Scopes {
             scopes,
             node: 0,
@@ -67,23 +67,23 @@ impl Scopes {
         };
         match kind {
             ScopeKind::Node => {
-                self.add(alloc, Owner::Node, parent)?;
+                self.add(Owner::Node, parent)?;
                 self.node = number;
             }
             ScopeKind::Class(name) => {
                 self.classes.set(alloc, lowered(alloc, name)?, number)?;
-                self.add(alloc, Owner::Class, parent)?;
+                self.add(Owner::Class, parent)?;
             }
-            ScopeKind::Instance => self.add(alloc, Owner::Instance, parent)?,
-            ScopeKind::Lambda => self.add(alloc, Owner::Lambda, parent)?,
+            ScopeKind::Instance => self.add(Owner::Instance, parent)?,
+            ScopeKind::Lambda => self.add(Owner::Lambda, parent)?,
         }
         Ok(ScopeId { number })
     }
 
-    fn add(&mut self, alloc: Global, owner: Owner, parent: ScopeId) -> Result<(), Memory>
+    fn add(&mut self, owner: Owner, parent: ScopeId) -> Result<(), Memory>
         ensures { OnOk result (self.new ≡ spec.added owner parent.number self.old) }
     {
-        self.scopes.push(Scope::new(alloc, owner, parent.number))?;
+        self.scopes.push(Scope::new(owner, parent.number))?;
         Ok(())
     }
 

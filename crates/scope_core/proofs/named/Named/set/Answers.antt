@@ -10,5 +10,5 @@ returns g c =
     ap keyed c.in_ok-insert.ensures.entries
     ∙ put_by_key c.self.inside.map.entries c.into_bytes.result c.args.value
     ∙ ap (λ x. with_value x c.args.value (keyed c.self.inside.map.entries))
-    (ap (λ v. v.items) c.into_bytes.ensures.value ∙ c.into_string.ensures)
+    (ap (λ v. v.items) c.into_bytes.ensures.value ∙ c.in_ok-name.ensures)
     ∙ ap (with_value c.args.name c.args.value) c.self.view_is

@@ -1,0 +1,38 @@
+-- What has no parts, where a level is left.
+use Rattle.std.proofs.Common.{◌≡◌, ℕ, zero, suc, ℤ, List, Some, Ok, refl, ap}
+use Rattle.pp_tree.specs.Building.{form_of, line_of}
+use Rattle.pp_tree.specs.Layers.{Form-F, out-Form}
+use Rattle.pp_tree.specs.declared.expr.Expr.{Expr}
+use Rattle.pp_values.specs.Datum as d
+use Rattle.eval_world.specs.Inner.{Inner}
+use Rattle.eval_world.specs.Leaves.{Leaves, leaf_by}
+use Rattle.eval_world.specs.Outcomes.{Step, pure}
+use Rattle.eval_world.specs.Worlds.{read}
+use Rattle.eval_world.specs.declared.here.Here.{Here}
+use Rattle.eval_world.specs.declared.world.World.{World}
+
+module _ (within : ℕ → Inner) (leaves : (left : ℕ) → Leaves (within (suc left))) where
+  said_by : (left : ℕ) (e : Expr) (here : Here) (said : Step d.Datum) → ¬ (left ≡ 0)
+      → leaf_by (out-Form (form_of e)) (line_of e) here ≡ Some said → (within left).value e here ≡ said
+  said_by zero e here said some is = absurd (some refl)
+  said_by (suc n) e here said some is = leaves n e here said is
+
+  pub number_said : (left : ℕ) (e : Expr) (here : Here) (w : World) (z : ℤ) → ¬ (left ≡ 0)
+      → out-Form (form_of e) ≡ Form-F.Number z → (within left).value e here w ≡ Ok (d.int z, w)
+  number_said left e here w z some is =
+      ap (λ p. p w) (said_by left e here (pure (d.int z)) some (ap (λ f. leaf_by f (line_of e) here) is))
+
+  pub text_said : (left : ℕ) (e : Expr) (here : Here) (w : World) (t : List ℕ) → ¬ (left ≡ 0)
+      → out-Form (form_of e) ≡ Form-F.Text t → (within left).value e here w ≡ Ok (d.text t, w)
+  text_said left e here w t some is =
+      ap (λ p. p w) (said_by left e here (pure (d.text t)) some (ap (λ f. leaf_by f (line_of e) here) is))
+
+  pub name_said : (left : ℕ) (e : Expr) (here : Here) (w : World) (t : List ℕ) → ¬ (left ≡ 0)
+      → out-Form (form_of e) ≡ Form-F.Name t → (within left).value e here w ≡ Ok (d.text t, w)
+  name_said left e here w t some is =
+      ap (λ p. p w) (said_by left e here (pure (d.text t)) some (ap (λ f. leaf_by f (line_of e) here) is))
+
+  pub variable_said : (left : ℕ) (e : Expr) (here : Here) (w : World) (x : List ℕ) → ¬ (left ≡ 0)
+      → out-Form (form_of e) ≡ Form-F.Variable x → (within left).value e here w ≡ read here x (line_of e) w
+  variable_said left e here w x some is =
+      ap (λ p. p w) (said_by left e here (read here x (line_of e)) some (ap (λ f. leaf_by f (line_of e) here) is))

@@ -23,7 +23,7 @@ pub fn block<F: Fn(&mut World<'_>, Goal<'_>, Here, u32) -> Result<Evaluated, Sto
     ensures { Gives same (spec.block_rule (M.within forms.now.left) block.now here world.old) result world.new }
 {
     if let Some(expr) = only_expression(block) {
-        return forms.value(world, expr, here);
+        return forms.part(world, expr, here);
     }
     let mut last = Evaluated::new(Value::Undef);
     let mut rest = block.as_slice();

@@ -48,8 +48,8 @@ impl<F: Fn(&mut World<'_>, Goal<'_>, Here, u32) -> Result<Evaluated, Stop>, M: M
         }
     }
 
-    /// The same by the function that this is given.
-    fn part(&self, world: &mut World<'_>, expr: &Expr, here: Here) -> Result<Evaluated, Stop>
+    /// The same by the function that this is given: the shorter way for what has parts.
+    pub fn part(&self, world: &mut World<'_>, expr: &Expr, here: Here) -> Result<Evaluated, Stop>
         requires { Nests (M.within self.now.left) self.now.left (F.pre self.now.inner) (F.post self.now.inner) }
         ensures { Gives same ((M.within self.now.left).value expr.now here world.old) result world.new }
     {

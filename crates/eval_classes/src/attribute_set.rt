@@ -18,7 +18,7 @@ use std::collections::BTreeMap;
 use std::marker::Model;
 
 /// How many attributes are held in a list, in which a name is compared with one after another. More are held in a map.
-const FEW: usize = 16;
+const FEW: usize = 64;
 
 /// Attributes that are put in one by one. A contract sees each name with what its value says, by the order of the names.
 pub struct AttributeSet {

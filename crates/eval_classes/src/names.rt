@@ -60,9 +60,9 @@ pub fn class_reference(alloc: Global, name: &Text) -> Result<Reference, Memory>
 pub fn param_names(alloc: Global, params: &[Param]) -> Result<Texts, Memory>
     ensures { IfOk result (λ names. names ≡ spec.param_names params.now) }
 {
-    let mut names = Texts::new(alloc);
+    let mut names = Vec::with_capacity(alloc, params.len())?;
     for param in params {
         names.push(param.name.copy(alloc)?)?;
     }
-    Ok(names)
+    Ok(Texts::from_vec(names))
 }

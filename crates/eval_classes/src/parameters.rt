@@ -164,9 +164,12 @@ fn data_value(world: &World<'_>, binding: &Binding, name: &Text) -> Result<Optio
 fn data_key(alloc: Global, class: &Text, name: &Text) -> Result<Text, Memory>
     ensures { IfOk result (λ k. k ≡ class.now ++ codes "::" ++ name.now) }
 {
-    let mut key = String::from_str(alloc, class.as_str())?;
+    let (class, name) = (class.as_str(), name.as_str());
+    let room = class.len().saturating_add(name.len()).saturating_add(2);
+    let mut key = String::with_capacity(alloc, room)?;
+    key.push_str(class)?;
     key.push_str("::")?;
-    key.push_str(name.as_str())?;
+    key.push_str(name)?;
     Ok(Text::new(key))
 }
 

@@ -39,7 +39,12 @@ fn title_tested(alloc: Global, known: KnownKind, title: &Value, body: &Body) -> 
     Ok(named_of(known, title))
 }
 
-fn check_lines_of(alloc: Global, known: &KnownKind, title: &Text, lines: &[Line]) -> Result<(), Stop>
+fn check_lines_of(
+    alloc: Global,
+    known: &KnownKind,
+    title: &Text,
+    lines: &[Line],
+) -> Result<(), Stop>
     ensures { Answers result (spec.lines_checked (spec.reference_to known.now title.now) known.now.known
         (lines_of lines.now)) }
 {

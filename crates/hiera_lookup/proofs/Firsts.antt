@@ -1,5 +1,6 @@
 -- Where no file has options, a key is merged by `first`.
-use Rattle.std.proofs.Common.{◌≡◌, ◌≢◌, ℕ, ◌-◌, List, [], ◌∷◌, ◌++◌, Option, None, Some, Ok, Err, refl, sym, ap, ◌∙◌}
+use Rattle.std.proofs.Common.{◌≡◌, ◌≢◌, ℕ, ◌-◌, false, List, [], ◌∷◌, ◌++◌, Option, None, Some, Ok, Err, refl, sym, ap, ◌∙◌}
+use Rattle.std.specs.Prelude.{is_some}
 use Rattle.pp_values.specs.Datum.{Datum}
 use Rattle.hiera_config.specs.Documents.{File}
 use Rattle.hiera_config.specs.Keeping.{AreSimple}
@@ -36,6 +37,10 @@ first_for w n busy m key files lacks none =
     ∙ ap (λ o. go_on o (option_in w m (root_of key)))
     (look_free w n busy m options_key (Some by.Hash) lacks.free lacks.begins
     ∙ within_none w (look w (n - 1)) (busy ++ options_key ∷ []) m none)
+
+pub none_of : (o : Option Merge) → is_some o ≡ false → o ≡ None
+none_of None is = refl
+none_of (Some m) is = absurd (cc is)
 
 -- what a key has, if it is told
 had_by : (files : List File) (V : Variables) (m : Option (List ℕ)) (key : List ℕ) (o : Meant (List Source))

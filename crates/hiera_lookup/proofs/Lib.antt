@@ -4,4 +4,4 @@ pub mod Lists
 mod PlainTexts
 pub mod Sources
 pub mod Steps
-mod Firsts
+pub mod Firsts

@@ -1,4 +1,5 @@
 mod Examples
+pub mod Indexed
 pub mod Merges
 pub mod Parts
 pub mod Ranges

@@ -5,6 +5,7 @@ pub mod Same
 pub mod Numbers
 pub mod Lists
 pub mod Hashes
+pub mod Indexes
 pub mod Members
 pub mod Accesses
 pub mod Operators

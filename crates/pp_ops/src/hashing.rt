@@ -4,7 +4,9 @@ ghost use Rattle.std.specs.List.{list_any};
 ghost use Rattle.pp_values.specs.Keys.{are_distinct, same_key};
 ghost use Rattle.pp_values.specs.Views.{view, views, pair_views};
 ghost use Rattle.pp_ops.specs.Hashes.{merged, overridden, added, named, without_keys};
+ghost use Rattle.pp_ops.specs.Indexes.{told, overridden_by, added_by};
 
+use crate::key_index::Keyed;
 use pp_values::copying::copy;
 use pp_values::keys::same_key;
 use pp_values::memory::Memory;
@@ -23,6 +25,7 @@ pub fn merged(alloc: Global, left: &Pairs, right: &Pairs) -> Result<Pairs, Memor
     Ok(Pairs::from_vec(items))
 }
 
+#[tactic(auto, using(crate::proofs::Indexed::same_overridden))]
 fn add_overridden(
     alloc: Global,
     out: &mut Vec<(Value, Value)>,
@@ -31,6 +34,19 @@ fn add_overridden(
 ) -> Result<(), Memory>
     ensures { OnOk result (pair_views out.new.items
         ≡ pair_views out.old.items ++ overridden others.now (pair_views pairs.now)) }
+{
+    let others = Keyed::new(alloc, others, pairs.len())?;
+    add_overridden_by(alloc, out, pairs, &others)
+}
+
+fn add_overridden_by(
+    alloc: Global,
+    out: &mut Vec<(Value, Value)>,
+    pairs: &[(Value, Value)],
+    others: &Keyed<'_>,
+) -> Result<(), Memory>
+    ensures { OnOk result (pair_views out.new.items
+        ≡ pair_views out.old.items ++ overridden_by (told others.now) (pair_views pairs.now)) }
 {
     for (key, value) in pairs {
         match others.get(key) {
@@ -41,6 +57,7 @@ fn add_overridden(
     Ok(())
 }
 
+#[tactic(auto, using(crate::proofs::Indexed::same_added))]
 fn add_new(
     alloc: Global,
     out: &mut Vec<(Value, Value)>,
@@ -49,6 +66,19 @@ fn add_new(
 ) -> Result<(), Memory>
     ensures { OnOk result (pair_views out.new.items
         ≡ pair_views out.old.items ++ added had.now (pair_views pairs.now)) }
+{
+    let had = Keyed::new(alloc, had, pairs.len())?;
+    add_new_by(alloc, out, pairs, &had)
+}
+
+fn add_new_by(
+    alloc: Global,
+    out: &mut Vec<(Value, Value)>,
+    pairs: &[(Value, Value)],
+    had: &Keyed<'_>,
+) -> Result<(), Memory>
+    ensures { OnOk result (pair_views out.new.items
+        ≡ pair_views out.old.items ++ added_by (told had.now) (pair_views pairs.now)) }
 {
     for (key, value) in pairs {
         if had.get(key).is_none() {

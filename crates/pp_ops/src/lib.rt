@@ -4,6 +4,7 @@
 pub mod accessing;
 pub mod applying;
 pub mod hashing;
+mod key_index;
 pub mod listing;
 pub mod membership;
 pub mod numbers;

@@ -1,0 +1,10 @@
+-- What the rest from the index on adds to what is there, or tells, is what all of it does.
+use Rattle.std.proofs.Common.{◌≡◌, ◌++◌, drop}
+use Rattle.pp_values.specs.Views.{pair_views}
+use Rattle.pp_ops.specs.Indexes.{told, overridden_by}
+use Rattle.pp_ops.proofs.hashing.add_overridden_by.Given as goal
+
+abbrev pub invariant-loop-key : goal.invariant-loop-key
+invariant-loop-key l =
+    pair_views l.out.items ++ overridden_by (told l.others) (pair_views (drop l.key-index l.pairs))
+    ≡ pair_views l.initial.out.items ++ overridden_by (told l.others) (pair_views l.pairs)

@@ -1,9 +1,14 @@
 -- What has no parts, where a level is left.
-use Rattle.std.proofs.Common.{◌≡◌, ℕ, zero, suc, ℤ, List, Some, Ok, refl, ap}
+use denote.Ref.{Bor}
+use Rattle.std.proofs.Common.{◌≡◌, ℕ, zero, suc, ℤ, List, Option, None, Some, option_map, Ok, refl, ap, sym}
+use Rattle.std.specs.Prelude.{IfSome}
 use Rattle.pp_tree.specs.Building.{form_of, line_of}
 use Rattle.pp_tree.specs.Layers.{Form-F, out-Form}
 use Rattle.pp_tree.specs.declared.expr.Expr.{Expr}
 use Rattle.pp_values.specs.Datum as d
+use Rattle.pp_values.specs.Views.{view}
+use Rattle.pp_values.specs.declared.value.Value.{Value}
+use Rattle.scope_core.specs.Scopes as scopes
 use Rattle.eval_world.specs.Inner.{Inner}
 use Rattle.eval_world.specs.Leaves.{Leaves, leaf_by}
 use Rattle.eval_world.specs.Outcomes.{Step, pure}
@@ -36,3 +41,13 @@ module _ (within : ℕ → Inner) (leaves : (left : ℕ) → Leaves (within (suc
       → out-Form (form_of e) ≡ Form-F.Variable x → (within left).value e here w ≡ read here x (line_of e) w
   variable_said left e here w x some is =
       ap (λ p. p w) (said_by left e here (read here x (line_of e)) some (ap (λ f. leaf_by f (line_of e) here) is))
+
+  -- a variable that has a value is that value
+  pub known_said : (left : ℕ) (e : Expr) (here : Here) (w : World) (x : List ℕ) (r : Option (Bor Value))
+      → ¬ (left ≡ 0) → out-Form (form_of e) ≡ Form-F.Variable x
+      → option_map (λ v. view v.now) r ≡ scopes.found here.scope.number x w.scopes
+      → IfSome r (λ v. (within left).value e here w ≡ Ok (view v.now, w))
+  unfolding read scopes.read
+  known_said left e here w x None some is found = tt
+  known_said left e here w x (Some v) some is found =
+      let said = variable_said left e here w x some is in rw (said, sym found) refl

@@ -2,7 +2,8 @@
 use Rattle.std.proofs.Common.{◌≡◌, ℤ, Ok, refl}
 use Rattle.expr_eval.specs.Testing.{option_takes}
 use Rattle.pp_tree.specs.Building.{form_of}
-use Rattle.pp_tree.specs.Layers.{Form-F, out-Form}
+use Rattle.pp_tree.specs.declared.collector.Test.TheOpen.{Form-F}
+use Rattle.pp_tree.specs.declared.expr.Form.{out-Form}
 use Rattle.pp_tree.specs.declared.expr.Expr.{Expr}
 use Rattle.pp_values.specs.Datum.{Datum, int}
 use Rattle.eval_world.specs.Inner.{Inner}

@@ -42,7 +42,14 @@ fn prefixed(
     match operator {
         PrefixOperator::Not => Ok(Evaluated::new(Value::Flag(!is_true(value.as_value())))),
         PrefixOperator::Negate => {
-            combined(world, Op::Negate, value.as_value(), &Value::Undef, line, here)
+            combined(
+                world,
+                Op::Negate,
+                value.as_value(),
+                &Value::Undef,
+                line,
+                here,
+            )
         }
         PrefixOperator::Splat => Ok(Evaluated::new(spread(world.heap.alloc(), value.as_value())?)),
     }

@@ -1,6 +1,7 @@
 ghost use Rattle.std.specs.Prelude.{◌≡◌, IfOk, IfSome, Ok};
 ghost use Rattle.pp_tree.specs.Building.{form_of};
-ghost use Rattle.pp_tree.specs.Layers.{out-Form, Form-F};
+ghost use Rattle.pp_tree.specs.declared.collector.Test.TheOpen.{Form-F};
+ghost use Rattle.pp_tree.specs.declared.expr.Form.{out-Form};
 ghost use Rattle.pp_values.specs.Datum.{int, text};
 ghost use Rattle.pp_values.specs.Views.{view};
 ghost use Rattle.eval_world.specs.declared.here.Here.{Here};

@@ -30,7 +30,7 @@ pub fn run_instance<
     Ok(())
 }
 
-#[tactic(auto, unfolding(crate::specs::Bodies::run_rule, crate::specs::Bodies::run_item))]
+#[tactic(auto, unfolding(crate::specs::Bodies::run_rule, crate::specs::Bodies::run_item, crate::specs::Definitions::define_found))]
 fn run_declared<F: Fn(&mut World<'_>, Goal<'_>, Here, u32) -> Result<Evaluated, Stop>, M: Meaning>(
     forms: &Forms<F, M>,
     world: &mut World<'_>,

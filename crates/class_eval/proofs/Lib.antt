@@ -1,3 +1,4 @@
+mod After
 mod Examples
 mod Levels
 mod NodeLines

@@ -1,5 +1,7 @@
+pub mod Alone
 pub mod Evaluating
 pub mod Facts
+pub mod LeafLaw
 pub mod Meaning
 pub mod Postfixes
 pub mod Starting

@@ -25,8 +25,11 @@ pub struct Whole;
 
 impl Meaning for Whole {
     ghost use Rattle.class_eval.specs.Meaning.{within};
+    ghost use Rattle.class_eval.specs.LeafLaw.{leaves};
 
     ghost within = { within };
+
+    ghost leaves = { leaves };
 }
 
 /// The value of an expression of any form.

@@ -1,2 +1,4 @@
+mod Binding
 mod Examples
 mod LookUpExamples
+mod Members

@@ -22,6 +22,12 @@ turns_from inner f l done (t ∷ ts) line here = do
   d ← lambda_rule inner l t line here
   if decides f d then pure (done ++ d ∷ []) else turns_from inner f l (done ++ d ∷ []) ts line here
 
+-- what the function makes of what its lambda gives in these turns
+unfoldable pub gathered_rule : Inner → Iteration → Opened → Datum → List Turn → ℕ → Here → Step Datum
+gathered_rule inner f l d ts line here = do
+  ds ← turns_from inner f l [] ts line here
+  pure (gathered f d ds)
+
 unfoldable pub over_rule : Inner → Iteration → Opened → Datum → ℕ → Here → Step Datum
 over_rule inner f l d line here = do
   ts ← at_line (turns_of f d (param_count l)) line here

@@ -1,19 +1,21 @@
 //! The functions that take a lambda.
-ghost use Rattle.std.specs.Prelude.{◌≡◌, ◌∷◌, [], IfOk};
+ghost use Rattle.std.specs.Prelude.{◌≡◌, [], map, IfOk};
+ghost use Rattle.expr_eval.specs.Gathering.{gathered};
+ghost use Rattle.expr_eval.specs.Turns.{only};
 ghost use Rattle.eval_calls.specs.Iterating as spec;
 ghost use Rattle.eval_calls.specs.Lambdas.{opened};
 ghost use Rattle.eval_world.specs.Nests.{Nests};
 ghost use Rattle.eval_world.specs.Outcomes.{Gives, same};
 ghost use Rattle.pp_values.specs.Views.{view, views};
 
-use crate::lambdas::{call_lambda, param_count};
+use crate::lambdas::{call_lambda, call_with_one, call_with_two, param_count};
 use eval_world::{Evaluated, Forms, Goal, Here, Meaning, World};
 use expr_eval::{
     Iteration, LambdaFunction, decides, gather, reduced_over, turn_of_with, turns_of,
     wrong_arguments,
 };
 use pp_tree::Lambda;
-use pp_values::{Memory, Stop, Value, Values, copy};
+use pp_values::{Memory, Stop, Value, Values};
 use std::alloc::Global;
 
 /// A call of a function that takes a lambda.
@@ -79,8 +81,67 @@ fn refused(world: &World<'_>, function: Iteration, line: u32, here: Here) -> Res
     Err(Stop::Fault(wrong_arguments(world.heap.alloc(), function.name(), &at)?))
 }
 
-#[tactic(auto, unfolding(crate::specs::Iterating::over_rule))]
+/// A list whose members the lambda takes one by one has no list of turns.
+#[tactic(auto, using(crate::proofs::Members::over_members))]
 fn over<F: Fn(&mut World<'_>, Goal<'_>, Here, u32) -> Result<Evaluated, Stop>, M: Meaning>(
+    forms: &Forms<F, M>,
+    world: &mut World<'_>,
+    function: Iteration,
+    lambda: &Lambda,
+    value: &Value,
+    line: u32,
+    here: Here,
+) -> Result<Evaluated, Stop>
+    requires { Nests (M.within forms.now.left) forms.now.left (F.pre forms.now.inner) (F.post forms.now.inner) }
+    ensures { Gives same (spec.over_rule (M.within forms.now.left) function (opened lambda.now) (view value.now) line
+        here world.old) result world.new }
+{
+    match (param_count(lambda)?, value) {
+        (1, Value::List(members)) => {
+            let members = members.as_slice();
+            over_members(forms, world, function, lambda, value, members, line, here)
+        }
+        _ => over_turns(forms, world, function, lambda, value, line, here),
+    }
+}
+
+/// The same of a value with these members, one by one.
+#[tactic(auto, unfolding(crate::specs::Iterating::gathered_rule))]
+fn over_members<F: Fn(&mut World<'_>, Goal<'_>, Here, u32) -> Result<Evaluated, Stop>, M: Meaning>(
+    forms: &Forms<F, M>,
+    world: &mut World<'_>,
+    function: Iteration,
+    lambda: &Lambda,
+    value: &Value,
+    members: &[Value],
+    line: u32,
+    here: Here,
+) -> Result<Evaluated, Stop>
+    requires { Nests (M.within forms.now.left) forms.now.left (F.pre forms.now.inner) (F.post forms.now.inner) }
+    ensures { Gives same (spec.gathered_rule (M.within forms.now.left) function (opened lambda.now) (view value.now)
+        (map only (views members.now)) line here world.old) result world.new }
+{
+    let results = take_members(forms, world, function, lambda, members, line, here)?;
+    Ok(Evaluated::new(made_of(world.heap.alloc(), function, value, results)?))
+}
+
+/// What the function makes of these results. For `map` they move into the list.
+fn made_of(
+    alloc: Global,
+    function: Iteration,
+    value: &Value,
+    results: Values,
+) -> Result<Value, Memory>
+    ensures { IfOk result (λ v. view v ≡ gathered function (view value.now) results) }
+{
+    match function {
+        Iteration::Map => Ok(Value::List(results)),
+        _ => gather(alloc, function, value, &results),
+    }
+}
+
+#[tactic(auto, unfolding(crate::specs::Iterating::over_rule))]
+fn over_turns<F: Fn(&mut World<'_>, Goal<'_>, Here, u32) -> Result<Evaluated, Stop>, M: Meaning>(
     forms: &Forms<F, M>,
     world: &mut World<'_>,
     function: Iteration,
@@ -97,7 +158,37 @@ fn over<F: Fn(&mut World<'_>, Goal<'_>, Here, u32) -> Result<Evaluated, Stop>, M
     let count = param_count(lambda)?;
     let turns = turns_of(world.heap.alloc(), function, value, count, &at)?;
     let results = take_turns(forms, world, function, lambda, turns.as_slice(), line, here)?;
-    Ok(Evaluated::new(gather(world.heap.alloc(), function, value, &results)?))
+    Ok(Evaluated::new(made_of(world.heap.alloc(), function, value, results)?))
+}
+
+/// What the lambda gives for each member, up to the one that decides.
+#[tactic(auto, unfolding(crate::specs::Iterating::turns_from))]
+fn take_members<F: Fn(&mut World<'_>, Goal<'_>, Here, u32) -> Result<Evaluated, Stop>, M: Meaning>(
+    forms: &Forms<F, M>,
+    world: &mut World<'_>,
+    function: Iteration,
+    lambda: &Lambda,
+    members: &[Value],
+    line: u32,
+    here: Here,
+) -> Result<Values, Stop>
+    requires { Nests (M.within forms.now.left) forms.now.left (F.pre forms.now.inner) (F.post forms.now.inner) }
+    ensures { Gives same (spec.turns_from (M.within forms.now.left) function (opened lambda.now) [] (map only (views
+        members.now)) line here world.old) result world.new }
+{
+    let mut done = Values::new(world.heap.alloc());
+    let mut rest = members;
+    while let Some((member, more)) = rest.split_first() {
+        let argument = Evaluated::copy_of(world.heap.alloc(), member)?;
+        let result = call_with_one(forms, world, lambda, argument, line, here)?;
+        let is_last = decides(function, result.as_value());
+        done.push(result.into_value())?;
+        if is_last {
+            return Ok(done);
+        }
+        rest = more;
+    }
+    Ok(done)
 }
 
 /// What the lambda gives in each turn, up to the one that decides.
@@ -129,8 +220,34 @@ fn take_turns<F: Fn(&mut World<'_>, Goal<'_>, Here, u32) -> Result<Evaluated, St
     Ok(done)
 }
 
-#[tactic(auto, unfolding(crate::specs::Iterating::reduce_rule))]
+/// `reduce`. The members of a list are not copied to go through them.
+#[tactic(auto, using(crate::proofs::Members::reduced_members, crate::proofs::Members::reduced_from))]
 fn reduce<F: Fn(&mut World<'_>, Goal<'_>, Here, u32) -> Result<Evaluated, Stop>, M: Meaning>(
+    forms: &Forms<F, M>,
+    world: &mut World<'_>,
+    lambda: &Lambda,
+    arguments: &Values,
+    line: u32,
+    here: Here,
+) -> Result<Evaluated, Stop>
+    requires { Nests (M.within forms.now.left) forms.now.left (F.pre forms.now.inner) (F.post forms.now.inner) }
+    ensures { Gives same (spec.reduce_rule (M.within forms.now.left) (opened lambda.now) arguments.now line here
+        world.old) result world.new }
+{
+    match (param_count(lambda)?, arguments.as_slice()) {
+        (2, [Value::List(members)]) => {
+            reduced(forms, world, lambda, members.as_slice(), line, here)
+        }
+        (2, [Value::List(members), start]) => {
+            let memo = Evaluated::copy_of(world.heap.alloc(), start)?;
+            reduce_rest(forms, world, lambda, memo, members.as_slice(), line, here)
+        }
+        _ => reduce_copies(forms, world, lambda, arguments, line, here),
+    }
+}
+
+#[tactic(auto, unfolding(crate::specs::Iterating::reduce_rule))]
+fn reduce_copies<F: Fn(&mut World<'_>, Goal<'_>, Here, u32) -> Result<Evaluated, Stop>, M: Meaning>(
     forms: &Forms<F, M>,
     world: &mut World<'_>,
     lambda: &Lambda,
@@ -188,20 +305,11 @@ fn reduce_rest<F: Fn(&mut World<'_>, Goal<'_>, Here, u32) -> Result<Evaluated, S
     let mut memo = memo;
     let mut rest = members;
     while let Some((member, more)) = rest.split_first() {
-        let turn = memo_and_member(world.heap.alloc(), memo, member)?;
-        memo = call_lambda(forms, world, lambda, &turn, line, here)?;
+        let member = Evaluated::copy_of(world.heap.alloc(), member)?;
+        memo = call_with_two(forms, world, lambda, memo, member, line, here)?;
         rest = more;
     }
     Ok(memo)
-}
-
-fn memo_and_member(alloc: Global, memo: Evaluated, member: &Value) -> Result<Values, Memory>
-    ensures { IfOk result (λ l. l ≡ memo ∷ view member.now ∷ []) }
-{
-    let mut turn = Values::new(alloc);
-    turn.push(memo.into_value())?;
-    turn.push(copy(alloc, member)?)?;
-    Ok(turn)
 }
 
 #[tactic(auto, unfolding(crate::specs::Iterating::with_rule))]

@@ -1,9 +1,9 @@
 //! A call of a lambda.
-ghost use Rattle.std.specs.Prelude.{◌≡◌, IfOk};
+ghost use Rattle.std.specs.Prelude.{◌≡◌, ◌∷◌, [], IfOk};
 ghost use Rattle.eval_calls.specs.Lambdas as spec;
 ghost use Rattle.eval_world.specs.Nests.{Nests};
 ghost use Rattle.eval_world.specs.Outcomes.{Gives, nothing, same};
-ghost use Rattle.pp_values.specs.Views.{view, views};
+ghost use Rattle.pp_values.specs.Views.{views};
 
 use eval_world::{Evaluated, Forms, Goal, Here, Meaning, World};
 use pp_tree::{Lambda, Param};
@@ -44,6 +44,55 @@ pub fn call_lambda<
     Ok(value)
 }
 
+/// One call of a lambda with this argument, which moves into its parameter.
+#[tactic(auto, unfolding(crate::specs::Lambdas::lambda_rule))]
+pub fn call_with_one<
+    F: Fn(&mut World<'_>, Goal<'_>, Here, u32) -> Result<Evaluated, Stop>,
+    M: Meaning,
+>(
+    forms: &Forms<F, M>,
+    world: &mut World<'_>,
+    lambda: &Lambda,
+    argument: Evaluated,
+    line: u32,
+    here: Here,
+) -> Result<Evaluated, Stop>
+    requires { Nests (M.within forms.now.left) forms.now.left (F.pre forms.now.inner) (F.post forms.now.inner) }
+    ensures { Gives same (spec.lambda_rule (M.within forms.now.left) (spec.opened lambda.now) (argument ∷ []) line here
+        world.old) result world.new }
+{
+    let own = world.enter_lambda(here)?;
+    bind_last(world, lambda.params.as_slice(), argument, own)?;
+    let value = forms.block(world, &lambda.block, line, own)?;
+    world.leave(own);
+    Ok(value)
+}
+
+/// One call of a lambda with these two arguments, which move into its parameters.
+#[tactic(auto, unfolding(crate::specs::Lambdas::lambda_rule))]
+pub fn call_with_two<
+    F: Fn(&mut World<'_>, Goal<'_>, Here, u32) -> Result<Evaluated, Stop>,
+    M: Meaning,
+>(
+    forms: &Forms<F, M>,
+    world: &mut World<'_>,
+    lambda: &Lambda,
+    first: Evaluated,
+    second: Evaluated,
+    line: u32,
+    here: Here,
+) -> Result<Evaluated, Stop>
+    requires { Nests (M.within forms.now.left) forms.now.left (F.pre forms.now.inner) (F.post forms.now.inner) }
+    ensures { Gives same (spec.lambda_rule (M.within forms.now.left) (spec.opened lambda.now) (first ∷ second ∷ []) line
+        here world.old) result world.new }
+{
+    let own = world.enter_lambda(here)?;
+    bind_both(world, lambda.params.as_slice(), first, second, own)?;
+    let value = forms.block(world, &lambda.block, line, own)?;
+    world.leave(own);
+    Ok(value)
+}
+
 /// Sets each parameter to its argument.
 #[tactic(auto, unfolding(crate::specs::Lambdas::bind_from))]
 fn bind(world: &mut World<'_>, params: &[Param], arguments: &[Value], own: Here) -> Result<(), Stop>
@@ -55,6 +104,7 @@ fn bind(world: &mut World<'_>, params: &[Param], arguments: &[Value], own: Here)
         let Some((argument, rest)) = arguments.split_first() else {
             return Ok(());
         };
+        let argument = Evaluated::copy_of(world.heap.alloc(), argument)?;
         bind_one(world, param, argument, own)?;
         params = more;
         arguments = rest;
@@ -62,15 +112,57 @@ fn bind(world: &mut World<'_>, params: &[Param], arguments: &[Value], own: Here)
     Ok(())
 }
 
+/// Sets the first two parameters.
+#[tactic(auto, unfolding(crate::specs::Lambdas::bind_from))]
+fn bind_both(
+    world: &mut World<'_>,
+    params: &[Param],
+    first: Evaluated,
+    second: Evaluated,
+    own: Here,
+) -> Result<(), Stop>
+    ensures { Gives nothing (spec.bind_from params.now (first ∷ second ∷ []) own world.old) result world.new }
+{
+    match params {
+        [] => Ok(()),
+        [param, rest @ ..] => {
+            bind_one(world, param, first, own)?;
+            bind_last(world, rest, second, own)?;
+            Ok(())
+        }
+    }
+}
+
+/// Sets the first parameter. Those behind it have no argument.
+#[tactic(auto, unfolding(crate::specs::Lambdas::bind_from), using(crate::proofs::Binding::no_arguments))]
+fn bind_last(
+    world: &mut World<'_>,
+    params: &[Param],
+    argument: Evaluated,
+    own: Here,
+) -> Result<(), Stop>
+    ensures { Gives nothing (spec.bind_from params.now (argument ∷ []) own world.old) result world.new }
+{
+    match params {
+        [] => Ok(()),
+        [param, ..] => {
+            bind_one(world, param, argument, own)?;
+            Ok(())
+        }
+    }
+}
+
 #[tactic(auto, unfolding(crate::specs::Lambdas::bind_rule))]
-fn bind_one(world: &mut World<'_>, param: &Param, argument: &Value, own: Here) -> Result<(), Stop>
-    ensures { Gives nothing (spec.bind_rule param.now (view argument.now) own world.old) result world.new }
+fn bind_one(
+    world: &mut World<'_>,
+    param: &Param,
+    argument: Evaluated,
+    own: Here,
+) -> Result<(), Stop>
+    ensures { Gives nothing (spec.bind_rule param.now argument own world.old) result world.new }
 {
     match &param.kind {
-        None => {
-            let value = Evaluated::copy_of(world.heap.alloc(), argument)?;
-            world.assign(own, &param.name, value, param.at)
-        }
+        None => world.assign(own, &param.name, argument, param.at),
         Some(_) => Err(Stop::Fault(world.fault(own, param.at, What::NotBuilt)?)),
     }
 }

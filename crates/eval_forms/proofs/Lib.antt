@@ -1,3 +1,5 @@
 mod Samples
 mod Examples
 mod Elsewhere
+mod Numbers
+mod Operations

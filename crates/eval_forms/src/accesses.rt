@@ -25,6 +25,6 @@ pub fn accessed<F: Fn(&mut World<'_>, Goal<'_>, Here, u32) -> Result<Evaluated, 
     ensures { Gives same (spec.accessed_rule (M.within forms.now.left) value args.now line here world.old)
         result world.new }
 {
-    let arguments = Evaluated::new(Value::List(forms.values(world, args, here)?));
-    combined(world, Op::Access, &value, &arguments, line, here)
+    let arguments = Value::List(forms.values(world, args, here)?);
+    combined(world, Op::Access, value.as_value(), &arguments, line, here)
 }

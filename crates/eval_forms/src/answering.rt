@@ -2,6 +2,7 @@
 ghost use Rattle.std.specs.Prelude.{◌≡◌, IfOk};
 ghost use Rattle.expr_eval.specs.Faults.{bad_operand};
 ghost use Rattle.expr_eval.specs.Testing.{is_of};
+ghost use Rattle.pp_values.specs.Views.{view};
 ghost use Rattle.eval_forms.specs.Answering as spec;
 ghost use Rattle.eval_world.specs.Outcomes.{Gives, same};
 ghost use Rattle.eval_world.specs.Worlds.{place_at};
@@ -9,7 +10,7 @@ ghost use Rattle.eval_world.specs.Worlds.{place_at};
 use eval_world::{Evaluated, Here, World};
 use expr_eval::{combine, is_of};
 use pp_ops::op::Op;
-use pp_values::{Fault, Memory, Stop};
+use pp_values::{Fault, Memory, Stop, Value};
 
 /// The value of an operator over two values. A place is made only where there is a fault to tell: the operator is asked
 /// with no place first, and once more with its own where it refuses.
@@ -17,21 +18,15 @@ use pp_values::{Fault, Memory, Stop};
 pub fn combined(
     world: &World<'_>,
     op: Op,
-    left: &Evaluated,
-    right: &Evaluated,
+    left: &Value,
+    right: &Value,
     line: u32,
     here: Here,
 ) -> Result<Evaluated, Stop>
-    ensures { Gives same (spec.combined op left.now right.now line here world.now) result world.now }
+    ensures { Gives same (spec.combined op (view left.now) (view right.now) line here world.now) result world.now }
 {
     let nowhere = world.nowhere();
-    match combine(
-        world.heap.alloc(),
-        op,
-        left.as_value(),
-        right.as_value(),
-        &nowhere,
-    ) {
+    match combine(world.heap.alloc(), op, left, right, &nowhere) {
         Ok(value) => Ok(Evaluated::new(value)),
         Err(Stop::Memory) => Err(Stop::Memory),
         Err(Stop::Fault(_)) => combined_at(world, op, left, right, line, here),
@@ -42,21 +37,15 @@ pub fn combined(
 fn combined_at(
     world: &World<'_>,
     op: Op,
-    left: &Evaluated,
-    right: &Evaluated,
+    left: &Value,
+    right: &Value,
     line: u32,
     here: Here,
 ) -> Result<Evaluated, Stop>
-    ensures { Gives same (spec.combined op left.now right.now line here world.now) result world.now }
+    ensures { Gives same (spec.combined op (view left.now) (view right.now) line here world.now) result world.now }
 {
     let at = world.place(here, line)?;
-    let value = combine(
-        world.heap.alloc(),
-        op,
-        left.as_value(),
-        right.as_value(),
-        &at,
-    )?;
+    let value = combine(world.heap.alloc(), op, left, right, &at)?;
     Ok(Evaluated::new(value))
 }
 

@@ -3,6 +3,7 @@ ghost use Rattle.std.specs.Prelude.{◌≡◌, IfOk};
 ghost use Rattle.std.specs.List.{list_any};
 ghost use Rattle.std.specs.Option.{option_copied};
 ghost use Rattle.expr_eval.specs.Testing.{option_takes};
+ghost use Rattle.pp_values.specs.Datum.{int};
 ghost use Rattle.pp_values.specs.Views.{view, views};
 ghost use Rattle.eval_forms.specs.Conditions as spec;
 ghost use Rattle.eval_forms.specs.Defaults.{is_default};
@@ -98,8 +99,21 @@ fn takes<F: Fn(&mut World<'_>, Goal<'_>, Here, u32) -> Result<Evaluated, Stop>, 
     if is_default(expr) {
         return Ok(false);
     }
+    if let Some(number) = forms.number(expr) {
+        return Ok(number_takes(number, control.as_value()));
+    }
     let option = forms.value(world, expr, here)?;
     Ok(value_takes(world.heap.alloc(), is_splat(expr), &option, control)?)
+}
+
+/// Whether an integer does: it takes itself alone.
+fn number_takes(number: i64, control: &Value) -> bool
+    ensures { result ≡ option_takes (int number) (view control.now) }
+{
+    match control {
+        Value::Int(control) => number == *control,
+        _ => false,
+    }
 }
 
 /// Whether the value takes the control value, or where it is spliced one of its members.

@@ -1,5 +1,6 @@
 //! Chains of operators between values.
 ghost use Rattle.std.specs.Prelude.{◌≡◌};
+ghost use Rattle.pp_values.specs.Views.{view};
 ghost use Rattle.eval_forms.specs.Operators as spec;
 ghost use Rattle.eval_world.specs.Nests.{Nests};
 ghost use Rattle.eval_world.specs.Outcomes.{Gives, same};
@@ -14,8 +15,8 @@ use pp_tree::expr::{Expr, Operation};
 use pp_values::{Items, Stop, Value};
 
 /// `$a + 1 - $b`: operators of one strength, from the left. All faults of operators stand at the line of the chain's
-/// first token.
-#[tactic(auto, unfolding(crate::specs::Operators::binary_rule, crate::specs::Operators::operations_from))]
+/// first token. Variables are not copied for one operator alone.
+#[tactic(auto, unfolding(crate::specs::Operators::binary_rule), using(crate::proofs::Operations::combined_alone))]
 pub fn binary<F: Fn(&mut World<'_>, Goal<'_>, Here, u32) -> Result<Evaluated, Stop>, M: Meaning>(
     forms: &Forms<F, M>,
     world: &mut World<'_>,
@@ -28,9 +29,43 @@ pub fn binary<F: Fn(&mut World<'_>, Goal<'_>, Here, u32) -> Result<Evaluated, St
     ensures { Gives same (spec.binary_rule (M.within forms.now.left) first.now operations.now line here world.old)
         result world.new }
 {
-    let mut done = forms.value(world, first, here)?;
+    if let ([only], Some(left)) = (operations.as_slice(), forms.known(world, first, here)) {
+        if let OperatorKind::Combine(op) = OperatorKind::of(only.operator) {
+            if let Some(right) = forms.known(world, &only.right, here) {
+                return combined(world, op, left, right, line, here);
+            }
+            if let Some(number) = forms.number(&only.right) {
+                return combined(world, op, left, &Value::Int(number), line, here);
+            }
+        }
+    }
+    let first = forms.value(world, first, here)?;
+    operations_from(forms, world, first, operations, line, here)
+}
+
+/// Operations behind a value, from the left.
+#[tactic(auto, unfolding(crate::specs::Operators::operations_from), using(crate::proofs::Operations::last_operation))]
+fn operations_from<
+    F: Fn(&mut World<'_>, Goal<'_>, Here, u32) -> Result<Evaluated, Stop>,
+    M: Meaning,
+>(
+    forms: &Forms<F, M>,
+    world: &mut World<'_>,
+    first: Evaluated,
+    operations: &Items<Operation>,
+    line: u32,
+    here: Here,
+) -> Result<Evaluated, Stop>
+    requires { Nests (M.within forms.now.left) forms.now.left (F.pre forms.now.inner) (F.post forms.now.inner) }
+    ensures { Gives same (spec.operations_from (M.within forms.now.left) first operations.now line here world.old)
+        result world.new }
+{
+    let mut done = first;
     let mut rest = operations.as_slice();
     while let Some((operation, more)) = rest.split_first() {
+        if let [] = more {
+            return operated(forms, world, &done, operation, line, here);
+        }
         done = operated(forms, world, &done, operation, line, here)?;
         rest = more;
     }
@@ -53,7 +88,7 @@ fn operated<F: Fn(&mut World<'_>, Goal<'_>, Here, u32) -> Result<Evaluated, Stop
 {
     let right = &operation.right;
     match OperatorKind::of(operation.operator) {
-        OperatorKind::Combine(op) => both(forms, world, op, left, right, line, here),
+        OperatorKind::Combine(op) => both(forms, world, op, left.as_value(), right, line, here),
         OperatorKind::Match(wanted) => matched(forms, world, wanted, left, right, line, here),
         OperatorKind::And => if_open(forms, world, is_true(left.as_value()), false, right, here),
         OperatorKind::Or => if_open(forms, world, !is_true(left.as_value()), true, right, here),
@@ -66,17 +101,20 @@ fn both<F: Fn(&mut World<'_>, Goal<'_>, Here, u32) -> Result<Evaluated, Stop>, M
     forms: &Forms<F, M>,
     world: &mut World<'_>,
     op: Op,
-    left: &Evaluated,
+    left: &Value,
     right: &Expr,
     line: u32,
     here: Here,
 ) -> Result<Evaluated, Stop>
     requires { Nests (M.within forms.now.left) forms.now.left (F.pre forms.now.inner) (F.post forms.now.inner) }
-    ensures { Gives same (spec.both_rule (M.within forms.now.left) op left.now right.now line here world.old)
+    ensures { Gives same (spec.both_rule (M.within forms.now.left) op (view left.now) right.now line here world.old)
         result world.new }
 {
+    if let Some(right) = forms.known(world, right, here) {
+        return combined(world, op, left, right, line, here);
+    }
     let right = forms.value(world, right, here)?;
-    combined(world, op, left, &right, line, here)
+    combined(world, op, left, right.as_value(), line, here)
 }
 
 /// `=~` and `!~`.

@@ -39,7 +39,7 @@ pub fn hash<F: Fn(&mut World<'_>, Goal<'_>, Here, u32) -> Result<Evaluated, Stop
     let mut done = Pairs::new(world.heap.alloc());
     let mut rest = pairs.as_slice();
     while let Some((pair, more)) = rest.split_first() {
-        done = with_pair(forms, world, done, pair, line, here)?;
+        add_pair(forms, world, &mut done, pair, line, here)?;
         rest = more;
     }
     Ok(Evaluated::new(Value::Hash(done)))
@@ -48,16 +48,17 @@ pub fn hash<F: Fn(&mut World<'_>, Goal<'_>, Here, u32) -> Result<Evaluated, Stop
 /// `a => 1` behind the pairs that are there. A value that can be no key is refused before the pair's value is
 /// evaluated.
 #[tactic(auto, unfolding(crate::specs::Literals::pair_rule, crate::specs::Literals::value_rule))]
-fn with_pair<F: Fn(&mut World<'_>, Goal<'_>, Here, u32) -> Result<Evaluated, Stop>, M: Meaning>(
+fn add_pair<F: Fn(&mut World<'_>, Goal<'_>, Here, u32) -> Result<Evaluated, Stop>, M: Meaning>(
     forms: &Forms<F, M>,
     world: &mut World<'_>,
-    mut done: Pairs,
+    done: &mut Pairs,
     pair: &Pair,
     line: u32,
     here: Here,
-) -> Result<Pairs, Stop>
+) -> Result<(), Stop>
     requires { Nests (M.within forms.now.left) forms.now.left (F.pre forms.now.inner) (F.post forms.now.inner) }
-    ensures { Gives same (spec.pair_rule (M.within forms.now.left) done pair.now line here world.old) result world.new }
+    ensures { Gives (λ _. done.new)
+        (spec.pair_rule (M.within forms.now.left) done.old pair.now line here world.old) result world.new }
 {
     let key = forms.value(world, &pair.key, here)?;
     if !is_key(key.as_value()) {
@@ -65,7 +66,7 @@ fn with_pair<F: Fn(&mut World<'_>, Goal<'_>, Here, u32) -> Result<Evaluated, Sto
     }
     let value = forms.value(world, &pair.value, here)?;
     done.put(key.into_value(), value.into_value())?;
-    Ok(done)
+    Ok(())
 }
 
 /// How many bytes a text with interpolation begins with room for, so that most of them are taken from memory once.
@@ -88,7 +89,7 @@ pub fn interpolated<
     let mut done = String::with_capacity(world.heap.alloc(), TEXT_ROOM)?;
     let mut rest = pieces.as_slice();
     while let Some((piece, more)) = rest.split_first() {
-        done = with_piece(forms, world, done, piece, here)?;
+        add_piece(forms, world, &mut done, piece, here)?;
         rest = more;
     }
     Ok(Evaluated::new(Value::Text(Text::new(done))))
@@ -96,26 +97,27 @@ pub fn interpolated<
 
 /// A piece of a text, behind those that are there.
 #[tactic(auto, unfolding(crate::specs::Literals::piece_rule))]
-fn with_piece<F: Fn(&mut World<'_>, Goal<'_>, Here, u32) -> Result<Evaluated, Stop>, M: Meaning>(
+fn add_piece<F: Fn(&mut World<'_>, Goal<'_>, Here, u32) -> Result<Evaluated, Stop>, M: Meaning>(
     forms: &Forms<F, M>,
     world: &mut World<'_>,
-    mut done: String,
+    done: &mut String,
     piece: &Piece,
     here: Here,
-) -> Result<String, Stop>
+) -> Result<(), Stop>
     requires { Nests (M.within forms.now.left) forms.now.left (F.pre forms.now.inner) (F.post forms.now.inner) }
-    ensures { Gives string_bytes
-        (spec.piece_rule (M.within forms.now.left) (string_bytes done) piece.now here world.old) result world.new }
+    ensures { Gives (λ _. string_bytes done.new)
+        (spec.piece_rule (M.within forms.now.left) (string_bytes done.old) piece.now here world.old) result world.new }
 {
     match piece {
-        Piece::Text(text) => {
-            done.push_str(text.as_str())?;
-            Ok(done)
-        }
+        Piece::Text(text) => done.push_str(text.as_str())?,
         Piece::Value(expr) => {
+            if let Some(value) = forms.known(world, expr, here) {
+                write_value(done, value)?;
+                return Ok(());
+            }
             let value = forms.value(world, expr, here)?;
-            write_value(&mut done, value.as_value())?;
-            Ok(done)
+            write_value(done, value.as_value())?;
         }
     }
+    Ok(())
 }

@@ -42,8 +42,14 @@ fn prefixed(
     match operator {
         PrefixOperator::Not => Ok(Evaluated::new(Value::Flag(!is_true(value.as_value())))),
         PrefixOperator::Negate => {
-            let nothing = Evaluated::new(Value::Undef);
-            combined(world, Op::Negate, value, &nothing, line, here)
+            combined(
+                world,
+                Op::Negate,
+                value.as_value(),
+                &Value::Undef,
+                line,
+                here,
+            )
         }
         PrefixOperator::Splat => Ok(Evaluated::new(spread(world.heap.alloc(), value.as_value())?)),
     }
@@ -60,6 +66,9 @@ pub fn truth<F: Fn(&mut World<'_>, Goal<'_>, Here, u32) -> Result<Evaluated, Sto
     requires { Nests (M.within forms.now.left) forms.now.left (F.pre forms.now.inner) (F.post forms.now.inner) }
     ensures { Gives same (spec.truth_rule (M.within forms.now.left) expr.now here world.old) result world.new }
 {
+    if let Some(value) = forms.known(world, expr, here) {
+        return Ok(is_true(value));
+    }
     let value = forms.value(world, expr, here)?;
     Ok(is_true(value.as_value()))
 }

@@ -2,6 +2,7 @@ pub mod Arguments
 pub mod Data
 pub mod Environment
 pub mod Inner
+pub mod Leaves
 pub mod Nests
 pub mod Outcomes
 pub mod Owners

@@ -1,6 +1,6 @@
 //! Arguments, and the members of a list.
-ghost use Rattle.std.specs.Prelude.{◌≡◌, ◌++◌, [], IfOk};
-ghost use Rattle.pp_values.specs.Views.{view, views};
+ghost use Rattle.std.specs.Prelude.{◌≡◌, ◌++◌, [], IfOk, OnOk};
+ghost use Rattle.expr_eval.specs.Spreading.{spliced};
 ghost use Rattle.eval_world.specs.Arguments as spec;
 ghost use Rattle.eval_world.specs.Nests.{Nests};
 ghost use Rattle.eval_world.specs.Outcomes.{Gives, same};
@@ -14,8 +14,9 @@ use crate::world::World;
 use expr_eval::splice;
 use pp_tree::expr::{Args, Expr, Form};
 use pp_tree::operators::PrefixOperator;
-use pp_values::{Memory, Stop, Value, Values};
+use pp_values::{Memory, Stop, Values};
 use std::alloc::Global;
+use std::mem;
 
 impl<F: Fn(&mut World<'_>, Goal<'_>, Here, u32) -> Result<Evaluated, Stop>, M: Meaning> Forms<
     F,
@@ -27,28 +28,34 @@ impl<F: Fn(&mut World<'_>, Goal<'_>, Here, u32) -> Result<Evaluated, Stop>, M: M
         requires { Nests (M.within self.now.left) self.now.left (F.pre self.now.inner) (F.post self.now.inner) }
         ensures { Gives same (spec.values_from (M.within self.now.left) [] args.now here world.old) result world.new }
     {
-        let mut done = Values::new(world.heap.alloc());
+        let mut done = Values::from_vec(Vec::with_capacity(world.heap.alloc(), args.len())?);
         let mut rest = args.as_slice();
         while let Some((arg, more)) = rest.split_first() {
-            done = self.with_argument(world, done, arg, here)?;
+            self.add_argument(world, &mut done, arg, here)?;
             rest = more;
         }
         Ok(done)
     }
 
     #[tactic(auto, unfolding(crate::specs::Arguments::argument_rule))]
-    fn with_argument(
+    fn add_argument(
         &self,
         world: &mut World<'_>,
-        done: Values,
+        done: &mut Values,
         arg: &Expr,
         here: Here,
-    ) -> Result<Values, Stop>
+    ) -> Result<(), Stop>
         requires { Nests (M.within self.now.left) self.now.left (F.pre self.now.inner) (F.post self.now.inner) }
-        ensures { Gives same (spec.argument_rule (M.within self.now.left) done arg.now here world.old) result world.new }
+        ensures { Gives (λ _. done.new) (spec.argument_rule (M.within self.now.left) done.old arg.now here world.old)
+            result world.new }
     {
         let value = self.value(world, arg, here)?;
-        Ok(with_given(world.heap.alloc(), done, is_splat(arg), value)?)
+        if is_splat(arg) {
+            add_members(world.heap.alloc(), done, value)?;
+        } else {
+            done.push(value.into_value())?;
+        }
+        Ok(())
     }
 }
 
@@ -62,20 +69,14 @@ fn is_splat(arg: &Expr) -> bool
     }
 }
 
-/// The values and this one, or its members where it is spliced.
-fn with_given(
-    alloc: Global,
-    mut done: Values,
-    is_spliced: bool,
-    value: Evaluated,
-) -> Result<Values, Memory>
-    ensures { IfOk result (λ l. l ≡ done ++ spec.given is_spliced value) }
+/// The members of a value that is spliced, behind these.
+fn add_members(alloc: Global, done: &mut Values, value: Evaluated) -> Result<(), Memory>
+    ensures { OnOk result (done.new ≡ done.old ++ spliced value) }
 {
-    if is_spliced {
-        return appended(done, splice(alloc, value.as_value())?);
-    }
-    done.push(value.into_value())?;
-    Ok(done)
+    let more = splice(alloc, value.as_value())?;
+    let before = mem::replace(done, Values::new(alloc));
+    *done = appended(before, more)?;
+    Ok(())
 }
 
 /// The values and these behind them.

@@ -41,7 +41,10 @@ impl Evaluated {
     pub fn copy_of(alloc: Global, value: &Value) -> Result<Evaluated, Memory>
         ensures { IfOk result (λ e. e ≡ view value.now) }
     {
-        Ok(Evaluated::new(copy(alloc, value)?))
+        match value {
+            Value::Int(number) => Ok(Evaluated::new(Value::Int(*number))),
+            _ => Ok(Evaluated::new(copy(alloc, value)?)),
+        }
     }
 
     pub fn as_value(&self) -> &Value

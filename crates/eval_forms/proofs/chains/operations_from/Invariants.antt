@@ -1,11 +1,11 @@
 -- What is left decides.
 use Rattle.std.proofs.Common.{◌≡◌, length}
-use Rattle.eval_forms.specs.Operators.{binary_rule, operations_from}
-use Rattle.eval_forms.proofs.chains.binary.Given as goal
+use Rattle.eval_forms.specs.Operators.{operations_from}
+use Rattle.eval_forms.proofs.chains.operations_from.Given as goal
 
 abbrev pub invariant-loop-operation : goal.invariant-loop-operation
 invariant-loop-operation g l =
-    binary_rule (g.M.Meaning.within l.forms.left) l.first l.operations l.line l.here l.fn.world
+    operations_from (g.M.Meaning.within l.forms.left) l.fn.first l.operations l.line l.here l.fn.world
     ≡ operations_from (g.M.Meaning.within l.forms.left) l.done l.rest l.line l.here l.world
 
 abbrev pub decreases-loop-operation : goal.decreases-loop-operation

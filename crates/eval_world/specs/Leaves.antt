@@ -1,0 +1,26 @@
+-- Expressions that have no parts.
+use Rattle.std.specs.Prelude.{ℕ, Option, Some, None, ◌≡◌}
+use Rattle.pp_tree.specs.Building.{form_of, line_of}
+use Rattle.pp_tree.specs.Layers.{FormLayer}
+use Rattle.pp_tree.specs.declared.collector.Test.TheOpen.{Form-F}
+use Rattle.pp_tree.specs.declared.expr.Expr.{Expr}
+use Rattle.pp_tree.specs.declared.expr.Form.{out-Form}
+use Rattle.pp_values.specs.Datum as d
+use Rattle.pp_values.specs.Datum.{Datum}
+use Rattle.eval_world.specs.Inner.{Inner}
+use Rattle.eval_world.specs.Outcomes.{Step, pure}
+use Rattle.eval_world.specs.Worlds.{read}
+use Rattle.eval_world.specs.declared.here.Here.{Here}
+
+-- what an integer, a text, a name and a variable say, by themselves
+abbrev pub leaf_by : FormLayer → ℕ → Here → Option (Step Datum)
+leaf_by (Form-F.Number z) line here = Some (pure (d.int z))
+leaf_by (Form-F.Text t) line here = Some (pure (d.text t))
+leaf_by (Form-F.Name t) line here = Some (pure (d.text t))
+leaf_by (Form-F.Variable x) line here = Some (read here x line)
+leaf_by _ line here = None
+
+-- each of these means what it says
+abbrev pub Leaves : Inner → Type 0
+Leaves inner = (e : Expr) (here : Here) (said : Step Datum)
+    → leaf_by (out-Form (form_of e)) (line_of e) here ≡ Some said → inner.value e here ≡ said

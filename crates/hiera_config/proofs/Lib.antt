@@ -10,3 +10,4 @@ mod ReadLists
 mod FileLemmas
 mod PathLemmas
 mod PathTexts
+pub mod Simple

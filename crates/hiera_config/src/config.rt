@@ -1,4 +1,5 @@
-use pp_values::{Text, Texts};
+use crate::template::{Template, Templates};
+use pp_values::Text;
 use sqlite_items::Items;
 
 /// Whose configuration it is.
@@ -13,19 +14,19 @@ pub enum Layer {
 /// The data files of a level, before interpolation.
 #[derive(Drop)]
 pub enum LevelPaths {
-    Templates(Texts),
+    Templates(Templates),
     /// One file for each member of the variable's value, which has the name in the template.
     Mapped {
         variable: Text,
         name: Text,
-        template: Text,
+        template: Template,
     },
 }
 
 /// One level of a hierarchy. `folder` is its folder of data, its own or else the default one, before interpolation.
 pub struct Level {
     pub name: Text,
-    pub folder: Text,
+    pub folder: Template,
     pub paths: LevelPaths,
 }
 

@@ -8,6 +8,7 @@ ghost use Rattle.json_values.specs.FromData.{both};
 ghost use Rattle.hiera_config.specs.Config.{are_among, has_only, texts_from, texts_in, text_or, is_text, has_json_data, templates, one_template, mapped, paths_by, paths_in, name_in, level_of, level_names, level_parts, level_in, levels_from, levels_in, applied};
 
 use crate::config::{Level, LevelPaths, Levels};
+use crate::template::{Template, Templates};
 use pp_values::{Memory, Text, Texts};
 use serde_json::{Map, Value as Json};
 use std::alloc::Global;
@@ -121,11 +122,14 @@ fn level_of(name: Option<Text>, folder: Option<Text>, paths: Option<LevelPaths>)
     ensures { result ≡ both applied (both level_of name folder) paths }
 {
     match (name, folder, paths) {
-        (Some(name), Some(folder), Some(paths)) => Some(Level {
-            name,
-            folder,
-            paths,
-        }),
+        (Some(name), Some(folder), Some(paths)) => {
+            let folder = Template::new(folder);
+            Some(Level {
+                name,
+                folder,
+                paths,
+            })
+        }
         _ => None,
     }
 }
@@ -192,9 +196,9 @@ fn one_template_in(alloc: Global, json: &Json) -> Result<Option<LevelPaths>, Mem
 {
     match text_in(alloc, json)? {
         Some(text) => {
-            let mut texts = Texts::new(alloc);
-            texts.push(text)?;
-            Ok(Some(LevelPaths::Templates(texts)))
+            let mut templates = Templates::new(alloc);
+            templates.push(Template::new(text))?;
+            Ok(Some(LevelPaths::Templates(templates)))
         }
         None => Ok(None),
     }
@@ -203,10 +207,26 @@ fn one_template_in(alloc: Global, json: &Json) -> Result<Option<LevelPaths>, Mem
 fn templates_in(alloc: Global, json: &Json) -> Result<Option<LevelPaths>, Memory>
     ensures { IfOk result (λ p. p ≡ option_map templates (texts_in (json_view json.now))) }
 {
-    match texts_in(alloc, json)? {
-        Some(texts) => Ok(Some(LevelPaths::Templates(texts))),
+    match json.as_array() {
+        Some(items) => match templates_from(alloc, items)? {
+            Some(templates) => Ok(Some(LevelPaths::Templates(templates))),
+            None => Ok(None),
+        },
         None => Ok(None),
     }
+}
+
+fn templates_from(alloc: Global, items: &[Json]) -> Result<Option<Templates>, Memory>
+    ensures { IfOk result (λ ts. ts ≡ texts_from (items_view items.now)) }
+{
+    let mut templates = Templates::new(alloc);
+    for item in items {
+        match item.as_str() {
+            Some(text) => templates.push(Template::new(Text::from_str(alloc, text)?))?,
+            None => return Ok(None),
+        }
+    }
+    Ok(Some(templates))
 }
 
 fn mapped_in(alloc: Global, json: &Json) -> Result<Option<LevelPaths>, Memory>
@@ -225,7 +245,7 @@ fn mapped(alloc: Global, texts: &Texts) -> Result<Option<LevelPaths>, Memory>
         [variable, name, template] => {
             let variable = variable.copy(alloc)?;
             let name = name.copy(alloc)?;
-            let template = template.copy(alloc)?;
+            let template = Template::new(template.copy(alloc)?);
             Ok(Some(LevelPaths::Mapped {
                 variable,
                 name,

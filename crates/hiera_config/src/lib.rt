@@ -14,6 +14,7 @@ mod paths;
 pub mod refused;
 pub mod searching;
 pub mod site_data;
+pub mod template;
 pub mod variables;
 
 pub use config::{Config, Layer, Level, LevelPaths, Levels};
@@ -23,4 +24,5 @@ pub use modules::module_of;
 pub use refused::{Refused, bad_data, bad_interpolation};
 pub use searching::{Source, sources};
 pub use site_data::{SiteData, data_from};
+pub use template::{Template, Templates};
 pub use variables::Variables;

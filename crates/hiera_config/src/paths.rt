@@ -12,36 +12,44 @@ use crate::config::Level;
 use crate::cutting::{cut_at, trimmed};
 use crate::names::Names;
 use crate::refused::{Refused, bad_interpolation};
+use crate::template::Template;
 use pp_values::{Memory, Text, write_value};
 use std::alloc::Global;
 
-/// The path of a data file: the configuration's folder, the level's folder, and what the template says.
-pub fn path_of(
+/// Writes the path of a data file in place of what `path` says: the configuration's folder, the level's folder, and
+/// what the template says.
+pub fn write_path(
     alloc: Global,
     names: &Names<'_>,
     folder: &str,
     level: &Level,
-    template: &Text,
-) -> Result<Text, Refused>
-    ensures { MeetsBy (λ t. t) result (path_of (names_seen names.now) folder.now level.now template.now) }
+    template: &Template,
+    path: &mut String,
+) -> Result<(), Refused>
+    ensures { MeetsBy (λ u. string_bytes path.new) result
+        (path_of (names_seen names.now) folder.now level.now template.now) }
 {
-    let mut path = with_room(alloc, folder)?;
-    add_text(alloc, names, &mut path, level.folder.as_str())?;
+    path.clear();
+    path.push_str(folder)?;
+    add_template(alloc, names, path, &level.folder)?;
     path.push_str("/")?;
-    add_text(alloc, names, &mut path, template.as_str())?;
-    Ok(Text::new(path))
+    add_template(alloc, names, path, template)
 }
 
-/// How long a path mostly is at most.
-const USUAL: usize = 64;
-
-/// The text, with room for a usual path.
-pub fn with_room(alloc: Global, text: &str) -> Result<String, Memory>
-    ensures { IfOk result (λ s. string_bytes s ≡ text.now) }
+/// Appends the template with its variables filled in. Most have none.
+fn add_template(
+    alloc: Global,
+    names: &Names<'_>,
+    out: &mut String,
+    template: &Template,
+) -> Result<(), Refused>
+    ensures { MeetsBy (λ u. string_bytes out.new) result
+        (in_turn (path_piece (names_seen names.now)) (string_bytes out.old) (path_pieces template.now)) }
 {
-    let mut path = String::with_capacity(alloc, USUAL)?;
-    path.push_str(text)?;
-    Ok(path)
+    match template.plain() {
+        Some(text) => Ok(out.push_str(text)?),
+        None => add_text(alloc, names, out, template.as_str()),
+    }
 }
 
 /// Appends the text with its variables filled in, without a copy of its pieces.

@@ -12,9 +12,10 @@ ghost use Rattle.hiera_config.specs.Variables.{variable as variable_of, mapped_v
 use crate::config::{Config, Level, LevelPaths};
 use crate::mapping::mapped_values;
 use crate::names::Names;
-use crate::paths::{path_of, with_room};
+use crate::paths::write_path;
 use crate::refused::{Refused, bad_data};
 use crate::site_data::SiteData;
+use crate::template::Template;
 use crate::variables::Variables;
 use json_values::{DataStop, Numbers, from_data};
 use pp_values::{Memory, Text, Value};
@@ -60,8 +61,11 @@ struct Search<'a> {
 struct MappedPath<'a> {
     level: &'a Level,
     name: &'a Text,
-    template: &'a Text,
+    template: &'a Template,
 }
+
+/// How long a path mostly is at most.
+const USUAL: usize = 64;
 
 /// The sources of a key, the highest first: of the global layer, of the environment, and of this module, if there is
 /// one.
@@ -76,9 +80,20 @@ pub fn sources(
         (spec.sources files.now (seen variables.now) (option_map (λ m. m.now) module_name.entry) key.now) }
 {
     let mut found = Vec::new(alloc);
-    add_from_layer(alloc, files, variables, "global/", key, &mut found)?;
-    add_from_layer(alloc, files, variables, "", key, &mut found)?;
-    add_from_module_if(alloc, files, variables, module_name, key, &mut found)?;
+    let mut path = String::with_capacity(alloc, USUAL)?;
+    add_from_layer(
+        alloc, files, variables, "global/", key, &mut path, &mut found,
+    )?;
+    add_from_layer(alloc, files, variables, "", key, &mut path, &mut found)?;
+    add_from_module_if(
+        alloc,
+        files,
+        variables,
+        module_name,
+        key,
+        &mut path,
+        &mut found,
+    )?;
     Ok(found)
 }
 
@@ -89,14 +104,15 @@ fn add_from_layer(
     variables: &Variables<'_>,
     folder: &str,
     key: &str,
+    path: &mut String,
     found: &mut Vec<Source>,
 ) -> Result<(), Refused>
     ensures { MeetsBy (λ u. source_views found.new.items) result
         (spec.in_layer files.now key.now (seen variables.now) folder.now (source_views found.old.items)) }
 {
-    let config = config_in(alloc, files, folder)?;
+    let config = config_in(alloc, files, folder, path)?;
     let search = Search { files, folder, key };
-    add_from_levels(alloc, &search, variables, levels_of(config), found)
+    add_from_levels(alloc, &search, variables, levels_of(config), path, found)
 }
 
 #[tactic(auto, unfolding(crate::specs::Sources::in_module))]
@@ -106,6 +122,7 @@ fn add_from_module_if(
     variables: &Variables<'_>,
     name: Option<&str>,
     key: &str,
+    path: &mut String,
     found: &mut Vec<Source>,
 ) -> Result<(), Refused>
     ensures { MeetsBy (λ u. source_views found.new.items) result
@@ -113,7 +130,7 @@ fn add_from_module_if(
         (source_views found.old.items)) }
 {
     match name {
-        Some(name) => add_from_module(alloc, files, variables, name, key, found),
+        Some(name) => add_from_module(alloc, files, variables, name, key, path, found),
         None => Ok(()),
     }
 }
@@ -124,16 +141,17 @@ fn add_from_module(
     variables: &Variables<'_>,
     name: &str,
     key: &str,
+    path: &mut String,
     found: &mut Vec<Source>,
 ) -> Result<(), Refused>
     ensures { MeetsBy (λ u. source_views found.new.items) result
         (spec.in_module files.now key.now (seen variables.now) (Some name.now) (source_views found.old.items)) }
 {
-    let path = module_folder(alloc, name)?;
-    let folder = path.as_str();
-    let config = config_in(alloc, files, folder)?;
+    let folder_text = module_folder(alloc, name, path)?;
+    let folder = folder_text.as_str();
+    let config = config_in(alloc, files, folder, path)?;
     let search = Search { files, folder, key };
-    add_from_config(alloc, &search, variables, config, found)
+    add_from_config(alloc, &search, variables, config, path, found)
 }
 
 fn levels_of<'a>(config: Option<&'a Config>) -> &'a [Level]
@@ -154,25 +172,28 @@ fn default_levels_of<'a>(config: Option<&'a Config>) -> &'a [Level]
     }
 }
 
-fn module_folder(alloc: Global, name: &str) -> Result<Text, Memory>
+/// A module's folder, written by way of `folder`.
+fn module_folder(alloc: Global, name: &str, folder: &mut String) -> Result<Text, Memory>
     ensures { IfOk result (λ t. t ≡ spec.module_folder name.now) }
 {
-    let mut folder = with_room(alloc, "modules/")?;
+    folder.clear();
+    folder.push_str("modules/")?;
     folder.push_str(name)?;
     folder.push_str("/")?;
-    Ok(Text::new(folder))
+    Text::from_str(alloc, folder.as_str())
 }
 
-/// The configuration of a folder, if there is one.
+/// The configuration of a folder, if there is one. Its path is written by way of `path`.
 fn config_in<'a>(
     alloc: Global,
     files: &'a SiteData,
     folder: &str,
+    path: &mut String,
 ) -> Result<Option<&'a Config>, Refused>
     ensures { MeetsBy shown_config result
         (spec.config_in files.now folder.now) }
 {
-    let path = config_path(alloc, folder)?;
+    let path = config_path(alloc, folder, path)?;
     match files.get(&path) {
         Some(file) => match &file.config {
             Some(config) => Ok(Some(config)),
@@ -182,12 +203,13 @@ fn config_in<'a>(
     }
 }
 
-fn config_path(alloc: Global, folder: &str) -> Result<Text, Memory>
+fn config_path(alloc: Global, folder: &str, path: &mut String) -> Result<Text, Memory>
     ensures { IfOk result (λ t. t ≡ spec.config_path folder.now) }
 {
-    let mut path = with_room(alloc, folder)?;
+    path.clear();
+    path.push_str(folder)?;
     path.push_str("hiera.yaml")?;
-    Ok(Text::new(path))
+    Text::from_str(alloc, path.as_str())
 }
 
 /// The default levels of a module count where no source has the key.
@@ -196,14 +218,22 @@ fn add_from_config(
     search: &Search<'_>,
     variables: &Variables<'_>,
     config: Option<&Config>,
+    path: &mut String,
     found: &mut Vec<Source>,
 ) -> Result<(), Refused>
     ensures { MeetsBy (λ u. source_views found.new.items) result
         (spec.in_module_config search.now.files.now search.now.key.now (seen variables.now) search.now.folder.now
         (source_views found.old.items) (shown_config config.entry)) }
 {
-    add_from_levels(alloc, search, variables, levels_of(config), found)?;
-    add_default(alloc, search, variables, default_levels_of(config), found)
+    add_from_levels(alloc, search, variables, levels_of(config), path, found)?;
+    add_default(
+        alloc,
+        search,
+        variables,
+        default_levels_of(config),
+        path,
+        found,
+    )
 }
 
 fn add_default(
@@ -211,6 +241,7 @@ fn add_default(
     search: &Search<'_>,
     variables: &Variables<'_>,
     levels: &[Level],
+    path: &mut String,
     found: &mut Vec<Source>,
 ) -> Result<(), Refused>
     ensures { MeetsBy (λ u. source_views found.new.items) result
@@ -218,7 +249,7 @@ fn add_default(
         (source_views found.old.items)) }
 {
     if found.is_empty() {
-        add_from_levels(alloc, search, variables, levels, found)
+        add_from_levels(alloc, search, variables, levels, path, found)
     } else {
         Ok(())
     }
@@ -229,6 +260,7 @@ fn add_from_levels(
     search: &Search<'_>,
     variables: &Variables<'_>,
     levels: &[Level],
+    path: &mut String,
     found: &mut Vec<Source>,
 ) -> Result<(), Refused>
     ensures { MeetsBy (λ u. source_views found.new.items) result
@@ -236,7 +268,7 @@ fn add_from_levels(
         (source_views found.old.items) levels.now) }
 {
     for level in levels {
-        add_from_level(alloc, search, variables, level, found)?;
+        add_from_level(alloc, search, variables, level, path, found)?;
     }
     Ok(())
 }
@@ -247,6 +279,7 @@ fn add_from_level(
     search: &Search<'_>,
     variables: &Variables<'_>,
     level: &Level,
+    path: &mut String,
     found: &mut Vec<Source>,
 ) -> Result<(), Refused>
     ensures { MeetsBy (λ u. source_views found.new.items) result
@@ -255,7 +288,8 @@ fn add_from_level(
 {
     match &level.paths {
         LevelPaths::Templates(templates) => {
-            add_from_templates(alloc, search, variables, level, templates.as_slice(), found)
+            let templates = templates.as_slice();
+            add_from_templates(alloc, search, variables, level, templates, path, found)
         }
         LevelPaths::Mapped {
             variable,
@@ -267,7 +301,8 @@ fn add_from_level(
                 name,
                 template,
             };
-            add_from_mapped(alloc, search, variables, &mapped, variable.as_str(), found)
+            let variable = variable.as_str();
+            add_from_mapped(alloc, search, variables, &mapped, variable, path, found)
         }
     }
 }
@@ -277,7 +312,8 @@ fn add_from_templates(
     search: &Search<'_>,
     variables: &Variables<'_>,
     level: &Level,
-    templates: &[Text],
+    templates: &[Template],
+    path: &mut String,
     found: &mut Vec<Source>,
 ) -> Result<(), Refused>
     ensures { MeetsBy (λ u. source_views found.new.items) result
@@ -286,7 +322,7 @@ fn add_from_templates(
 {
     let names = Names::plain(variables);
     for template in templates {
-        add_from_template(alloc, search, &names, level, template, found)?;
+        add_from_template(alloc, search, &names, level, template, path, found)?;
     }
     Ok(())
 }
@@ -298,6 +334,7 @@ fn add_from_mapped(
     variables: &Variables<'_>,
     mapped: &MappedPath<'_>,
     variable: &str,
+    path: &mut String,
     found: &mut Vec<Source>,
 ) -> Result<(), Refused>
     ensures { MeetsBy (λ u. source_views found.new.items) result
@@ -305,7 +342,15 @@ fn add_from_mapped(
         (mapped_values (variable_of (seen variables.now) variable.now))) }
 {
     let values = mapped_values(alloc, variables.value(alloc, variable)?)?;
-    add_for_values(alloc, search, variables, mapped, values.as_slice(), found)
+    add_for_values(
+        alloc,
+        search,
+        variables,
+        mapped,
+        values.as_slice(),
+        path,
+        found,
+    )
 }
 
 fn add_for_values(
@@ -314,13 +359,14 @@ fn add_for_values(
     variables: &Variables<'_>,
     mapped: &MappedPath<'_>,
     values: &[Value],
+    path: &mut String,
     found: &mut Vec<Source>,
 ) -> Result<(), Refused>
     ensures { MeetsBy (λ u. source_views found.new.items) result
         (mapped_from search.now (seen variables.now) mapped.now (source_views found.old.items) (views values.now)) }
 {
     for value in values {
-        add_for_value(alloc, search, variables, mapped, value, found)?;
+        add_for_value(alloc, search, variables, mapped, value, path, found)?;
     }
     Ok(())
 }
@@ -333,13 +379,22 @@ fn add_for_value(
     variables: &Variables<'_>,
     mapped: &MappedPath<'_>,
     value: &Value,
+    path: &mut String,
     found: &mut Vec<Source>,
 ) -> Result<(), Refused>
     ensures { MeetsBy (λ u. source_views found.new.items) result
         (in_mapped_by search.now (seen variables.now) mapped.now (source_views found.old.items) (view value.now)) }
 {
     let names = Names::hiding(variables, mapped.name, value);
-    add_from_template(alloc, search, &names, mapped.level, mapped.template, found)
+    add_from_template(
+        alloc,
+        search,
+        &names,
+        mapped.level,
+        mapped.template,
+        path,
+        found,
+    )
 }
 
 #[tactic(auto, unfolding(crate::specs::Sources::in_template))]
@@ -348,14 +403,16 @@ fn add_from_template(
     search: &Search<'_>,
     names: &Names<'_>,
     level: &Level,
-    template: &Text,
+    template: &Template,
+    path: &mut String,
     found: &mut Vec<Source>,
 ) -> Result<(), Refused>
     ensures { MeetsBy (λ u. source_views found.new.items) result
         (spec.in_template search.now.files.now search.now.key.now search.now.folder.now level.now (names_seen names.now)
         (source_views found.old.items) template.now) }
 {
-    let path = path_of(alloc, names, search.folder, level, template)?;
+    write_path(alloc, names, search.folder, level, template, path)?;
+    let path = Text::from_str(alloc, path.as_str())?;
     add_from_file(alloc, search.files, search.key, path, found)
 }
 

@@ -1,13 +1,13 @@
 //! The files of a site's data.
-ghost use Rattle.std.specs.Prelude.{◌≡◌, [], is_ok, if◌then◌else◌, IfOk, IfSome, option_map, option_and_then};
+ghost use Rattle.std.specs.Prelude.{◌≡◌, ◌&&◌, [], true, is_ok, if◌then◌else◌, IfOk, IfSome, option_map, option_and_then};
 ghost use Rattle.std.specs.FinMap.{find, put};
 ghost use Rattle.pp_values.specs.Rising.{text_cmp};
 ghost use Rattle.hiera_config.specs.Config.{config_of};
 ghost use Rattle.hiera_config.specs.Documents.{is_of_module, put_in};
-ghost use Rattle.hiera_config.specs.Keeping.{filed, IsKept};
+ghost use Rattle.hiera_config.specs.Keeping.{filed, IsKept, AreSimple, lacks_options, are_none, lacks_defaults, simple_file};
 ghost use Rattle.serde_json.specs.View.{view as json_view};
 
-use crate::config::Config;
+use crate::config::{Config, Level};
 use crate::config_reading::{config_of, parsed};
 use pp_values::{Memory, Text, TextPairs, copy_text_pairs};
 use serde_json::Value as Json;
@@ -37,18 +37,20 @@ impl Drop for DataFile {
 #[derive(Drop)]
 pub struct SiteData {
     by_path: BTreeMap<Text, DataFile>,
+    // No file has options of look-ups, and none has default levels.
+    is_simple: bool,
 }
 
 impl Model for SiteData {
-    ghost use Rattle.std.specs.Prelude.{List};
+    ghost use Rattle.std.specs.Prelude.{◌≡◌, true, List};
     ghost use Rattle.hiera_config.specs.Documents.{File};
-    ghost use Rattle.hiera_config.specs.Keeping.{filed, AreKept};
+    ghost use Rattle.hiera_config.specs.Keeping.{filed, AreKept, KeptSimple};
 
     ghost Value = { List File };
 
     ghost view = { λ s. filed s.by_path.entries };
 
-    ghost invariant = { λ s. AreKept s.by_path.entries };
+    ghost invariant = { λ s. AreKept s.by_path.entries × (s.is_simple ≡ true → KeptSimple s.by_path.entries) };
 }
 
 impl SiteData {
@@ -57,6 +59,7 @@ impl SiteData {
     {
         SiteData {
             by_path: BTreeMap::new(alloc),
+            is_simple: true,
         }
     }
 
@@ -66,8 +69,18 @@ impl SiteData {
         ensures { self.new ≡ (if is_ok result then put text_cmp path text self.old else self.old) }
     {
         let file = read_file(alloc, path.as_str(), text)?;
+        let is_simple = stays_simple(self.is_simple, &file);
         drop(self.by_path.insert(path, file)?);
+        self.is_simple = is_simple;
         Ok(())
+    }
+
+    /// Whether no file has `lookup_options`, and none default levels, as far as is known. Then the sources of
+    /// `lookup_options` are none wherever those of another key are told.
+    pub fn is_simple(&self) -> bool
+        ensures { result ≡ true → AreSimple self.now }
+    {
+        self.is_simple
     }
 
     /// The file at this path.
@@ -105,6 +118,39 @@ fn read_file(alloc: Global, path: &str, text: Text) -> Result<DataFile, Memory>
     let json = parsed(alloc, text.as_str())?;
     let config = config_if(alloc, is_of_module(path), &json)?;
     Ok(DataFile { text, json, config })
+}
+
+fn stays_simple(so_far: bool, file: &DataFile) -> bool
+    ensures { result ≡ (so_far && simple_file file.now) }
+{
+    so_far && lacks_options(&file.json) && lacks_defaults(&file.config)
+}
+
+fn lacks_options(json: &Option<Json>) -> bool
+    ensures { result ≡ lacks_options (option_map json_view json.now) }
+{
+    match json {
+        Some(json) => json.get("lookup_options").is_none(),
+        None => true,
+    }
+}
+
+fn lacks_defaults(config: &Option<Config>) -> bool
+    ensures { result ≡ lacks_defaults config.now }
+{
+    match config {
+        Some(config) => are_none(config.default_levels.as_slice()),
+        None => true,
+    }
+}
+
+fn are_none(levels: &[Level]) -> bool
+    ensures { result ≡ are_none levels.now }
+{
+    match levels {
+        [] => true,
+        [_, ..] => false,
+    }
 }
 
 fn config_if(alloc: Global, is_module: bool, json: &Option<Json>) -> Result<Option<Config>, Memory>

@@ -4,3 +4,4 @@ pub mod Lists
 mod PlainTexts
 pub mod Sources
 pub mod Steps
+pub mod Firsts

@@ -6,3 +6,4 @@ pub mod Looked
 pub mod Options
 pub mod Look
 pub mod Finds
+pub mod Plain

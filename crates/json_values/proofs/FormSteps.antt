@@ -1,16 +1,17 @@
 -- Reading forms: its loops, and its long hashes.
-use Rattle.std.proofs.Common.{◌≡◌, true, false, List, [], ◌∷◌, ◌++◌, Some, None, String, string_bytes, refl, ap, sym, ◌∙◌}
+use Rattle.std.proofs.Common.{◌≡◌, true, false, List, [], ◌∷◌, ◌++◌, Some, None, option_and_then, String, string_bytes, refl, ap, sym, ◌∙◌}
 use Rattle.std.proofs.lemmas.List.{map-append}
 use Rattle.std.specs.declared.alloc.Global.{Global}
 use Rattle.serde_json.specs.declared.value.Value.{Value as Json}
 use Rattle.serde_json.specs.View.{view as json_view, items_view, members_view}
 use Rattle.pp_values.specs.declared.value.Value.{Value}
-use Rattle.pp_values.specs.Datum.{text, hash, Pair, data_of, entries_of}
+use Rattle.pp_values.specs.Datum.{Datum, text, list, hash, Pair, data_of, entries_of}
 use Rattle.pp_values.specs.Keys.{are_distinct}
+use Rattle.pp_values.specs.Members.{opened}
 use Rattle.pp_values.specs.Views.{view, views, pair_view, pair_views}
-use Rattle.pp_values.proofs.Lists.{pairs_of-entries_of}
+use Rattle.pp_values.proofs.Lists.{members_of-data_of, pairs_of-entries_of}
 use Rattle.json_values.specs.ValueForm.{is_plain}
-use Rattle.json_values.specs.Forms.{value_of, values_of, members_of, in_turn, long_hash, last_value}
+use Rattle.json_values.specs.Forms.{value_of, values_of, members_of, in_turn, hash_in_turn, long_hash, last_value}
 use Rattle.json_values.proofs.Items.{Entry, list_so_far, hash_so_far, list_step, hash_step, hash_whole}
 
 -- ---- items and members
@@ -54,3 +55,8 @@ long_is ps distinct plain = rw (pairs_of-entries_of ps, distinct, plain) refl
 
 pub not_distinct : (ps : List Pair) → are_distinct ps ≡ false → long_hash (entries_of ps) ≡ None
 not_distinct ps distinct = rw (pairs_of-entries_of ps, distinct) refl
+
+pub members_in : (d : Datum) (ds vs : List Datum) → d ≡ list (data_of ds) → vs ≡ opened d
+    → hash_in_turn d ≡ option_and_then long_hash (in_turn (data_of vs))
+members_in d ds vs is are =
+    rw (are ∙ ap opened is ∙ members_of-data_of ds, is) refl

@@ -107,7 +107,14 @@ fn hash_in_turn(alloc: Global, value: Value) -> Result<Value, FormStop>
         _ => return Err(FormStop::NoForm),
     }
     let members = value.into_members(alloc)?;
-    long_hash(in_turn(alloc, members.into_vec())?)
+    hash_of(alloc, members.into_vec())
+}
+
+/// The hash of keys and values that stand in turn.
+fn hash_of(alloc: Global, items: Vec<Value>) -> Result<Value, FormStop>
+    ensures { IsForm view result (option_and_then long_hash (in_turn (data_of (views items.items)))) }
+{
+    long_hash(in_turn(alloc, items)?)
 }
 
 /// Keys and values that stand in turn, as pairs.

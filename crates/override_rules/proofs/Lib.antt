@@ -8,5 +8,6 @@ pub mod Outward
 pub mod NoDefaults
 pub mod Gathered
 pub mod Among
+pub mod Alone
 pub mod Ranges
 pub mod Examples

@@ -1,12 +1,13 @@
 -- Which attributes of a declaration may be set: those that it names, those of the lines on it, and those of the
 -- defaults for its kind on the way out from its scope.
-use Rattle.std.specs.Prelude.{ℕ, zero, suc, ◌==◌, ◌&&◌, Bool, if◌then◌else◌, List, [], ◌∷◌, ◌++◌, filter, map, length, Option, None, Some, option_map, option_to_list}
+use Rattle.std.specs.Prelude.{ℕ, zero, suc, ◌==◌, ◌&&◌, Bool, if◌then◌else◌, List, [], ◌∷◌, ◌++◌, filter, map, length, Option, None, Some, is_some, option_map, option_to_list}
 use Rattle.std.specs.Str.{bytes_eq}
 use Rattle.pp_values.specs.Datum.{Datum}
 use Rattle.pp_values.specs.Rising.{sorted}
 use Rattle.pp_values.specs.Settings.{Setting, setting_names}
 use Rattle.res_book.specs.Rows.{reference_of}
 use Rattle.res_book.specs.declared.row.Row.{Row}
+use Rattle.override_rules.specs.Changes.{set_to}
 use Rattle.override_rules.specs.Defaults.{Default, Scope, parent_of}
 use Rattle.override_rules.specs.Lines.{Line, lines_on}
 use Rattle.override_rules.specs.Meaning.{State, attribute_of, is_imported}
@@ -41,6 +42,10 @@ default_names s r =
 abbrev pub names_of : State → Row → List (List ℕ)
 names_of s r =
     setting_names r.item.item.attributes ++ (line_names (lines_on (reference_of r.item) s.lines) ++ default_names s r)
+
+-- an attribute that is Undef sets nothing
+abbrev pub is_set : Setting → Bool
+is_set s = is_some (set_to s.1)
 
 -- a name with its value, where it has one
 abbrev pub setting_for : (List ℕ → Option Datum) → List ℕ → List Setting

@@ -13,6 +13,7 @@ mod nearest;
 mod numbers;
 pub mod override_line;
 pub mod overrides;
+mod own;
 mod rights;
 mod scopes;
 mod target;

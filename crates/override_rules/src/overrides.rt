@@ -1,4 +1,4 @@
-ghost use Rattle.std.specs.Prelude.{◌≡◌, ◌<◌, ◌+◌, ◌++◌, [], ℕ, List, Some, length, find, if◌then◌else◌, is_ok, nat_lt, option_copied, option_map, slice_get, IfOk, OnOk};
+ghost use Rattle.std.specs.Prelude.{◌≡◌, ◌<◌, ◌+◌, ◌==◌, ◌++◌, [], ℕ, List, Some, length, find, if◌then◌else◌, is_ok, nat_lt, option_copied, option_map, slice_get, IfOk, OnOk};
 ghost use Rattle.pp_values.specs.Answers.{Answers};
 ghost use Rattle.pp_values.specs.Views.{view};
 ghost use Rattle.pp_values.specs.Rising.{sorted, with_texts};
@@ -17,6 +17,7 @@ use crate::gathering::{put_defaults, put_overridden, put_own};
 use crate::lines::Lines;
 use crate::nearest::nearest;
 use crate::override_line::OverrideLine;
+use crate::own::copy_set;
 use crate::scopes::Scopes;
 use crate::testing::{is_set_by, line_test, test_all};
 use pp_values::{Kind, Memory, Place, Stop, Text, Value};
@@ -162,9 +163,25 @@ impl Overrides {
         ensures list { IfOk result (λ a. option_map (attributes_of self.now) (slice_get book.now number) ≡ Some a) }
         ensures each { IfOk result (λ a. (name : List ℕ) → set_in a name ≡ attribute_at self.now book.now number name) }
     {
-        let row = book.row(number);
+        self.row_attributes(alloc, book.row(number))
+    }
+
+    /// All attributes of a declaration that are set.
+    pub fn row_attributes(&self, alloc: Global, row: &Row) -> Result<Attributes, Memory>
+        ensures { IfOk result (λ a. a ≡ attributes_of self.now row.now) }
+    {
+        if self.is_untouched(row) {
+            return copy_set(alloc, &row.item.item.attributes);
+        }
         let names = self.names(alloc, row)?;
         self.attributes_among(alloc, row, names)
+    }
+
+    /// Whether no line is on a declaration, and no default for its kind. Then what it sets itself is all that is set.
+    pub fn is_untouched(&self, row: &Row) -> bool
+        ensures { result ≡ (touched_by self.now row.now == 0) }
+    {
+        self.touched_row(row) == 0
     }
 
     fn names(&self, alloc: Global, row: &Row) -> Result<BTreeSet<Text>, Memory>

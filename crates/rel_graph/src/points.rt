@@ -2,11 +2,20 @@
 //! attempt: whether the line is one, `spans` tells.
 use std::alloc::{AllocError, Global};
 
+/// An arrow to a point that is to come after the one that it leads from.
+#[derive(Clone, Copy)]
+struct Arrow {
+    to: usize,
+    /// How many arrows there were when the one before it from the same point was put, or 0 where it is the first.
+    before: usize,
+}
+
 /// Points, two for each resource, and which of them are to come after which.
 #[derive(Drop)]
 pub struct Points {
-    /// For each point those that are to come after it.
-    after: Vec<Vec<usize>>,
+    arrows: Vec<Arrow>,
+    /// For each point how many arrows there were when the last one from it was put, or 0 where there is none.
+    last: Vec<usize>,
     /// For each point how many are to come before it and don't stand on the line yet.
     waits: Vec<usize>,
 }
@@ -22,17 +31,21 @@ fn end(at: u32) -> usize {
 }
 
 fn no_points(alloc: Global, count: u32) -> Result<Points, AllocError> {
-    let mut after = Vec::new(alloc);
-    for _at in 0..end(count) {
-        after.push(Vec::new(alloc))?;
-    }
-    let waits = vec![in alloc; 0; after.len()]?;
-    Ok(Points { after, waits })
+    let arrows = Vec::new(alloc);
+    let last = vec![in alloc; 0; end(count)]?;
+    let waits = vec![in alloc; 0; end(count)]?;
+    Ok(Points {
+        arrows,
+        last,
+        waits,
+    })
 }
 
 fn put(points: &mut Points, from: usize, to: usize) -> Result<(), AllocError> {
-    if from < points.after.len() && to < points.waits.len() {
-        points.after[from].push(to)?;
+    if from < points.last.len() && to < points.waits.len() {
+        let before = points.last[from];
+        points.arrows.push(Arrow { to, before })?;
+        points.last[from] = points.arrows.len();
         points.waits[to] = points.waits[to].wrapping_add(1);
     }
     Ok(())
@@ -83,10 +96,31 @@ fn is_last(waits: &mut [usize], point: usize) -> bool {
     false
 }
 
-fn release(after: &[usize], waits: &mut [usize], ready: &mut Vec<usize>) -> Result<(), AllocError> {
-    for point in after {
-        if is_last(waits, *point) {
-            ready.push(*point)?;
+/// What this arrow, counted from 1, leads to; and the arrow before it.
+fn arrow_at(arrows: &[Arrow], number: usize) -> Option<Arrow> {
+    match number.checked_sub(1) {
+        Some(at) => arrows.get(at).copied(),
+        None => None,
+    }
+}
+
+/// Follows the arrows from a point, the last one first.
+fn release(
+    arrows: &[Arrow],
+    last: usize,
+    waits: &mut [usize],
+    ready: &mut Vec<usize>,
+) -> Result<(), AllocError> {
+    let mut number = last;
+    for _turn in 0..arrows.len() {
+        match arrow_at(arrows, number) {
+            Some(arrow) => {
+                if is_last(waits, arrow.to) {
+                    ready.push(arrow.to)?;
+                }
+                number = arrow.before;
+            }
+            None => return Ok(()),
         }
     }
     Ok(())
@@ -100,9 +134,10 @@ fn put_on_line(
     line: &mut [usize],
     ready: &mut Vec<usize>,
 ) -> Result<(), AllocError> {
-    if point < line.len() && point < points.after.len() {
+    if point < line.len() && point < points.last.len() {
         line[point] = place;
-        release(points.after[point].as_slice(), &mut points.waits, ready)?;
+        let last = points.last[point];
+        release(points.arrows.as_slice(), last, &mut points.waits, ready)?;
     }
     Ok(())
 }
@@ -111,7 +146,7 @@ fn put_on_line(
 fn line_up(alloc: Global, points: Points) -> Result<Vec<usize>, AllocError> {
     let mut points = points;
     let mut ready = first_ready(alloc, points.waits.as_slice())?;
-    let mut line = vec![in alloc; 0; points.after.len()]?;
+    let mut line = vec![in alloc; 0; points.last.len()]?;
     for place in 0..line.len() {
         if place < ready.len() {
             let point = ready[place];

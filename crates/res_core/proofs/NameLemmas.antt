@@ -1,63 +1,175 @@
--- Names that are put into a set one after another.
-use Rattle.std.proofs.Common.{◌≡◌, ℕ, Bool, true, false, ◌||◌, IsTrue, List, [], ◌∷◌, ◌++◌, map, filter, refl, ap, sym, ◌∙◌, if◌then◌else◌}
+-- Names that are put behind one another, and then in order.
+use Rattle.std.proofs.Common.{◌≡◌, ℕ, Bool, true, false, cond, ◌||◌, IsTrue, List, [], ◌∷◌, ◌++◌, map, filter, refl, ap, sym, subst, ◌∙◌, if◌then◌else◌, arith}
+use Rattle.std.proofs.Math.Bool.{or_comm}
 use Rattle.std.proofs.lemmas.List.{map-append}
+use Rattle.std.proofs.lemmas.List.Folds.{list_any-append}
+use Rattle.std.proofs.lemmas.List.Kept.{IsStrictlySortedBy-dedup}
+use Rattle.std.proofs.lemmas.List.Sorted.{list_any-IsPermutation}
+use Rattle.std.proofs.lemmas.Cmp.{nat_list_cmp_total}
 use Rattle.std.specs.BTreeSet.{insert_key}
+use Rattle.std.specs.Char.{to_ascii_lowercase}
+use Rattle.std.specs.Cmp.{first_so, second_so}
+use Rattle.std.specs.Cmp.Derive.{both_true}
+use Rattle.std.specs.Cmp.Lexicographic.{same_text, texts_ties}
+use Rattle.std.specs.List.{dedup, dedup_from, list_all}
+use Rattle.std.specs.List.Sorted.{IsPermutation, IsSorted, IsStrictlySortedBy}
+use Rattle.std.specs.Ordering.{is_lt}
+use Rattle.std.specs.Str.{bytes_eq}
 use Rattle.pp_values.specs.Rising.{text_cmp, with_texts, sorted, is_rising, has_text}
-use Rattle.res_core.specs.TagNames.{segments, is_filled, is_taggable, with_segments, names, lowered, tags, TagsAreTheSet}
 use Rattle.pp_values.proofs.RisingLemmas.{is_rising-with_texts, has_text-with_texts, same_rising}
+use Rattle.res_core.specs.TagNames.{segments, is_filled, is_lower_byte, is_taggable, with_segments, names, lowered, tags, AddsTexts, TagsAreTheSet}
 
-pub with_texts-append : (ts us held : List (List ℕ)) → with_texts held (ts ++ us) ≡ with_texts (with_texts held ts) us
-with_texts-append [] us held = refl
-with_texts-append (t ∷ ts) us held = with_texts-append ts us (insert_key text_cmp held t)
+-- ---- a name in lower case
 
-lowered-filled : (t : List ℕ) (ts held : List (List ℕ)) → with_texts (with_texts held (map lowered (filter is_filled (t ∷ [])))) (map lowered (filter is_filled ts)) ≡ with_texts held (map lowered (filter is_filled (t ∷ ts)))
-lowered-filled [] ts held = refl
-lowered-filled (b ∷ bs) ts held = refl
+lower_byte : (b : ℕ) → is_lower_byte b ≡ true → to_ascii_lowercase b ≡ b
+lower_byte b h = grind (arith, h)
 
--- the first segment is put, and then the rest
-pub segment_more : (rest segment after : List ℕ) (held more : List (List ℕ)) →
-    segments rest ≡ segment ∷ segments after → more ≡ with_texts held (map lowered (filter is_filled (segment ∷ []))) →
-    with_texts more (map lowered (filter is_filled (segments after))) ≡ with_texts held (map lowered (filter is_filled (segments rest)))
-segment_more rest segment after held more cut put =
-    ap (λ h. with_texts h (map lowered (filter is_filled (segments after)))) put
-    ∙ lowered-filled segment (segments after) held
-    ∙ ap (λ ts. with_texts held (map lowered (filter is_filled ts))) (sym cut)
+-- what is in lower case stays as it is
+pub lowered_stays : (name : List ℕ) → list_all is_lower_byte name ≡ true → lowered name ≡ name
+lowered_stays [] h = refl
+lowered_stays (b ∷ bs) h =
+    ap (λ c. c ∷ lowered bs) (lower_byte b (first_so _ _ h)) ∙ ap (λ cs. b ∷ cs) (lowered_stays bs (second_so (is_lower_byte b) _ h))
 
--- the names of the four parts are put one after another
-pub all_names : (kind title : List ℕ) (given container start a b c d : List (List ℕ)) →
-    start ≡ [] → a ≡ with_texts start (map lowered (with_segments kind)) →
-    b ≡ with_texts a (map lowered (if is_taggable title then with_segments title else [])) →
-    c ≡ with_texts b (map lowered given) →
-    d ≡ with_texts c (map lowered container) →
-    d ≡ tags kind title given container
-all_names kind title given container start a b c d empty of_kind of_title of_given of_container =
-    of_container
-    ∙ ap (λ h. with_texts h (map lowered container)) (of_given
-    ∙ ap (λ h. with_texts h (map lowered given)) (of_title ∙ ap (λ h. with_texts h (map lowered (if is_taggable title then with_segments title else []))) (of_kind ∙ ap (λ h. with_texts h (map lowered (with_segments kind))) empty)))
-    ∙ sym (joined (with_segments kind) (if is_taggable title then with_segments title else []) given container) where
-      joined : (k t g n : List (List ℕ)) → sorted (map lowered (k ++ (t ++ (g ++ n)))) ≡ with_texts (with_texts (with_texts (with_texts [] (map lowered k)) (map lowered t)) (map lowered g)) (map lowered n)
-      joined k t g n =
-          ap sorted (map-append lowered k (t ++ (g ++ n)) ∙ ap (λ x. map lowered k ++ x) (map-append lowered t (g ++ n) ∙ ap (λ x. map lowered t ++ x) (map-append lowered g n)))
-          ∙ with_texts-append (map lowered k) _ []
-          ∙ with_texts-append (map lowered t) _ _
-          ∙ with_texts-append (map lowered g) _ _
+-- ---- sorted, and each once
 
-pub rising_tags : (kind title : List ℕ) (given container ts : List (List ℕ)) → ts ≡ tags kind title given container → IsTrue (is_rising ts)
-rising_tags kind title given container ts e = ap is_rising e ∙ is_rising-with_texts (map lowered (names kind title given container)) [] refl
+rising_strict : (ts : List (List ℕ)) → IsStrictlySortedBy text_cmp ts → is_rising ts ≡ true
+unfolding IsStrictlySortedBy
+rising_strict [] h = refl
+rising_strict (t ∷ []) h = refl
+rising_strict (t ∷ u ∷ us) h = both_true (ap is_lt h.0.0) (rising_strict (u ∷ us) h.1)
+
+again : (a b : Bool) → (a || (a || b)) ≡ (a || b)
+again true b = refl
+again false b = refl
+
+has_text-dedup_from : (k : List ℕ) (ts : List (List ℕ)) (q : List ℕ) → has_text (dedup_from bytes_eq k ts) q ≡ has_text (k ∷ ts) q
+has_text-dedup_from k [] q = refl
+has_text-dedup_from k (t ∷ ts) q =
+    elim (bytes_eq t k) as (λ b. bytes_eq t k ≡ b → has_text (cond b (dedup_from bytes_eq k ts) (k ∷ dedup_from bytes_eq t ts)) q ≡ has_text (k ∷ t ∷ ts) q) [
+      | true ↦ λ e. subst (λ u. has_text (dedup_from bytes_eq k ts) q ≡ has_text (k ∷ u ∷ ts) q) (sym (same_text t k (sym e))) (has_text-dedup_from k ts q ∙ sym (again (bytes_eq q k) (has_text ts q)))
+      | false ↦ λ e. ap (λ b. bytes_eq q k || b) (has_text-dedup_from t ts q)
+    ] refl
+
+has_text-dedup : (ts : List (List ℕ)) (q : List ℕ) → has_text (dedup bytes_eq ts) q ≡ has_text ts q
+has_text-dedup [] q = refl
+has_text-dedup (t ∷ ts) q = has_text-dedup_from t ts q
 
 or_nothing : (b : Bool) → (b || false) ≡ b
 or_nothing true = refl
 or_nothing false = refl
 
-pub tags_hold : (kind title : List ℕ) (given container : List (List ℕ)) (t : List ℕ) → has_text (tags kind title given container) t ≡ has_text (map lowered (names kind title given container)) t
-tags_hold kind title given container t =
-    let all : List (List ℕ) = map lowered (names kind title given container) in
-    has_text-with_texts all [] t ∙ or_nothing (has_text all t)
+sorted_rises : (ts : List (List ℕ)) → is_rising (sorted ts) ≡ true
+sorted_rises ts = is_rising-with_texts ts [] refl
+
+sorted_holds : (ts : List (List ℕ)) (q : List ℕ) → has_text (sorted ts) q ≡ has_text ts q
+sorted_holds ts q = has_text-with_texts ts [] q ∙ or_nothing (has_text ts q)
+
+-- texts that were sorted rise once each stands there once
+pub dedup_rises : (ts : List (List ℕ)) → IsSorted text_cmp ts → is_rising (dedup bytes_eq ts) ≡ true
+dedup_rises ts h = rising_strict _ (IsStrictlySortedBy-dedup nat_list_cmp_total texts_ties ts h)
+
+-- and are the same as if each had been put at its place
+pub dedup_sorted : (ts us : List (List ℕ)) → IsPermutation ts us → IsSorted text_cmp us → dedup bytes_eq us ≡ sorted ts
+dedup_sorted ts us moved h =
+    same_rising _ _ (dedup_rises us h) (sorted_rises ts) (λ q. has_text-dedup us q ∙ sym (list_any-IsPermutation (bytes_eq q) ts us moved) ∙ sym (sorted_holds ts q))
+
+-- lists that hold the same are the same in order
+pub same_sorted : (ts us : List (List ℕ)) → ((q : List ℕ) → has_text ts q ≡ has_text us q) → sorted ts ≡ sorted us
+same_sorted ts us alike =
+    same_rising _ _ (sorted_rises ts) (sorted_rises us) (λ q. sorted_holds ts q ∙ alike q ∙ sym (sorted_holds us q))
+
+pub with_texts-append : (ts us held : List (List ℕ)) → with_texts held (ts ++ us) ≡ with_texts (with_texts held ts) us
+with_texts-append [] us held = refl
+with_texts-append (t ∷ ts) us held = with_texts-append ts us (insert_key text_cmp held t)
+
+-- ---- the names of a resource
+
+-- texts that were put behind others
+pub put_behind : (old new ts : List (List ℕ)) → new ≡ old ++ ts → AddsTexts old new ts
+put_behind old new ts e q = ap (λ us. has_text us q) e ∙ list_any-append (bytes_eq q) old ts
+
+-- a name that is its only segment is put once
+pub put_whole : (old new : List (List ℕ)) (name : List ℕ) → new ≡ old ++ lowered name ∷ [] → segments name ≡ name ∷ [] → AddsTexts old new (map lowered (with_segments name))
+put_whole old new name e whole q =
+    put_behind old new (lowered name ∷ []) e q
+    ∙ ap (λ b. has_text old q || b) (once name ∙ sym (ap (λ ts. has_text (map lowered (name ∷ filter is_filled ts)) q) whole)) where
+      once : (n : List ℕ) → has_text (lowered n ∷ []) q ≡ has_text (map lowered (n ∷ filter is_filled (n ∷ []))) q
+      once [] = refl
+      once (b ∷ bs) = sym (again (bytes_eq q (lowered (b ∷ bs))) false)
+
+filled_first : (t : List ℕ) (ts : List (List ℕ)) → map lowered (filter is_filled (t ∷ [])) ++ map lowered (filter is_filled ts) ≡ map lowered (filter is_filled (t ∷ ts))
+filled_first [] ts = refl
+filled_first (b ∷ bs) ts = refl
+
+behind : (ts us vs : List (List ℕ)) → (ts ++ us) ++ vs ≡ ts ++ (us ++ vs)
+behind [] us vs = refl
+behind (t ∷ ts) us vs = ap (λ xs. t ∷ xs) (behind ts us vs)
+
+-- the first segment is put, and then the rest
+pub segment_more : (rest segment after : List ℕ) (held more : List (List ℕ)) →
+    segments rest ≡ segment ∷ segments after → more ≡ held ++ map lowered (filter is_filled (segment ∷ [])) →
+    more ++ map lowered (filter is_filled (segments after)) ≡ held ++ map lowered (filter is_filled (segments rest))
+segment_more rest segment after held more cut put =
+    ap (λ h. h ++ map lowered (filter is_filled (segments after))) put
+    ∙ behind held (map lowered (filter is_filled (segment ∷ []))) _
+    ∙ ap (λ ts. held ++ ts) (filled_first segment (segments after) ∙ ap (λ ts. map lowered (filter is_filled ts)) (sym cut))
+
+-- a name, its first segment and the others are put
+pub put_parts : (old one two new : List (List ℕ)) (name first others : List ℕ) →
+    one ≡ old ++ lowered name ∷ [] → two ≡ one ++ map lowered (filter is_filled (first ∷ [])) →
+    new ≡ two ++ map lowered (filter is_filled (segments others)) → segments name ≡ first ∷ segments others →
+    AddsTexts old new (map lowered (with_segments name))
+put_parts old one two new name first others named headed followed cut =
+    put_behind old new (map lowered (with_segments name))
+    (followed ∙ segment_more name first others one two cut headed ∙ ap (λ ts. ts ++ map lowered (filter is_filled (segments name))) named ∙ behind old (lowered name ∷ []) _)
+
+turned : (c g t k : Bool) → (((c || g) || t) || k) ≡ (k || (t || (g || c)))
+turned c g t k = or_comm _ k ∙ ap (λ b. k || b) (or_comm _ t ∙ ap (λ b. t || b) (or_comm c g))
+
+-- the names of the four parts are put behind one another
+pub all_names : (kind title : List ℕ) (given container start a b c d : List (List ℕ)) →
+    start ≡ [] → a ≡ start ++ map lowered container → b ≡ a ++ map lowered given →
+    AddsTexts b c (map lowered (if is_taggable title then with_segments title else [])) →
+    AddsTexts c d (map lowered (with_segments kind)) →
+    (q : List ℕ) → has_text d q ≡ has_text (map lowered (names kind title given container)) q
+all_names kind title given container start a b c d empty of_container of_given of_title of_kind q =
+    of_kind q
+    ∙ ap (λ x. x || has k) (of_title q ∙ ap (λ x. x || has t) (put_behind a b _ of_given q ∙ ap (λ x. x || has g) (ap (λ us. has_text us q) (of_container ∙ ap (λ us. us ++ n) empty))))
+    ∙ turned (has n) (has g) (has t) (has k)
+    ∙ sym joined where
+      k : List (List ℕ)
+      k = map lowered (with_segments kind)
+
+      t : List (List ℕ)
+      t = map lowered (if is_taggable title then with_segments title else [])
+
+      g : List (List ℕ)
+      g = map lowered given
+
+      n : List (List ℕ)
+      n = map lowered container
+
+      has : List (List ℕ) → Bool
+      has ts = has_text ts q
+
+      joined : has (map lowered (names kind title given container)) ≡ (has k || (has t || (has g || has n)))
+      joined =
+          ap has (map-append lowered (with_segments kind) _ ∙ ap (λ x. k ++ x) (map-append lowered (if is_taggable title then with_segments title else []) _ ∙ ap (λ x. t ++ x) (map-append lowered given container)))
+          ∙ list_any-append (bytes_eq q) k _
+          ∙ ap (λ x. has k || x) (list_any-append (bytes_eq q) t _ ∙ ap (λ x. has t || x) (list_any-append (bytes_eq q) g n))
+
+-- ---- what the tags are
+
+pub rising_tags : (kind title : List ℕ) (given container ts : List (List ℕ)) → ts ≡ tags kind title given container → IsTrue (is_rising ts)
+rising_tags kind title given container ts e = ap is_rising e ∙ sorted_rises (map lowered (names kind title given container))
 
 pub tags_are_the_set : TagsAreTheSet
 tags_are_the_set kind title given container ts = (there, back) where
+  all : List (List ℕ)
+  all = map lowered (names kind title given container)
+
   there : ts ≡ tags kind title given container → IsTrue (is_rising ts) × ((t : List ℕ) → has_text ts t ≡ has_text (map lowered (names kind title given container)) t)
-  there e = (rising_tags kind title given container ts e, λ t. ap (λ us. has_text us t) e ∙ tags_hold kind title given container t)
+  there e = (rising_tags kind title given container ts e, λ t. ap (λ us. has_text us t) e ∙ sorted_holds all t)
 
   back : IsTrue (is_rising ts) × ((t : List ℕ) → has_text ts t ≡ has_text (map lowered (names kind title given container)) t) → ts ≡ tags kind title given container
-  back h = same_rising ts _ h.0 (rising_tags kind title given container _ refl) (λ t. h.1 t ∙ sym (tags_hold kind title given container t))
+  back h = same_rising ts _ h.0 (sorted_rises all) (λ t. h.1 t ∙ sym (sorted_holds all t))

@@ -1,7 +1,7 @@
 -- Which tags a resource has.
-use Rattle.std.specs.Prelude.{◌≡◌, ◌↔◌, ℕ, Bool, true, false, IsTrue, ◌&&◌, ◌||◌, ◌==◌, if◌then◌else◌, List, [], ◌∷◌, ◌++◌, map, filter}
+use Rattle.std.specs.Prelude.{◌≡◌, ◌↔◌, ℕ, Bool, true, false, IsTrue, not, ◌&&◌, ◌||◌, ◌==◌, if◌then◌else◌, List, [], ◌∷◌, ◌++◌, map, filter}
 use Rattle.std.specs.List.{list_all, list_any, onto_first}
-use Rattle.std.specs.Char.{to_ascii_lowercase, is_ascii_alphanumeric}
+use Rattle.std.specs.Char.{to_ascii_lowercase, is_ascii_alphanumeric, is_ascii_uppercase}
 use Rattle.std.specs.Str.{str_eq_ignore_ascii_case}
 use Rattle.pp_values.specs.Rising.{is_rising, has_text, sorted}
 
@@ -37,6 +37,10 @@ abbrev pub names : List ℕ → List ℕ → List (List ℕ) → List (List ℕ)
 names kind title given container =
     with_segments kind ++ ((if is_taggable title then with_segments title else []) ++ (given ++ container))
 
+-- no ASCII letter in upper case
+abbrev pub is_lower_byte : ℕ → Bool
+is_lower_byte b = not (is_ascii_uppercase b)
+
 -- in lower case, as far as the letters are ASCII
 abbrev pub lowered : List ℕ → List ℕ
 lowered = map to_ascii_lowercase
@@ -44,6 +48,10 @@ lowered = map to_ascii_lowercase
 -- the tags, in rising byte order, each once
 abbrev pub tags : List ℕ → List ℕ → List (List ℕ) → List (List ℕ) → List (List ℕ)
 tags kind title given container = sorted (map lowered (names kind title given container))
+
+-- the second list holds what the first one holds, these texts, and nothing else
+abbrev pub AddsTexts : List (List ℕ) → List (List ℕ) → List (List ℕ) → Type 0
+AddsTexts old new ts = (t : List ℕ) → has_text new t ≡ (has_text old t || has_text ts t)
 
 -- some tag is this text, with ASCII letters folded
 abbrev pub is_tagged : List (List ℕ) → List ℕ → Bool

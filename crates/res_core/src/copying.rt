@@ -22,7 +22,7 @@ pub fn copy_attribute(alloc: Global, attribute: &Attribute) -> Result<Attribute,
 pub fn copy_attributes(alloc: Global, attributes: &Attributes) -> Result<Attributes, Memory>
     ensures { IfOk result (λ a. a ≡ attributes.now) }
 {
-    let mut items = Vec::new(alloc);
+    let mut items = Vec::with_capacity(alloc, attributes.len())?;
     for attribute in attributes.as_slice() {
         items.push(copy_attribute(alloc, attribute)?)?;
     }

@@ -1,5 +1,5 @@
 //! Which kinds are native, and what they have.
-ghost use Rattle.std.specs.Prelude.{◌≡◌, ◌++◌, map, option_map, IfOk};
+ghost use Rattle.std.specs.Prelude.{◌≡◌, ◌++◌, map, option_map, IfOk, OnOk};
 ghost use Rattle.res_core.specs.NativeTypes.{row, native_of, property_of, attributes_of};
 
 use crate::native_table::NATIVE_TYPES;
@@ -39,16 +39,18 @@ pub fn known_attributes(alloc: Global, kind: NativeType) -> Result<Texts, Memory
     ensures { IfOk result (λ names. names ≡ attributes_of kind) }
 {
     let row = kind.row();
-    let names = Texts::new(alloc);
-    let names = with_names(alloc, names, row.properties)?;
-    with_names(alloc, names, row.others)
+    let room = row.properties.len().saturating_add(row.others.len());
+    let mut names = Vec::with_capacity(alloc, room)?;
+    put_names(alloc, &mut names, row.properties)?;
+    put_names(alloc, &mut names, row.others)?;
+    Ok(Texts::from_vec(names))
 }
 
-fn with_names(alloc: Global, mut texts: Texts, names: &[&str]) -> Result<Texts, Memory>
-    ensures { IfOk result (λ all. all ≡ texts ++ map (λ name. name.now) names.now) }
+fn put_names(alloc: Global, texts: &mut Vec<Text>, names: &[&str]) -> Result<(), Memory>
+    ensures { OnOk result (texts.new.items ≡ texts.old.items ++ map (λ name. name.now) names.now) }
 {
     for name in names {
         texts.push(Text::from_str(alloc, name)?)?;
     }
-    Ok(texts)
+    Ok(())
 }

@@ -1,12 +1,14 @@
-ghost use Rattle.std.specs.Prelude.{◌≡◌, ◌∷◌, [], map, filter, if◌then◌else◌, IfOk, OnOk, IsTrue};
+ghost use Rattle.std.specs.Prelude.{◌≡◌, ◌∷◌, ◌++◌, [], ℕ, List, map, filter, if◌then◌else◌, IfOk, OnOk};
 ghost use Rattle.std.specs.List.{list_all};
-ghost use Rattle.pp_values.specs.Rising.{is_rising, with_texts};
-ghost use Rattle.res_core.specs.TagNames.{is_word_byte as word_byte, is_tag_byte as tag_byte, is_taggable as taggable, is_filled, segments, with_segments, lowered, tags, TagsAreTheSet};
+ghost use Rattle.pp_values.specs.Rising.{has_text, sorted};
+ghost use Rattle.res_core.specs.TagNames.{is_word_byte as word_byte, is_tag_byte as tag_byte, is_taggable as taggable, is_filled, is_lower_byte as lower_byte, segments, with_segments, lowered, names, tags, AddsTexts, TagsAreTheSet};
 
 use crate::tags::Tags;
 use pp_values::{Memory, Text, Texts};
 use std::alloc::Global;
-use std::collections::BTreeSet;
+
+/// How many tags there is room for from the beginning, besides those of the container.
+const OWN_TAGS: usize = 6;
 
 /// The tags of a resource of this kind and title that has these texts in its attribute `tag` and
 /// stands in a resource with the container's tags. The tags of a class are those of kind `class`.
@@ -21,26 +23,38 @@ pub fn tags_of(
 ) -> Result<Tags, Memory>
     ensures { IfOk result (λ t. t ≡ tags kind.now title.now given.now container.now) }
 {
-    let set = gather(alloc, kind, title, given, container)?;
-    from_set(alloc, set)
+    let all = gather(alloc, kind, title, given, container)?;
+    Ok(in_order(all))
 }
 
+/// All names in lower case. Those of the container come first, since they mostly rise already.
 fn gather(
     alloc: Global,
     kind: &Text,
     title: &Text,
     given: &Texts,
     container: &Tags,
-) -> Result<BTreeSet<Text>, Memory>
-    ensures gathered { IfOk result (λ s. s.keys ≡ tags kind.now title.now given.now container.now) }
-    ensures rising { IfOk result (λ s. IsTrue (is_rising s.keys)) }
+) -> Result<Vec<Text>, Memory>
+    ensures { IfOk result (λ v. (t : List ℕ) → has_text v.items t
+        ≡ has_text (map lowered (names kind.now title.now given.now container.now)) t) }
 {
-    let mut set = BTreeSet::new(alloc);
-    put_with_segments(alloc, &mut set, kind.as_str())?;
-    put_title(alloc, &mut set, title.as_str())?;
-    put_all(alloc, &mut set, given.as_slice())?;
-    put_all(alloc, &mut set, container.as_slice())?;
-    Ok(set)
+    let room = container.len().saturating_add(OWN_TAGS);
+    let mut all = Vec::with_capacity(alloc, room)?;
+    put_all(alloc, &mut all, container.as_slice())?;
+    put_all(alloc, &mut all, given.as_slice())?;
+    put_title(alloc, &mut all, title.as_str())?;
+    put_with_segments(alloc, &mut all, kind.as_str())?;
+    Ok(all)
+}
+
+/// These texts in rising order, each once.
+fn in_order(texts: Vec<Text>) -> Tags
+    ensures { result ≡ sorted texts.items }
+{
+    let mut texts = texts;
+    texts.sort_unstable();
+    texts.dedup();
+    Tags::from_vec(texts)
 }
 
 /// What `tags_of` gives is the one list that rises and holds exactly the names, in lower case.
@@ -79,70 +93,82 @@ fn is_tag_byte(byte: u8) -> bool
     is_word_byte(byte) || byte == b':' || byte == b'.' || byte == b'-'
 }
 
-fn put(alloc: Global, set: &mut BTreeSet<Text>, name: &str) -> Result<(), Memory>
-    ensures { OnOk result (set.new.keys ≡ with_texts set.old.keys (lowered name.now ∷ [])) }
+fn are_lower(bytes: &[u8]) -> bool
+    ensures { result ≡ list_all lower_byte bytes.now }
 {
+    bytes.iter().all(|b| !b.is_ascii_uppercase())
+}
+
+/// The name in lower case. A short one takes memory only where it was not in lower case before.
+#[tactic(auto, using(crate::proofs::NameLemmas::lowered_stays))]
+fn lowered(alloc: Global, name: &str) -> Result<Text, Memory>
+    ensures { IfOk result (λ t. t ≡ lowered name.now) }
+{
+    if are_lower(name.as_bytes()) {
+        return Text::from_str(alloc, name);
+    }
     let mut tag = String::from_str(alloc, name)?;
     tag.make_ascii_lowercase();
-    set.insert(Text::new(tag))?;
+    Text::from_str(alloc, tag.as_str())
+}
+
+fn put(alloc: Global, all: &mut Vec<Text>, name: &str) -> Result<(), Memory>
+    ensures { OnOk result (all.new.items ≡ all.old.items ++ lowered name.now ∷ []) }
+{
+    all.push(lowered(alloc, name)?)?;
     Ok(())
 }
 
-fn put_all(alloc: Global, set: &mut BTreeSet<Text>, names: &[Text]) -> Result<(), Memory>
-    ensures { OnOk result (set.new.keys ≡ with_texts set.old.keys (map lowered names.now)) }
+fn put_all(alloc: Global, all: &mut Vec<Text>, names: &[Text]) -> Result<(), Memory>
+    ensures { OnOk result (all.new.items ≡ all.old.items ++ map lowered names.now) }
 {
-    let mut left = names;
-    while let [name, after @ ..] = left {
-        put(alloc, set, name.as_str())?;
-        left = after;
+    for name in names {
+        put(alloc, all, name.as_str())?;
     }
     Ok(())
 }
 
-fn put_title(alloc: Global, set: &mut BTreeSet<Text>, title: &str) -> Result<(), Memory>
-    ensures { OnOk result (set.new.keys ≡ with_texts set.old.keys (map lowered (if taggable title.now then with_segments title.now else []))) }
+fn put_title(alloc: Global, all: &mut Vec<Text>, title: &str) -> Result<(), Memory>
+    ensures { OnOk result (AddsTexts all.old.items all.new.items
+        (map lowered (if taggable title.now then with_segments title.now else []))) }
 {
     if is_taggable(title) {
-        return put_with_segments(alloc, set, title);
+        return put_with_segments(alloc, all, title);
     }
     Ok(())
 }
 
-fn put_with_segments(alloc: Global, set: &mut BTreeSet<Text>, name: &str) -> Result<(), Memory>
-    ensures { OnOk result (set.new.keys ≡ with_texts set.old.keys (map lowered (with_segments name.now))) }
+/// A name without `::` is its only segment, and is put once.
+fn put_with_segments(alloc: Global, all: &mut Vec<Text>, name: &str) -> Result<(), Memory>
+    ensures { OnOk result (AddsTexts all.old.items all.new.items (map lowered (with_segments name.now))) }
 {
-    put(alloc, set, name)?;
-    put_segments(alloc, set, name)
+    put(alloc, all, name)?;
+    if let Some((first, others)) = name.split_once("::") {
+        put_if_filled(alloc, all, first)?;
+        put_segments(alloc, all, others)?;
+    }
+    Ok(())
 }
 
-fn put_segments(alloc: Global, set: &mut BTreeSet<Text>, name: &str) -> Result<(), Memory>
-    ensures { OnOk result (set.new.keys ≡ with_texts set.old.keys (map lowered (filter is_filled (segments name.now)))) }
+fn put_segments(alloc: Global, all: &mut Vec<Text>, name: &str) -> Result<(), Memory>
+    ensures { OnOk result (all.new.items
+        ≡ all.old.items ++ map lowered (filter is_filled (segments name.now))) }
 {
     let mut rest = name;
     while let Some((segment, after)) = rest.split_once("::") {
-        put_if_filled(alloc, set, segment)?;
+        put_if_filled(alloc, all, segment)?;
         rest = after;
     }
-    put_if_filled(alloc, set, rest)?;
+    put_if_filled(alloc, all, rest)?;
     Ok(())
 }
 
-fn put_if_filled(alloc: Global, set: &mut BTreeSet<Text>, segment: &str) -> Result<(), Memory>
-    ensures { OnOk result (set.new.keys ≡ with_texts set.old.keys (map lowered (filter is_filled (segment.now ∷ [])))) }
+fn put_if_filled(alloc: Global, all: &mut Vec<Text>, segment: &str) -> Result<(), Memory>
+    ensures { OnOk result (all.new.items
+        ≡ all.old.items ++ map lowered (filter is_filled (segment.now ∷ []))) }
 {
     if segment.is_empty() {
         return Ok(());
     }
-    put(alloc, set, segment)
-}
-
-fn from_set(alloc: Global, set: BTreeSet<Text>) -> Result<Tags, Memory>
-    requires { IsTrue (is_rising set.keys) }
-    ensures { IfOk result (λ t. t ≡ set.keys) }
-{
-    let mut items = Vec::new(alloc);
-    for tag in set {
-        items.push(tag)?;
-    }
-    Ok(Tags::from_vec(items))
+    put(alloc, all, segment)
 }

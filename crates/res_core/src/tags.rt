@@ -72,7 +72,7 @@ impl Tags {
     pub fn copy(&self, alloc: Global) -> Result<Tags, Memory>
         ensures { IfOk result (λ t. t ≡ self.now) }
     {
-        let mut items = Vec::new(alloc);
+        let mut items = Vec::with_capacity(alloc, self.items.len())?;
         for item in &self.items {
             items.push(item.copy(alloc)?)?;
         }

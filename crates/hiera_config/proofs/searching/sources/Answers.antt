@@ -9,7 +9,7 @@ pub returns-in_err-add_from_layer : goal.returns-in_err-add_from_layer
 returns-in_err-add_from_layer c =
     same_meets (from_none _ (in_layer c.args.files.now c.args.key.now (seen c.args.variables.now) global_folder) _
     (ap source_views c.new-found.ensures.items))
-    (after_err _ c.in_err-add_from_layer.ensures c.from_residual.ensures.1)
+    (after_err _ c.in_err-add_from_layer.ensures c.from_residual-in_err-add_from_layer.ensures.1)
 
 pub returns-in_err-add_from_layer-2 : goal.returns-in_err-add_from_layer-2
 returns-in_err-add_from_layer-2 c =

@@ -6,6 +6,7 @@ use Rattle.hiera_config.proofs.Meets.{after_ok, after_err, gives, refuses, same_
 use Rattle.hiera_lookup.specs.Asks.{asks}
 use Rattle.hiera_lookup.specs.Look.{answer, interpolated, merge_for, look_within, look}
 use Rattle.hiera_lookup.specs.World.{seen}
+use Rattle.hiera_lookup.proofs.Firsts.{first_within}
 use Rattle.hiera_lookup.proofs.Sources.{option_seen}
 use Rattle.hiera_lookup.proofs.Steps.{look_busy, look_deep, look_free, answers_at, answers_made, answers_end, interpolated_by, option_hash, option_looked}
 use Rattle.hiera_lookup.proofs.looking.+look.Goals as goal
@@ -24,7 +25,12 @@ unfolding look_within
 look_within-returns t c =
     after_ok _ c.in_ok-merge.ensures
     (after_ok _ c.in_ok-value.ensures
-    (rw (option_seen c.as_ref.result c.in_ok-value.value c.as_ref.ensures.value) at c.interpolated.ensures))
+    (rw (option_seen c.as_ref-2.result c.in_ok-value.value c.as_ref-2.ensures.value) at c.interpolated-2.ensures))
+
+pub look_within-returns-in-Some : goal.look_within-returns-in-Some
+look_within-returns-in-Some t c =
+    same_meets (first_within _ _ _ _ _ _ _ c.in-Some.ensures)
+    (rw (option_seen c.as_ref.result c.in-Some.value c.as_ref.ensures.value) at c.interpolated.ensures)
 
 pub option_for-returns-then-eq : goal.option_for-returns-then-eq
 option_for-returns-then-eq t c = same_meets (option_hash _ _ _ _ _ (sym c.eq.ensures ∙ c.if-eq.true)) (gives refl)

@@ -1,5 +1,4 @@
-use Rattle.std.proofs.Common.{sym, ap, ◌∙◌, map, filter, rules}
-use Rattle.pp_values.specs.Rising.{with_texts}
+use Rattle.std.proofs.Common.{sym, ap, ◌∙◌, ◌++◌, map, filter, rules}
 use Rattle.res_core.specs.TagNames.{lowered, is_filled}
 use Rattle.res_core.proofs.SegmentLemmas.{segments_split, segments_whole}
 use Rattle.res_core.proofs.NameLemmas.{segment_more}
@@ -12,5 +11,5 @@ loop-segment-preserved c =
 pub returns : goal.returns
 returns c =
     c.in_ok-put_if_filled-2.ensures
-    ∙ ap (λ ts. with_texts c.loop-segment.set.keys (map lowered (filter is_filled ts))) (sym (segments_whole c.loop-segment.rest.now c.in_default.ensures.cases))
+    ∙ ap (λ ts. c.loop-segment.all.items ++ map lowered (filter is_filled ts)) (sym (segments_whole c.loop-segment.rest.now c.in_default.ensures.cases))
     ∙ c.loop-segment.invariant.1

@@ -11,4 +11,4 @@ returns-clause-text c =
 
 pub returns-clause-kept : goal.returns-clause-kept
 returns-clause-kept c =
-    lent_kept c.get.result c.self.inside.by_path.entries c.args.path.now c.get.ensures.value c.self.invariant
+    lent_kept c.get.result c.self.inside.by_path.entries c.args.path.now c.get.ensures.value c.self.invariant.0

@@ -4,9 +4,11 @@ use std::alloc::Global;
 use std::test::Fail;
 
 /// A scope, a name as it is read there, and the number that it has; 0 where it has none.
-const READS: [(u32, &str, i64); 20] = [
+const READS: [(u32, &str, i64); 22] = [
     (0, "x", 1),
     (0, "::x", 1),
+    (0, "d", 1),
+    (6, "f", 1),
     (2, "y", 1),
     (3, "x", 4),
     (3, "y", 2),
@@ -28,7 +30,8 @@ const READS: [(u32, &str, i64); 20] = [
 ];
 
 /// A scope, a name, and whether it may be set there.
-const SETS: [(u32, &str, bool); 6] = [
+const SETS: [(u32, &str, bool); 7] = [
+    (0, "f", false),
     (2, "x", false),
     (2, "y", true),
     (6, "facts", false),
@@ -80,7 +83,7 @@ fn enter(alloc: Global, scopes: &mut Scopes, kind: ScopeKind, parent: u32) -> Re
 /// `b`; a lambda's call 5 in it, and one within that, 6.
 fn scopes(alloc: Global) -> Result<Scopes, Stop> {
     let mut scopes = Scopes::new(alloc)?;
-    set_all(alloc, &mut scopes, 0, "x y z t facts", 1)?;
+    set_all(alloc, &mut scopes, 0, "x y z t facts a b c d e f", 1)?;
     enter(alloc, &mut scopes, class(alloc, "a")?, 0)?;
     set_all(alloc, &mut scopes, 1, "x y", 2)?;
     enter(alloc, &mut scopes, ScopeKind::Node, 0)?;

@@ -30,6 +30,8 @@ enum Given {
     Two(i64, i64),
     /// The hash of these keys, each with ten times itself.
     Hash(i64, i64),
+    /// The hash of this integer and the four after it, each as a number and as a text, with this integer.
+    Many(i64),
 }
 
 fn numbers(alloc: Global, list: &[i64]) -> Result<Value, Memory> {
@@ -56,6 +58,21 @@ fn hash(alloc: Global, keys: &[i64]) -> Result<Value, Memory> {
     Ok(Value::Hash(pairs))
 }
 
+fn put_both(alloc: Global, pairs: &mut Pairs, key: i64, value: i64) -> Result<(), Memory> {
+    let written = format!(in alloc; "{key}")?;
+    pairs.put(Value::Int(key), Value::Int(value))?;
+    pairs.put(Value::Text(Text::new(written)), Value::Int(value))?;
+    Ok(())
+}
+
+fn many(alloc: Global, first: i64) -> Result<Value, Memory> {
+    let mut pairs = Pairs::new(alloc);
+    for further in 0..5 {
+        put_both(alloc, &mut pairs, first.wrapping_add(further), first)?;
+    }
+    Ok(Value::Hash(pairs))
+}
+
 fn value(alloc: Global, given: Given) -> Result<Value, Memory> {
     match given {
         Given::Undef => Ok(Value::Undef),
@@ -67,10 +84,11 @@ fn value(alloc: Global, given: Given) -> Result<Value, Memory> {
         Given::One(number) => numbers(alloc, &[number]),
         Given::Two(first, second) => numbers(alloc, &[first, second]),
         Given::Hash(first, second) => hash(alloc, &[first, second]),
+        Given::Many(first) => many(alloc, first),
     }
 }
 
-const TABLE: [(Op, Given, Given, &str); 44] = [
+const TABLE: [(Op, Given, Given, &str); 45] = [
     (Op::Add, Given::Int(2), Given::Int(3), "5"),
     (Op::Add, Given::Letters, Given::One(1), "[a, A, BC, 1]"),
     (
@@ -85,6 +103,12 @@ const TABLE: [(Op, Given, Given, &str); 44] = [
         Given::Hash(1, 2),
         Given::Hash(3, 2),
         "{1 => 10, 2 => 20, 3 => 30}",
+    ),
+    (
+        Op::Add,
+        Given::Many(0),
+        Given::Many(3),
+        "{0 => 0, 0 => 0, 1 => 0, 1 => 0, 2 => 0, 2 => 0, 3 => 3, 3 => 3, 4 => 3, 4 => 3, 5 => 3, 5 => 3, 6 => 3, 6 => 3, 7 => 3, 7 => 3}",
     ),
     (Op::Add, Given::Hash(1, 2), Given::One(1), "F11 +"),
     (Op::Add, Given::Least, Given::Int(-1), "F12 +"),

@@ -87,9 +87,16 @@ fn nodes(alloc: Global) -> Result<FactPairs, Memory> {
 fn copies_nodes(alloc: Global) -> Result<bool, Memory> {
     let list = nodes(alloc)?;
     Ok(match list.as_slice() {
-        [(node, Value::Int(5))] => node.is("n0"),
+        [(node, value)] => node.is("n0") && is_five(value),
         _ => false,
     })
+}
+
+fn is_five(value: &Value) -> bool {
+    match value {
+        Value::Int(number) => *number == 5,
+        _ => false,
+    }
 }
 
 /// A list of the language.

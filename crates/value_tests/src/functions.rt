@@ -271,8 +271,9 @@ fn is_halved(alloc: Global) -> Result<bool, Memory> {
     if needs_evaluator(&name) {
         return Ok(false);
     }
-    match call_pure(alloc, &name, &args, &at) {
-        Ok(Value::List(left)) => Ok(left.len() == 6000),
-        _ => Ok(false),
-    }
+    let given = call_pure(alloc, &name, &args, &at);
+    Ok(match &given {
+        Ok(Value::List(left)) => left.len() == 6000,
+        _ => false,
+    })
 }

@@ -4,7 +4,7 @@ use pp_lexer::scan::{end_line, scan};
 use pp_lexer::token::Token;
 use pp_values::fault::{Fault, Stop};
 use pp_values::text::Text;
-use std::alloc::Global;
+use std::alloc::{AllocError, Global};
 use std::test::Fail;
 
 // A token in short: its line if it is not the first, what it is, and what it says.

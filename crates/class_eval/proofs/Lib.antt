@@ -3,3 +3,4 @@ mod Examples
 mod Levels
 mod NodeLines
 mod Pairs
+mod Single

@@ -1,5 +1,5 @@
 -- A list that a function goes through whose lambda takes its members one by one.
-use Rattle.std.proofs.Common.{◌≡◌, ℕ, List, [], ◌∷◌, map, Result, sym, trans, refl}
+use Rattle.std.proofs.Common.{◌≡◌, ℕ, List, [], ◌∷◌, map, Result, sym, ◌∙◌, refl}
 use Rattle.expr_eval.specs.Turns.{only}
 use Rattle.expr_eval.specs.declared.functions.Iteration.{Iteration}
 use Rattle.pp_values.proofs.Lists.{members_of-data_of}
@@ -30,7 +30,7 @@ module _ (inner : Inner) (l : Opened) (line : ℕ) (here : Here) (w : World) whe
   over_members f x ds es n r new count one is alike gives =
       let at_last : over_rule inner f l (view x) line here w
       ≡ gathered_rule inner f l (view x) (map only es) line here w
-      = rw (is, alike) (turns_are f ds (trans (sym count) one))
+      = rw (is, alike) (turns_are f ds (sym count ∙ one))
       in rw at_last gives
 
   -- `reduce` goes through its members
@@ -50,7 +50,7 @@ module _ (inner : Inner) (l : Opened) (line : ℕ) (here : Here) (w : World) whe
       → Gives same (reduce_rule inner l arguments line here w) r new
   reduced_members arguments ds n r new count two is gives =
       let at_last : reduce_rule inner l arguments line here w ≡ reduced inner l ds line here w
-      = rw is (members_alone ds (trans (sym count) two))
+      = rw is (members_alone ds (sym count ∙ two))
       in rw at_last gives
 
   pub reduced_from : (arguments ds : List Datum) (start : Datum) (n : ℕ) (r : Result Datum Stop) (new : World)
@@ -59,5 +59,5 @@ module _ (inner : Inner) (l : Opened) (line : ℕ) (here : Here) (w : World) whe
       → Gives same (reduce_rule inner l arguments line here w) r new
   reduced_from arguments ds start n r new count two is gives =
       let at_last : reduce_rule inner l arguments line here w ≡ reduce_from inner l start ds line here w
-      = rw is (members_after start ds (trans (sym count) two))
+      = rw is (members_after start ds (sym count ∙ two))
       in rw at_last gives

@@ -1,10 +1,13 @@
 //! The evaluator of one compile.
 ghost use Rattle.std.specs.Prelude.{◌≡◌, ◌≤◌, IfOk};
+ghost use Rattle.pp_values.specs.Datum as d;
 ghost use Rattle.pp_values.specs.Views.{view};
 ghost use Rattle.class_eval.specs.Evaluating as spec;
 ghost use Rattle.class_eval.specs.Meaning.{within};
 ghost use Rattle.class_eval.specs.Starting.{started};
+ghost use Rattle.class_eval.specs.Statements.{statements_from};
 ghost use Rattle.eval_world.specs.Outcomes.{Gives, nothing, same};
+ghost use Rattle.eval_world.specs.Worlds.{top};
 
 use crate::classes::class_at;
 use crate::knot::{Whole, evaluate};
@@ -16,6 +19,7 @@ use eval_world::{Environment, Evaluated, Forms, Goal, Here, World};
 use override_rules::Overrides;
 use pp_tree::definition::Node;
 use pp_tree::expr::Expr;
+use pp_tree::file::File;
 use pp_tree::statement::Block;
 use pp_tree::table::Table;
 use pp_values::{MAIN_MANIFEST, Memory, Place, Stop, Text, Value, What};
@@ -89,19 +93,12 @@ impl<'a> Evaluator<'a> {
     }
 
     /// Runs the statements of the main manifest, and then the node's definition, where nodes are defined.
-    #[tactic(auto, unfolding(crate::specs::Evaluating::main_rule))]
     pub fn run_main(&mut self) -> Result<(), Stop>
         ensures { Gives nothing (spec.main_rule self.old.world.environment.main self.old.node self.old.world) result
             self.new.world }
     {
         let main = self.world.environment.main();
-        let forms: Forms<_, Whole> = Forms {
-            left: levels_left(1),
-            inner: evaluate,
-            meaning: PhantomData,
-        };
-        block(&forms, &mut self.world, &main.statements, Here::top())?;
-        run_nodes(&mut self.world, &main.definitions, &self.node)
+        run_file(&mut self.world, main, &self.node)
     }
 
     /// Declares the class of a name, as the code that stands here does at this depth: as by `include`, or with what is
@@ -158,6 +155,27 @@ fn levels_left(depth: u32) -> u32
     ensures { within result ≡ spec.at_depth depth }
 {
     (GREATEST_DEPTH + 1).saturating_sub(depth)
+}
+
+/// First the statements, and then the definition of the node.
+#[tactic(auto, unfolding(crate::specs::Evaluating::main_rule))]
+fn run_file(world: &mut World<'_>, main: &File, node: &Text) -> Result<(), Stop>
+    ensures { Gives nothing (spec.main_rule main.now node.now world.old) result world.new }
+{
+    drop(run_statements(world, &main.statements)?);
+    run_nodes(world, &main.definitions, node)
+}
+
+/// The statements of the main manifest, in top scope.
+fn run_statements(world: &mut World<'_>, statements: &Block) -> Result<Evaluated, Stop>
+    ensures { Gives same (statements_from (spec.at_depth 1) d.undef statements.now top world.old) result world.new }
+{
+    let forms: Forms<_, Whole> = Forms {
+        left: levels_left(1),
+        inner: evaluate,
+        meaning: PhantomData,
+    };
+    block(&forms, world, statements, Here::top())
 }
 
 #[tactic(auto, unfolding(crate::specs::Evaluating::nodes_rule))]

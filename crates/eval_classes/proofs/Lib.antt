@@ -1,5 +1,7 @@
 pub mod Declared
 pub mod Links
+pub mod Places
+pub mod PlainNames
 pub mod Rising
 pub mod Scopes
 pub mod Segments

@@ -1,4 +1,5 @@
 pub mod Answers
+pub mod AttributeSets
 pub mod Attributes
 pub mod Bodies
 pub mod Definitions

@@ -13,7 +13,7 @@ use pp_tree::definition::{Class, Define, Definition};
 use pp_tree::file::File;
 use pp_tree::manifest_file::ManifestFile;
 use pp_tree::table::DefinitionName;
-use pp_values::{Fault, Memory, Place, Stop, Text, What};
+use pp_values::{Fault, MAIN_MANIFEST, Memory, Place, Stop, Text, What};
 use std::alloc::Global;
 
 /// What stands under the name of a class or define, which is in lower case without a leading `::`.
@@ -28,6 +28,29 @@ pub fn find<'a>(
     match defined_in(alloc, environment.main(), name)? {
         Some(definition) => Ok(Found::Definition(definition)),
         None => find_in_module(alloc, environment, name),
+    }
+}
+
+/// What stands under a name, and the path of the file that it stands in. The path is written once for both.
+#[tactic(auto, unfolding(crate::specs::Definitions::definition_of))]
+pub fn find_with_file<'a>(
+    alloc: Global,
+    environment: &Environment<'a>,
+    name: &Text,
+) -> Result<(Found<'a>, Text), Memory>
+    ensures found { IfOk result (λ r. spec.told r.0 ≡ spec.definition_of environment.now name.now) }
+    ensures file { IfOk result (λ r. r.1 ≡ spec.file_of environment.now name.now) }
+{
+    match defined_in(alloc, environment.main(), name)? {
+        Some(definition) => {
+            let file = Text::from_str(alloc, MAIN_MANIFEST)?;
+            Ok((Found::Definition(definition), file))
+        }
+        None => {
+            let path = module_path(alloc, name)?;
+            let found = find_at(alloc, environment, &path, name)?;
+            Ok((found, path))
+        }
     }
 }
 
@@ -51,7 +74,19 @@ fn find_in_module<'a>(
     ensures { IfOk result (λ f. spec.told f ≡ spec.found_in_module environment.now name.now) }
 {
     let path = module_path(alloc, name)?;
-    match environment.files().get(&path) {
+    find_at(alloc, environment, &path, name)
+}
+
+/// What the file at a path has under a name.
+fn find_at<'a>(
+    alloc: Global,
+    environment: &Environment<'a>,
+    path: &Text,
+    name: &Text,
+) -> Result<Found<'a>, Memory>
+    ensures { IfOk result (λ f. spec.told f ≡ spec.in_module name.now (spec.file_at environment.now path.now)) }
+{
+    match environment.files().get(path) {
         Some(file) => find_in_file(alloc, file, name),
         None => Ok(Found::Nothing),
     }
@@ -126,7 +161,8 @@ pub fn define_found<'a>(
     define_among(alloc, find(alloc, environment, kind)?, kind, at)
 }
 
-fn define_among<'a>(
+/// The define that was found, or F5 at this place.
+pub fn define_among<'a>(
     alloc: Global,
     found: Found<'a>,
     kind: &Text,

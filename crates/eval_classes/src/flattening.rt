@@ -11,8 +11,19 @@ use std::alloc::Global;
 pub fn flat(alloc: Global, value: &Value) -> Result<Values, Memory>
     ensures { IfOk result (λ ds. ds ≡ flat (view value.now)) }
 {
-    let found = flattened(alloc, value)?;
-    copied(alloc, found.as_slice())
+    match value {
+        Value::List(items) => copied(alloc, flat_members(alloc, items.as_slice())?.as_slice()),
+        _ => alone(alloc, value),
+    }
+}
+
+/// A list of a copy of this value.
+fn alone(alloc: Global, value: &Value) -> Result<Values, Memory>
+    ensures { IfOk result (λ ds. ds ≡ view value.now ∷ []) }
+{
+    let mut out = Values::new(alloc);
+    out.push(copy(alloc, value)?)?;
+    Ok(out)
 }
 
 /// The members of these values, in the same way.

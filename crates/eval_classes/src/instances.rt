@@ -1,18 +1,19 @@
 //! Instances of defines, one by one.
-ghost use Rattle.std.specs.Prelude.{◌≡◌, ◌<◌, length, IfOk};
+ghost use Rattle.std.specs.Prelude.{◌≡◌, ◌<◌, ◌++◌, length, IfOk, codes};
 ghost use Rattle.eval_classes.specs.Bodies as spec;
 ghost use Rattle.eval_world.specs.Nests.{Nests};
 ghost use Rattle.eval_world.specs.Outcomes.{Gives, nothing};
 
 use crate::body_owner::BodyOwner;
-use crate::definitions::define_found;
+use crate::definitions::{define_among, find_with_file};
 use crate::entering::enter_body;
-use crate::homes::file_of;
-use eval_world::{Environment, Evaluated, Forms, Goal, Here, Meaning, World};
+use eval_world::{Evaluated, Forms, Goal, Here, Meaning, World};
 use pp_values::{Memory, Stop, Text};
-use res_core::Declared;
 use scope_core::ScopeKind;
 use std::alloc::Global;
+
+/// What stands before the name in the source of what an instance declares.
+const DEFINE: &str = "define ";
 
 /// Evaluates the instance of this declaration, in a scope of its own.
 #[tactic(auto, unfolding(crate::specs::Bodies::run_rule))]
@@ -29,7 +30,7 @@ pub fn run_instance<
     Ok(())
 }
 
-#[tactic(auto, unfolding(crate::specs::Bodies::run_rule, crate::specs::Bodies::run_item))]
+#[tactic(auto, unfolding(crate::specs::Bodies::run_rule, crate::specs::Bodies::run_item, crate::specs::Definitions::define_found))]
 fn run_declared<F: Fn(&mut World<'_>, Goal<'_>, Here, u32) -> Result<Evaluated, Stop>, M: Meaning>(
     forms: &Forms<F, M>,
     world: &mut World<'_>,
@@ -42,25 +43,22 @@ fn run_declared<F: Fn(&mut World<'_>, Goal<'_>, Here, u32) -> Result<Evaluated, 
     let item = world.book.item(number);
     let outer = item.scope;
     let kind = item.item.kind.as_text();
-    let define = define_found(world.heap.alloc(), &world.environment, kind, &item.at)?;
-    let owner = instance_owner(world.heap.alloc(), &world.environment, item, number)?;
+    let alloc = world.heap.alloc();
+    let (found, file) = find_with_file(alloc, &world.environment, kind)?;
+    let define = define_among(alloc, found, kind, &item.at)?;
+    let owner = instance_owner(alloc, file, kind, number)?;
     let own = enter_body(world, ScopeKind::Instance, 0, outer, owner)?;
     drop(forms.instance(world, number, define.at, own)?);
     Ok(())
 }
 
-fn instance_owner(
-    alloc: Global,
-    environment: &Environment<'_>,
-    item: &Declared,
-    number: u32,
-) -> Result<BodyOwner, Memory>
-    ensures { IfOk result (λ o. o ≡ spec.instance_owner environment.now item.now number) }
+fn instance_owner(alloc: Global, file: Text, kind: &Text, number: u32) -> Result<BodyOwner, Memory>
+    ensures { IfOk result (λ o. o ≡ record { file = file; source = codes "define " ++ kind.now; resource = number }) }
 {
-    let kind = item.item.kind.as_text();
-    let file = file_of(alloc, environment, kind)?;
-    let mut source = String::from_str(alloc, "define ")?;
-    source.push_str(kind.as_str())?;
+    let kind = kind.as_str();
+    let mut source = String::with_capacity(alloc, kind.len().saturating_add(DEFINE.len()))?;
+    source.push_str(DEFINE)?;
+    source.push_str(kind)?;
     Ok(BodyOwner {
         file,
         source: Text::new(source),

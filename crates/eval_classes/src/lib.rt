@@ -2,6 +2,7 @@
 #![tactic(auto)]
 
 mod asked;
+mod attribute_set;
 mod attributes;
 mod binding;
 mod bodies;
@@ -26,7 +27,8 @@ mod parents;
 mod paths;
 mod tagging;
 
-pub use attributes::{attributes_from, is_value};
+pub use attribute_set::AttributeSet;
+pub use attributes::is_value;
 pub use bodies::{class_body, instance_body};
 pub use body_owner::BodyOwner;
 pub use definitions::{class_found, define_found};

@@ -1,5 +1,5 @@
 //! Names of classes and defines, and of their parameters.
-ghost use Rattle.std.specs.Prelude.{◌≡◌, map, IfOk};
+ghost use Rattle.std.specs.Prelude.{◌≡◌, IfOk, IsTrue};
 ghost use Rattle.eval_classes.specs.Definitions as spec;
 ghost use Rattle.eval_classes.specs.Listing as listing;
 ghost use Rattle.pp_tree.specs.Names.{normal};
@@ -7,11 +7,31 @@ ghost use Rattle.pp_tree.specs.Names.{normal};
 use pp_tree::Param;
 use pp_tree::definition::Class;
 use pp_tree::table::DefinitionName;
-use pp_values::{Kind, Memory, Reference, Text, Texts};
+use pp_values::{Kind, Memory, Reference, Text, Texts, is_kind};
 use std::alloc::Global;
 
 /// The name of a class, a define or a kind: without a leading `::`, its ASCII letters in lower case.
 pub fn normal_name(alloc: Global, written: &Text) -> Result<Text, Memory>
+    ensures { IfOk result (λ name. name ≡ normal written.now) }
+{
+    if is_plain(written.as_str()) {
+        return written.copy(alloc);
+    }
+    made_normal(alloc, written)
+}
+
+/// Whether a name is written as it is looked up, as nearly all are.
+#[tactic(auto, using(crate::proofs::PlainNames::plain_is_normal))]
+fn is_plain(written: &str) -> bool
+    ensures { IsTrue result → (normal written.now ≡ written.now) }
+{
+    match written.strip_prefix("::") {
+        Some(_) => false,
+        None => is_kind(written),
+    }
+}
+
+fn made_normal(alloc: Global, written: &Text) -> Result<Text, Memory>
     ensures { IfOk result (λ name. name ≡ normal written.now) }
 {
     match DefinitionName::code(alloc, written)? {
@@ -40,9 +60,9 @@ pub fn class_reference(alloc: Global, name: &Text) -> Result<Reference, Memory>
 pub fn param_names(alloc: Global, params: &[Param]) -> Result<Texts, Memory>
     ensures { IfOk result (λ names. names ≡ spec.param_names params.now) }
 {
-    let mut names = Texts::new(alloc);
+    let mut names = Vec::with_capacity(alloc, params.len())?;
     for param in params {
         names.push(param.name.copy(alloc)?)?;
     }
-    Ok(names)
+    Ok(Texts::from_vec(names))
 }

@@ -1,17 +1,15 @@
 //! The parameters of a class or of an instance.
-ghost use Rattle.std.specs.Prelude.{◌≡◌, ◌++◌, [], Some, IfOk, IsTrue, codes};
-ghost use Rattle.std.specs.BTreeMap.{insert_entry};
+ghost use Rattle.std.specs.Prelude.{◌≡◌, ◌++◌, [], Some, IfOk, codes};
 ghost use Rattle.eval_classes.specs.Parameters as spec;
 ghost use Rattle.eval_world.specs.Nests.{Nests};
 ghost use Rattle.eval_world.specs.Outcomes.{Gives, nothing, same};
 ghost use Rattle.pp_values.specs.Faults.{fault};
-ghost use Rattle.pp_values.specs.Rising.{is_rising, text_cmp};
-ghost use Rattle.pp_values.specs.Settings.{setting_names};
 ghost use Rattle.pp_values.specs.Views.{view};
 ghost use Rattle.pp_values.specs.declared.fault.What.TheVariants as what;
 ghost use Rattle.res_core.specs.AttributeViews.{set_in};
 
-use crate::attributes::{attributes_from, is_value};
+use crate::attribute_set::AttributeSet;
+use crate::attributes::is_value;
 use crate::binding::Binding;
 use eval_world::{Evaluated, Forms, Goal, Here, Meaning, World};
 use pp_tree::Param;
@@ -20,7 +18,6 @@ use pp_values::{Fault, Memory, Stop, Text, Value, What};
 use res_core::Attributes;
 use scope_core::ScopeId;
 use std::alloc::Global;
-use std::collections::BTreeMap;
 
 /// Binds the parameters in order. The answer is their values by the order of their names.
 pub fn bind<F: Fn(&mut World<'_>, Goal<'_>, Here, u32) -> Result<Evaluated, Stop>, M: Meaning>(
@@ -35,7 +32,7 @@ pub fn bind<F: Fn(&mut World<'_>, Goal<'_>, Here, u32) -> Result<Evaluated, Stop
         binding.now.of binding.now.at own world.old) result world.new }
 {
     let set = bind_all(forms, world, binding, params, own)?;
-    Ok(attributes_from(world.heap.alloc(), set)?)
+    Ok(set.into_attributes(world.heap.alloc())?)
 }
 
 #[tactic(auto, unfolding(crate::specs::Parameters::bind_from))]
@@ -45,13 +42,12 @@ fn bind_all<F: Fn(&mut World<'_>, Goal<'_>, Here, u32) -> Result<Evaluated, Stop
     binding: &Binding,
     params: &[Param],
     own: Here,
-) -> Result<BTreeMap<Text, Evaluated>, Stop>
+) -> Result<AttributeSet, Stop>
     requires { Nests (M.within forms.now.left) forms.now.left (F.pre forms.now.inner) (F.post forms.now.inner) }
-    ensures values { Gives (λ m. m.entries) (spec.bind_from (M.within forms.now.left) (set_in binding.now.given) []
-        params.now binding.now.of binding.now.at own world.old) result world.new }
-    ensures rising { IfOk result (λ m. IsTrue (is_rising (setting_names m.entries))) }
+    ensures { Gives same (spec.bind_from (M.within forms.now.left) (set_in binding.now.given) [] params.now
+        binding.now.of binding.now.at own world.old) result world.new }
 {
-    let mut done = BTreeMap::new(world.heap.alloc());
+    let mut done = AttributeSet::for_count(world.heap.alloc(), params.len())?;
     let mut rest = params;
     while let Some((param, more)) = rest.split_first() {
         done = with_param(forms, world, done, binding, param, own)?;
@@ -65,37 +61,21 @@ fn bind_all<F: Fn(&mut World<'_>, Goal<'_>, Here, u32) -> Result<Evaluated, Stop
 fn with_param<F: Fn(&mut World<'_>, Goal<'_>, Here, u32) -> Result<Evaluated, Stop>, M: Meaning>(
     forms: &Forms<F, M>,
     world: &mut World<'_>,
-    done: BTreeMap<Text, Evaluated>,
+    done: AttributeSet,
     binding: &Binding,
     param: &Param,
     own: Here,
-) -> Result<BTreeMap<Text, Evaluated>, Stop>
-    requires nests { Nests (M.within forms.now.left) forms.now.left (F.pre forms.now.inner) (F.post forms.now.inner) }
-    requires rising { IsTrue (is_rising (setting_names done.entries)) }
-    ensures values { Gives (λ m. m.entries) (spec.bind_rule (M.within forms.now.left) (set_in binding.now.given)
-        done.entries param.now binding.now.of binding.now.at own world.old) result world.new }
-    ensures rising { IfOk result (λ m. IsTrue (is_rising (setting_names m.entries))) }
+) -> Result<AttributeSet, Stop>
+    requires { Nests (M.within forms.now.left) forms.now.left (F.pre forms.now.inner) (F.post forms.now.inner) }
+    ensures { Gives same (spec.bind_rule (M.within forms.now.left) (set_in binding.now.given) done param.now
+        binding.now.of binding.now.at own world.old) result world.new }
 {
     let value = value(forms, world, binding, param, own)?;
     check_type(world, &param.kind, own)?;
     let kept = Evaluated::copy_of(world.heap.alloc(), value.as_value())?;
     world.assign(own, &param.name, value, param.at)?;
-    Ok(with_value(world.heap.alloc(), done, &param.name, kept)?)
-}
-
-#[tactic(auto, using(crate::proofs::Rising::rising_more))]
-fn with_value(
-    alloc: Global,
-    mut done: BTreeMap<Text, Evaluated>,
-    name: &Text,
-    value: Evaluated,
-) -> Result<BTreeMap<Text, Evaluated>, Memory>
-    requires { IsTrue (is_rising (setting_names done.entries)) }
-    ensures values { IfOk result (λ m. m.entries ≡ insert_entry text_cmp done.entries name.now value) }
-    ensures rising { IfOk result (λ m. IsTrue (is_rising (setting_names m.entries))) }
-{
-    drop(done.insert(name.copy(alloc)?, value)?);
-    Ok(done)
+    let name = param.name.copy(world.heap.alloc())?;
+    Ok(done.with(name, kept)?)
 }
 
 /// A parameter with a type is not built.
@@ -184,9 +164,12 @@ fn data_value(world: &World<'_>, binding: &Binding, name: &Text) -> Result<Optio
 fn data_key(alloc: Global, class: &Text, name: &Text) -> Result<Text, Memory>
     ensures { IfOk result (λ k. k ≡ class.now ++ codes "::" ++ name.now) }
 {
-    let mut key = String::from_str(alloc, class.as_str())?;
+    let (class, name) = (class.as_str(), name.as_str());
+    let room = class.len().saturating_add(name.len()).saturating_add(2);
+    let mut key = String::with_capacity(alloc, room)?;
+    key.push_str(class)?;
     key.push_str("::")?;
-    key.push_str(name.as_str())?;
+    key.push_str(name)?;
     Ok(Text::new(key))
 }
 

@@ -6,12 +6,17 @@ ghost use Rattle.res_core.specs.TagNames.{segments};
 use pp_values::{Memory, Text};
 use std::alloc::Global;
 
+/// How many bytes a path has at most beside those of the name.
+const BESIDE: usize = 26;
+
 /// The path of the one file of a module that may define a class or define of this name.
 pub fn module_path(alloc: Global, name: &Text) -> Result<Text, Memory>
     ensures { IfOk result (λ t. t ≡ spec.module_path name.now) }
 {
-    let mut path = String::from_str(alloc, "modules/")?;
-    put_path(&mut path, name.as_str())?;
+    let name = name.as_str();
+    let mut path = String::with_capacity(alloc, name.len().saturating_add(BESIDE))?;
+    path.push_str("modules/")?;
+    put_path(&mut path, name)?;
     Ok(Text::new(path))
 }
 

@@ -1,7 +1,7 @@
 pub mod Back
+pub mod GoodLines
 pub mod NameSets
 pub mod NativeKinds
-pub mod Rising
 pub mod Containers
 mod Samples
 mod Examples

@@ -3,5 +3,6 @@ pub mod Reading
 pub mod Bodies
 pub mod Checks
 pub mod Declaring
+pub mod GoodLines
 pub mod Resources
 pub mod Collectors

@@ -1,6 +1,7 @@
 //! The tests of one title, before the book is asked.
-ghost use Rattle.std.specs.Prelude.{◌≡◌, ◌∷◌, [], IfOk};
+ghost use Rattle.std.specs.Prelude.{◌≡◌, ◌∷◌, [], IfOk, IsTrue};
 ghost use Rattle.eval_resources.specs.Checks as spec;
+ghost use Rattle.eval_resources.specs.GoodLines as good;
 ghost use Rattle.eval_resources.specs.Lines.{body_of, line_of, lines_of};
 ghost use Rattle.pp_values.specs.Answers.{Answers};
 ghost use Rattle.pp_values.specs.Views.{view};
@@ -11,7 +12,7 @@ use crate::known_kind::KnownKind;
 use crate::named::Named;
 use eval_world::Environment;
 use pp_values::{Fault, Memory, Place, Reference, Stop, Subject, Text, Texts, Value, What};
-use res_core::{Body, Line, check_known};
+use res_core::{Body, Line, check_known, is_known};
 use std::alloc::Global;
 use std::collections::BTreeSet;
 
@@ -34,9 +35,24 @@ fn title_tested(alloc: Global, known: KnownKind, title: &Value, body: &Body) -> 
     ensures { Answers result (spec.title_tested known (view title.now) (body_of body.now)) }
 {
     let title = check_title(alloc, title, &body.at)?;
-    let what = reference_to(alloc, &known, &title)?;
-    check_lines(alloc, &what, &known.known, body.lines.as_slice())?;
+    check_lines_of(alloc, &known, &title, body.lines.as_slice())?;
     Ok(named_of(known, title))
+}
+
+fn check_lines_of(
+    alloc: Global,
+    known: &KnownKind,
+    title: &Text,
+    lines: &[Line],
+) -> Result<(), Stop>
+    ensures { Answers result (spec.lines_checked (spec.reference_to known.now title.now) known.now.known
+        (lines_of lines.now)) }
+{
+    if are_taken(&known.known, lines) {
+        return Ok(());
+    }
+    let what = reference_to(alloc, known, title)?;
+    check_lines(alloc, &what, &known.known, lines)
 }
 
 fn named_of(known: KnownKind, title: Text) -> Named
@@ -79,6 +95,62 @@ fn no_title(alloc: Global, at: &Place) -> Result<Fault, Memory>
     let name = Text::from_str(alloc, "title")?;
     let at = at.copy(alloc)?;
     Fault::new(alloc, at, What::TypeMismatch(name))
+}
+
+/// How many lines are compared with one another. Of more the names are kept in a set.
+const FEW: usize = 16;
+
+/// Whether a few lines are known to pass their tests, whatever resource they are for: so that nothing has to be made that
+/// only a fault tells.
+#[tactic(auto, using(crate::proofs::GoodLines::all_taken))]
+pub fn are_taken(known: &Texts, lines: &[Line]) -> bool
+    ensures { IsTrue result → good.AreTaken known.now (lines_of lines.now) }
+{
+    lines.len() <= FEW && are_known(known, lines) && are_apart(lines)
+}
+
+#[tactic(auto, unfolding(crate::specs::GoodLines::are_known))]
+fn are_known(known: &Texts, lines: &[Line]) -> bool
+    ensures { result ≡ good.are_known known.now (lines_of lines.now) }
+{
+    let mut rest = lines;
+    while let Some((line, more)) = rest.split_first() {
+        if !is_known(known, &line.name) {
+            return false;
+        }
+        rest = more;
+    }
+    true
+}
+
+#[tactic(auto, unfolding(crate::specs::GoodLines::are_apart))]
+fn are_apart(lines: &[Line]) -> bool
+    ensures { result ≡ good.are_apart (lines_of lines.now) }
+{
+    let mut rest = lines;
+    while let Some((line, more)) = rest.split_first() {
+        if is_named(more, &line.name) {
+            return false;
+        }
+        rest = more;
+    }
+    true
+}
+
+/// Whether one of these lines has this name.
+/// Whether one of these lines has this name.
+#[tactic(auto, unfolding(crate::specs::GoodLines::is_named))]
+fn is_named(lines: &[Line], name: &Text) -> bool
+    ensures { result ≡ good.is_named (lines_of lines.now) name.now }
+{
+    let mut rest = lines;
+    while let Some((line, more)) = rest.split_first() {
+        if line.name == *name {
+            return true;
+        }
+        rest = more;
+    }
+    false
 }
 
 #[tactic(auto, unfolding(crate::specs::Checks::lines_checked))]

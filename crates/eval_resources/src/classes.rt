@@ -6,7 +6,7 @@ ghost use Rattle.eval_resources.specs.Lines.{body_of, lines_of};
 ghost use Rattle.pp_values.specs.Answers.{Answers};
 ghost use Rattle.pp_values.specs.Views.{view};
 
-use crate::checks::{check_lines, check_title};
+use crate::checks::{are_taken, check_lines, check_title};
 use eval_classes::{class_found, class_reference, normal_name, param_names};
 use eval_world::Environment;
 use pp_tree::definition::Class;
@@ -78,8 +78,11 @@ fn class_titled<'a>(
 fn check_class_lines(alloc: Global, class: &Class, lines: &[Line]) -> Result<(), Stop>
     ensures { Answers result (spec.class_lines class.now (lines_of lines.now)) }
 {
+    let known = param_names(alloc, class.params.as_slice())?;
+    if are_taken(&known, lines) {
+        return Ok(());
+    }
     let name = normal_name(alloc, &class.name.text)?;
     let what = class_reference(alloc, &name)?;
-    let known = param_names(alloc, class.params.as_slice())?;
     check_lines(alloc, &what, &known, lines)
 }

@@ -9,13 +9,23 @@ use res_core::{Line, Lines};
 use std::alloc::Global;
 use std::collections::BTreeSet;
 
-/// The lines of the default body whose names a body doesn't write, and behind them its own.
-#[tactic(auto, using(crate::proofs::NameSets::unwritten_sorted))]
+/// The lines of the default body whose names a body doesn't write, and behind them its own. Where there is no default
+/// body these are its own.
 pub fn filled(alloc: Global, own: Lines, defaults: &Lines) -> Result<Lines, Memory>
     ensures { IfOk result (λ ls. lines_of ls ≡ spec.filled (lines_of own) (lines_of defaults.now)) }
 {
+    match defaults.as_slice() {
+        [] => Ok(own),
+        [_, ..] => filled_with(alloc, own, defaults.as_slice()),
+    }
+}
+
+#[tactic(auto, using(crate::proofs::NameSets::unwritten_sorted))]
+fn filled_with(alloc: Global, own: Lines, defaults: &[Line]) -> Result<Lines, Memory>
+    ensures { IfOk result (λ ls. lines_of ls ≡ spec.filled (lines_of own) (lines_of defaults.now)) }
+{
     let names = names_of(alloc, own.as_slice())?;
-    let unwritten = with_unwritten(alloc, Lines::new(alloc), &names, defaults.as_slice())?;
+    let unwritten = with_unwritten(alloc, Lines::new(alloc), &names, defaults)?;
     joined(unwritten, own)
 }
 

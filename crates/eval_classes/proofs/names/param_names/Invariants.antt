@@ -4,4 +4,4 @@ use Rattle.eval_classes.specs.Definitions.{param_names}
 use Rattle.eval_classes.proofs.names.param_names.Given as goal
 
 abbrev pub invariant-loop-param : goal.invariant-loop-param
-invariant-loop-param l = l.names ++ param_names (drop l.param-index l.params) ≡ param_names l.params
+invariant-loop-param l = l.names.items ++ param_names (drop l.param-index l.params) ≡ param_names l.params

@@ -1,17 +1,15 @@
--- What is left decides, and the values rise by their names.
-use Rattle.std.proofs.Common.{◌≡◌, [], length, IsTrue}
-use Rattle.pp_values.specs.Rising.{is_rising}
-use Rattle.pp_values.specs.Settings.{setting_names}
+-- What is left decides.
+use Rattle.std.proofs.Common.{◌≡◌, [], length}
 use Rattle.res_core.specs.AttributeViews.{set_in}
 use Rattle.eval_classes.specs.Parameters.{bind_from}
 use Rattle.eval_classes.proofs.parameters.bind_all.Given as goal
 
 abbrev pub invariant-loop-param : goal.invariant-loop-param
 invariant-loop-param g l =
-    (bind_from (g.M.Meaning.within l.forms.left) (set_in l.binding.given) [] l.params l.binding.of l.binding.at l.own
+    bind_from (g.M.Meaning.within l.forms.left) (set_in l.binding.given) [] l.params l.binding.of l.binding.at l.own
     l.fn.world
-    ≡ bind_from (g.M.Meaning.within l.forms.left) (set_in l.binding.given) l.done.entries l.rest l.binding.of
-    l.binding.at l.own l.world) × IsTrue (is_rising (setting_names l.done.entries))
+    ≡ bind_from (g.M.Meaning.within l.forms.left) (set_in l.binding.given) l.done l.rest l.binding.of l.binding.at l.own
+    l.world
 
 abbrev pub decreases-loop-param : goal.decreases-loop-param
 decreases-loop-param g l = length l.rest

@@ -1,6 +1,4 @@
-mod After
 mod Examples
 mod Levels
 mod NodeLines
 mod Pairs
-mod Single

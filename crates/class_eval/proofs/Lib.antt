@@ -1,4 +1,3 @@
-mod After
 mod Examples
 mod Levels
 mod NodeLines

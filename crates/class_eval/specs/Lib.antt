@@ -1,4 +1,3 @@
-pub mod Alone
 pub mod Evaluating
 pub mod Facts
 pub mod LeafLaw

@@ -66,20 +66,3 @@ statements_from inner last (s ∷ ss) here = do
 
 abbrev pub block_rule : Inner → List Statement → Here → Step Datum
 block_rule inner b here = statements_from inner d.undef b here
-
--- ---- the value after a part of a block: its own, or the one before it where it gives none
-
-unfoldable pub after_operand : Inner → Datum → Operand → ℕ → Here → Step Datum
-after_operand inner before o line here = do
-  given ← operand_rule inner o line here
-  pure (or_before given before)
-
-unfoldable pub after_chain : Inner → Datum → Chain Operand → Here → Step Datum
-after_chain inner before c here = do
-  given ← chain_rule inner c here
-  pure (or_before given before)
-
-unfoldable pub after_statement : Inner → Datum → Statement → Here → Step Datum
-after_statement inner before s here = do
-  given ← statement_rule inner s here
-  pure (or_before given before)

@@ -220,34 +220,8 @@ fn take_turns<F: Fn(&mut World<'_>, Goal<'_>, Here, u32) -> Result<Evaluated, St
     Ok(done)
 }
 
-/// `reduce`. The members of a list are not copied to go through them.
-#[tactic(auto, using(crate::proofs::Members::reduced_members, crate::proofs::Members::reduced_from))]
-fn reduce<F: Fn(&mut World<'_>, Goal<'_>, Here, u32) -> Result<Evaluated, Stop>, M: Meaning>(
-    forms: &Forms<F, M>,
-    world: &mut World<'_>,
-    lambda: &Lambda,
-    arguments: &Values,
-    line: u32,
-    here: Here,
-) -> Result<Evaluated, Stop>
-    requires { Nests (M.within forms.now.left) forms.now.left (F.pre forms.now.inner) (F.post forms.now.inner) }
-    ensures { Gives same (spec.reduce_rule (M.within forms.now.left) (opened lambda.now) arguments.now line here
-        world.old) result world.new }
-{
-    match (param_count(lambda)?, arguments.as_slice()) {
-        (2, [Value::List(members)]) => {
-            reduced(forms, world, lambda, members.as_slice(), line, here)
-        }
-        (2, [Value::List(members), start]) => {
-            let memo = Evaluated::copy_of(world.heap.alloc(), start)?;
-            reduce_rest(forms, world, lambda, memo, members.as_slice(), line, here)
-        }
-        _ => reduce_copies(forms, world, lambda, arguments, line, here),
-    }
-}
-
 #[tactic(auto, unfolding(crate::specs::Iterating::reduce_rule))]
-fn reduce_copies<F: Fn(&mut World<'_>, Goal<'_>, Here, u32) -> Result<Evaluated, Stop>, M: Meaning>(
+fn reduce<F: Fn(&mut World<'_>, Goal<'_>, Here, u32) -> Result<Evaluated, Stop>, M: Meaning>(
     forms: &Forms<F, M>,
     world: &mut World<'_>,
     lambda: &Lambda,

@@ -145,7 +145,7 @@ fn bind_last(
 {
     match params {
         [] => Ok(()),
-        [param, ..] => {
+        [param, _rest @ ..] => {
             bind_one(world, param, argument, own)?;
             Ok(())
         }

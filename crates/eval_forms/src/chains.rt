@@ -15,8 +15,8 @@ use pp_tree::expr::{Expr, Operation};
 use pp_values::{Items, Stop, Value};
 
 /// `$a + 1 - $b`: operators of one strength, from the left. All faults of operators stand at the line of the chain's
-/// first token. Variables are not copied for one operator alone.
-#[tactic(auto, unfolding(crate::specs::Operators::binary_rule), using(crate::proofs::Operations::combined_alone))]
+/// first token.
+#[tactic(auto, unfolding(crate::specs::Operators::binary_rule))]
 pub fn binary<F: Fn(&mut World<'_>, Goal<'_>, Here, u32) -> Result<Evaluated, Stop>, M: Meaning>(
     forms: &Forms<F, M>,
     world: &mut World<'_>,
@@ -29,16 +29,6 @@ pub fn binary<F: Fn(&mut World<'_>, Goal<'_>, Here, u32) -> Result<Evaluated, St
     ensures { Gives same (spec.binary_rule (M.within forms.now.left) first.now operations.now line here world.old)
         result world.new }
 {
-    if let ([only], Some(left)) = (operations.as_slice(), forms.known(world, first, here)) {
-        if let OperatorKind::Combine(op) = OperatorKind::of(only.operator) {
-            if let Some(right) = forms.known(world, &only.right, here) {
-                return combined(world, op, left, right, line, here);
-            }
-            if let Some(number) = forms.number(&only.right) {
-                return combined(world, op, left, &Value::Int(number), line, here);
-            }
-        }
-    }
     let first = forms.value(world, first, here)?;
     operations_from(forms, world, first, operations, line, here)
 }

@@ -1,11 +1,11 @@
 -- All indexes in a catalog are those of its resources.
-use Rattle.std.proofs.Common.{◌≡◌, ◌⊎◌, ℕ, zero, suc, ◌+◌, ◌<◌, ◌≤◌, Bool, true, false, if◌then◌else◌, List, [], ◌∷◌, ◌++◌, length, map, All, Option, None, Some, inl, inr, Err, drop, get_or, Bor, refl, sym, ap, ap₂, subst, ◌∙◌, arith, add-one, append_assoc}
+use Rattle.std.proofs.Common.{◌≡◌, ◌⊎◌, ℕ, zero, suc, ◌+◌, ◌<◌, ◌≤◌, true, false, if◌then◌else◌, List, [], ◌∷◌, ◌++◌, length, map, All, Option, None, Some, inl, inr, Err, drop, get_or, Bor, refl, sym, ap, ap₂, subst, ◌∙◌, arith, add-one, append_assoc}
 use Rattle.std.proofs.Math.Seq.{drop-cons}
 use Rattle.std.proofs.lemmas.List.Elements.{All-append, All-map}
 use Rattle.std.proofs.lemmas.Map.Views.{All-insert_key}
 use Rattle.std.specs.BTreeSet.{insert_key}
 use Rattle.std.specs.Ordering.{nat_cmp}
-use Rattle.std.specs.Prelude.{option_and_then, option_to_list, slice_get}
+use Rattle.std.specs.Prelude.{option_to_list}
 use Rattle.pp_values.specs.Faults.{fault}
 use Rattle.pp_values.specs.declared.fault.Fault.{Fault}
 use Rattle.pp_values.specs.declared.fault.What.TheVariants.{Cycle}
@@ -17,7 +17,7 @@ use Rattle.res_book.specs.declared.containment.Containment.{Containment}
 use Rattle.res_book.specs.declared.row.Row.{Row}
 use Rattle.res_core.specs.declared.held.Held.{Held}
 use Rattle.catalog_finish.specs.Containing.{pairs_from, containment, cycle_told}
-use Rattle.catalog_finish.specs.Layouts.{of_live, indexes_from, indexes, index_at, indexes_at, with_numbers, rising, Layout, layout_of, containers, inside}
+use Rattle.catalog_finish.specs.Layouts.{of_live, indexes_from, indexes, index_at, indexes_at, with_numbers, layout_of, containers, inside}
 
 pub live_count : List Row → ℕ
 live_count [] = 0

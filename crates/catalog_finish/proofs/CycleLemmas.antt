@@ -1,19 +1,19 @@
 -- The cycle that is told, as it is computed, is the one that the order of resources knows.
-use Rattle.std.proofs.Common.{◌≡◌, ◌⊎◌, ℕ, zero, suc, nat_eq, ◌+◌, ◌<◌, ◌≤◌, Bool, true, false, ◌&&◌, ◌||◌, if◌then◌else◌, List, [], ◌∷◌, length, eqb, Contains, Option, None, Some, option_map, inl, inr, refl, sym, ap, ap₂, subst, ◌∙◌, arith, le_antisymm, is_some, true≢false}
+use Rattle.std.proofs.Common.{◌≡◌, ◌⊎◌, ℕ, zero, suc, ◌<◌, Bool, true, false, ◌&&◌, ◌||◌, if◌then◌else◌, List, [], ◌∷◌, length, eqb, Option, None, Some, option_map, inl, inr, refl, sym, ap, ap₂, subst, ◌∙◌, arith, le_antisymm, is_some, true≢false}
 use Rattle.std.proofs.lemmas.Bool.{cases_lt, eq-eqb}
 use Rattle.std.proofs.lemmas.Bool.Decides.{eqb_tells}
 use Rattle.std.proofs.lemmas.Map.Steps.{length-le_from_distinct_below}
-use Rattle.std.proofs.lemmas.Map.Views.{Contains-from_any, list_any-from_Contains}
-use Rattle.std.specs.Cmp.{IsEquivalence, nat_eq_equiv, and_equiv, on_equiv}
+use Rattle.std.proofs.lemmas.Map.Views.{list_any-from_Contains}
+use Rattle.std.specs.Cmp.{nat_eq_equiv, and_equiv, on_equiv}
 use Rattle.std.specs.List.{list_any, AllByRecursion, IsDistinct}
-use Rattle.std.specs.Ordering.{on, eq_of_both}
+use Rattle.std.specs.Ordering.{on}
 use Rattle.rel_graph.specs.Before.{Belongs, Direct}
-use Rattle.rel_graph.specs.Chains.{Paired, Chain, Closure}
+use Rattle.rel_graph.specs.Chains.{Paired, Chain}
 use Rattle.rel_graph.specs.Cycles.{IsCycle, HasNoCycle, NoLater}
 use Rattle.rel_graph.specs.Graphs.{IsBuilt, Relations}
 use Rattle.rel_graph.specs.Pairs.{AllBelow}
 use Rattle.catalog_finish.specs.Containing.{cycle_in, does_belong, is_direct}
-use Rattle.catalog_finish.specs.FirstCycles.{is_pair, is_paired, or_next, first_below, least_way, way_to, first_cycle}
+use Rattle.catalog_finish.specs.FirstCycles.{is_paired, or_next, first_below, least_way, way_to, first_cycle}
 
 skip : (x y more : Bool) → (x ≡ false) ⊎ (y ≡ false) → ((x && y) || more) ≡ true → more ≡ true
 skip true true more (inl f) e = absurd cc

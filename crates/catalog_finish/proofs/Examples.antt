@@ -1,5 +1,5 @@
 -- The definitions at worked examples. Each line holds by computing.
-use Rattle.std.proofs.Common.{◌≡◌, ℕ, Bool, true, false, List, [], ◌∷◌, Option, None, Some, Ok, Err, refl, codes}
+use Rattle.std.proofs.Common.{◌≡◌, ℕ, Bool, true, false, List, [], ◌∷◌, None, Some, Ok, Err, refl, codes}
 use Rattle.pp_values.specs.Answers.{in_turn}
 use Rattle.pp_values.specs.Datum as d
 use Rattle.pp_values.specs.Faults.{fault}
@@ -21,7 +21,7 @@ use Rattle.override_rules.specs.Names.{attributes_of, names_within}
 use Rattle.catalog_finish.specs.Attributes.{catalog_attributes, exported_attributes}
 use Rattle.catalog_finish.specs.Catalogs.{resources, resource_with}
 use Rattle.catalog_finish.specs.Containing.{is_direct, order_checked}
-use Rattle.catalog_finish.specs.Exporting.{exports, exported_resource, export_with}
+use Rattle.catalog_finish.specs.Exporting.{exports, export_with}
 use Rattle.catalog_finish.specs.Finishing.{finished, lines_checked, realized_checked, sources}
 use Rattle.catalog_finish.specs.FirstCycles.{is_paired, first_below, least_way, way_to, first_cycle}
 use Rattle.catalog_finish.specs.EdgeTables.{edges_from, joined}

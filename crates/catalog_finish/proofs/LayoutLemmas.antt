@@ -1,17 +1,17 @@
 -- Declarations one after another, and their indexes.
-use Rattle.std.proofs.Common.{◌≡◌, ◌⊎◌, ℕ, zero, suc, ◌+◌, ◌<◌, ◌≤◌, ◌==◌, ◌^◌, Bool, true, false, if◌then◌else◌, List, [], ◌∷◌, ◌++◌, length, map, drop, get_or, set, Option, None, Some, inl, inr, refl, sym, ap, ap₂, subst, ◌∙◌, arith, add-one, add-suc, append_assoc}
+use Rattle.std.proofs.Common.{◌≡◌, ℕ, zero, suc, ◌+◌, ◌<◌, ◌≤◌, true, false, if◌then◌else◌, List, [], ◌∷◌, ◌++◌, length, map, drop, get_or, set, Option, None, Some, inl, inr, refl, sym, ap, ap₂, ◌∙◌, arith, add-one, append_assoc}
 use Rattle.std.proofs.Math.ListN.{drop_of_length-le}
 use Rattle.std.proofs.Math.Seq.{drop-cons}
 use Rattle.std.proofs.lemmas.Bool.Decides.{eqb_tells}
 use Rattle.std.proofs.lemmas.List.{append-nil, map-append}
 use Rattle.std.proofs.lemmas.Option.{get_or_from_slice_get}
-use Rattle.std.specs.Prelude.{slice_get}
+use Rattle.std.specs.Prelude.{option_to_list, slice_get}
 use Rattle.std.specs.declared.alloc.Global.{Global}
 use Rattle.std.specs.declared.vec.Vec.{Vec}
 use Rattle.res_book.specs.Rows.{is_live, is_live_at, passes}
 use Rattle.res_book.specs.declared.containment.Containment.{Containment}
 use Rattle.res_book.specs.declared.row.Row.{Row}
-use Rattle.catalog_finish.specs.Layouts.{of_live, indexes_from, outers_of, outers_from}
+use Rattle.catalog_finish.specs.Layouts.{of_live, index_at, indexes_at, indexes_from, outers_of, outers_from, rising}
 use Rattle.catalog_finish.specs.Tables.{lists, put_at, more}
 
 -- ---- from a number on
@@ -225,3 +225,7 @@ module _ {A : Type 0} (each : ℕ → Row → A) (rows : List Row) (n : ℕ) (ol
   unfolding rest
   dead_turn live is =
       ap (λ xs. xs ++ rest) is ∙ sym (ap (λ xs. old ++ xs) (live_passed (λ m r. each m r ∷ []) rows n h live)) ∙ all
+
+-- one declaration has one index at most
+pub rising_alone : (places : List (Option ℕ)) (n : ℕ) → rising (indexes_at places (n ∷ [])) ≡ option_to_list (index_at places n)
+rising_alone places n = elim (index_at places n) as (λ o. rising (option_to_list o ++ []) ≡ option_to_list o) [ None ↦ refl | Some i ↦ refl ]

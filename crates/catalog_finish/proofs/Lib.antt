@@ -5,6 +5,8 @@ pub mod LayoutLemmas
 pub mod BelowLemmas
 pub mod ExportLemmas
 pub mod RelatingLemmas
+pub mod UnrelatedLemmas
 pub mod NameLemmas
+pub mod TitleLemmas
 mod Samples
 mod Examples

@@ -1,9 +1,9 @@
 -- Plain forms are plain, and what is plain is its own plain form.
-use Rattle.std.proofs.Common.{◌≡◌, Bool, true, false, ◌&&◌, not, IsTrue, List, [], ◌∷◌, refl, sym, ap, ap₂, ◌∙◌}
+use Rattle.std.proofs.Common.{◌≡◌, Bool, true, false, ◌&&◌, not, List, [], ◌∷◌, refl, ap, ap₂, ◌∙◌}
 use Rattle.pp_values.specs.Datum.{Datum, undef, flag, int, text, list, hash, reference, kind, default, Data, no_data, datum, Entries, no_entries, entry, Pair, data_of, entries_of}
 use Rattle.pp_values.specs.Keys.{is_key, same_key, lacks, are_distinct}
 use Rattle.pp_values.specs.Plain.{is_plain_value, are_plain_values, are_plain_pairs}
-use Rattle.catalog_finish.specs.PlainForms.{plain_of, plain_members, plain_entries, plain_pair, plain_pairs, plain_list}
+use Rattle.catalog_finish.specs.PlainForms.{plain_of, plain_members, plain_entries, plain_pairs, plain_list}
 
 both : (a b : Bool) → (a && b) ≡ true → (a ≡ true) × (b ≡ true)
 both true true e = (refl, refl)

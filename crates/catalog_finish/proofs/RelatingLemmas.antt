@@ -1,5 +1,5 @@
 -- Relations one after another.
-use Rattle.std.proofs.Common.{◌≡◌, ◌⊎◌, inl, inr, ℕ, zero, suc, ◌+◌, ◌<◌, ◌≤◌, Bool, true, false, ◌&&◌, if◌then◌else◌, cond, List, [], ◌∷◌, ◌++◌, length, map, filter, drop, get_or, All, Option, None, Some, Result, Ok, Err, refl, sym, ap, ap₂, subst, ◌∙◌, arith, add-one, append_assoc}
+use Rattle.std.proofs.Common.{◌≡◌, ◌⊎◌, inl, inr, ℕ, zero, suc, ◌+◌, ◌<◌, ◌≤◌, Bool, true, false, ◌&&◌, if◌then◌else◌, cond, List, [], ◌∷◌, ◌++◌, length, map, filter, drop, get_or, Option, Some, Result, Ok, Err, refl, sym, ap, ap₂, subst, ◌∙◌, arith, add-one, append_assoc}
 use Rattle.std.proofs.Math.ListN.{drop_of_length-le}
 use Rattle.std.proofs.Math.Seq.{drop-cons}
 use Rattle.std.proofs.lemmas.List.Elements.{filter-append}
@@ -9,7 +9,7 @@ use Rattle.pp_values.proofs.Turns.{first_stops}
 use Rattle.pp_values.specs.Answers.{AnswersBy, and_then, in_turn}
 use Rattle.rel_graph.specs.Graphs.{edge_pair}
 use Rattle.rel_graph.specs.Pairs.{AllBelow}
-use Rattle.res_book.specs.Rows.{is_live, is_live_at, passes}
+use Rattle.res_book.specs.Rows.{is_live}
 use Rattle.res_book.specs.declared.row.Row.{Row}
 use Rattle.res_core.specs.declared.edge.Edge.{Edge}
 use Rattle.catalog_finish.proofs.LayoutLemmas.{row_there, rows_from}

@@ -1,5 +1,5 @@
 -- Small tables, for the examples.
-use Rattle.std.proofs.Common.{ℕ, Bool, true, false, List, [], ◌∷◌, Option, None, Some, codes}
+use Rattle.std.proofs.Common.{ℕ, true, false, List, [], ◌∷◌, Option, None, Some, codes}
 use Rattle.pp_values.specs.Datum as d
 use Rattle.pp_values.specs.Datum.{Datum, Pair, data_of, entries_of}
 use Rattle.pp_values.specs.Settings.{Setting}

@@ -1,5 +1,5 @@
 -- What a node exports.
-use Rattle.std.specs.Prelude.{ℕ, Bool, true, false, not, if◌then◌else◌, List, [], ◌∷◌, ◌++◌, find, Option, None, Some, option_to_list, Result, Ok, Err}
+use Rattle.std.specs.Prelude.{Bool, true, false, not, if◌then◌else◌, List, [], ◌++◌, find, Option, None, Some, option_to_list, Result, Ok, Err}
 use Rattle.pp_values.specs.Answers.{and_then, in_turn}
 use Rattle.pp_values.specs.Faults.{fault}
 use Rattle.pp_values.specs.Plain.{is_plain_value}

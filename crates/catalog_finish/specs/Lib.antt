@@ -11,6 +11,7 @@ pub mod Sources
 pub mod Relating
 pub mod Exporting
 pub mod Naming
+pub mod Titles
 pub mod NameCodes
 pub mod NameKeys
 pub mod Finishing

@@ -89,7 +89,7 @@ fn put_set(alloc: Global, attribute: Attribute, items: &mut Vec<Attribute>) -> R
 fn kept_of_set(alloc: Global, attributes: Attributes) -> Result<Attributes, Memory>
     ensures { IfOk result (λ a. a ≡ in_catalog attributes) }
 {
-    let mut items = Vec::new(alloc);
+    let mut items = Vec::with_capacity(alloc, attributes.len())?;
     for attribute in attributes.into_vec() {
         put_set(alloc, attribute, &mut items)?;
     }
@@ -114,7 +114,7 @@ fn put_bound(alloc: Global, attribute: &Attribute, items: &mut Vec<Attribute>) -
 fn kept_of_bound(alloc: Global, attributes: &Attributes) -> Result<Attributes, Memory>
     ensures { IfOk result (λ a. a ≡ in_catalog (filter has_value attributes.now)) }
 {
-    let mut items = Vec::new(alloc);
+    let mut items = Vec::with_capacity(alloc, attributes.len())?;
     for attribute in attributes.as_slice() {
         put_bound(alloc, attribute, &mut items)?;
     }

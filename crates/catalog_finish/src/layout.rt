@@ -1,4 +1,4 @@
-ghost use Rattle.std.specs.Prelude.{◌≡◌, IfOk, OnOk, map, option_and_then, slice_get, slice_index_or, []};
+ghost use Rattle.std.specs.Prelude.{◌≡◌, IfOk, OnOk, map, option_and_then, option_to_list, slice_get, slice_index_or, []};
 ghost use Rattle.catalog_finish.specs.Layouts.{layout_of, index_at, indexes_at, rising, inside as inside_meant, indexes_from, outers_from, containers};
 ghost use Rattle.catalog_finish.specs.Tables.{lists, put_at, more};
 
@@ -38,6 +38,7 @@ impl Layout {
     }
 
     /// The indexes of what contains a declaration directly.
+    #[tactic(auto, using(crate::proofs::LayoutLemmas::rising_alone))]
     pub fn inside(&self, alloc: Global, number: u32, row: &Row) -> Result<Indexes, Memory>
         ensures { IfOk result (λ l. l ≡ inside_meant self.now number row.now) }
     {
@@ -45,7 +46,7 @@ impl Layout {
             return rising(alloc, &self.indexes, self.outers(number));
         }
         match row.item.container {
-            Some(container) => rising(alloc, &self.indexes, &[container]),
+            Some(container) => alone(alloc, self.index(container)),
             None => Ok(Indexes::new(alloc)),
         }
     }
@@ -125,6 +126,17 @@ fn index_at(indexes: &[Option<u32>], number: u32) -> Option<u32>
         Some(index) => *index,
         None => None,
     }
+}
+
+/// The index, where there is one.
+fn alone(alloc: Global, index: Option<u32>) -> Result<Indexes, Memory>
+    ensures { IfOk result (λ l. l ≡ option_to_list index) }
+{
+    let mut found = Indexes::new(alloc);
+    if let Some(index) = index {
+        found.push(index)?;
+    }
+    Ok(found)
 }
 
 /// The indexes of these declarations in rising order, each once.

@@ -18,5 +18,6 @@ mod relating;
 mod resources;
 mod tables;
 mod targets;
+mod titles;
 
 pub use finishing::finish;

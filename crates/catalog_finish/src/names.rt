@@ -82,11 +82,19 @@ fn letters(value: &Value) -> &str
 pub fn key_of(alloc: Global, named: &Named) -> Result<Text, Memory>
     ensures { IfOk result (λ t. t ≡ key_meant (called named.now)) }
 {
-    let mut out = String::from_str(alloc, named.kind.as_text().as_str())?;
+    let kind = named.kind.as_str();
+    let name = letters(&named.name);
+    let provider = letters(&named.provider);
+    let room = kind
+        .len()
+        .saturating_add(name.len())
+        .saturating_add(provider.len());
+    let mut out = String::with_capacity(alloc, room.saturating_add(2))?;
+    out.push_str(kind)?;
     out.push_str(" ")?;
-    out.push_str(letters(&named.name))?;
+    out.push_str(name)?;
     out.push_str(" ")?;
-    out.push_str(letters(&named.provider))?;
+    out.push_str(provider)?;
     Ok(Text::new(out))
 }
 

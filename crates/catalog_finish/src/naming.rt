@@ -13,6 +13,7 @@ ghost use Rattle.catalog_finish.specs.Naming.{called, called_by as called_meant,
 use crate::attributes::set_attribute;
 use crate::named::Named;
 use crate::names::{Names, key_of, with_one_more};
+use crate::titles::are_by_title;
 use override_rules::Overrides;
 use pp_values::{Fault, Memory, Place, Reference, Stop, Text, Value, What};
 use res_book::{Book, Row};
@@ -37,7 +38,8 @@ fn same_namevar(alloc: Global, at: &Place, later: &Named, earlier: &Named) -> Re
     Fault::new(alloc, at, What::SameNamevar { later, earlier })
 }
 
-fn is_told_apart(native: NativeType) -> bool
+/// Whether no two resources of this type may be called the same.
+pub fn is_told_apart(native: NativeType) -> bool
     ensures { result ≡ apart_meant native }
 {
     !matches!(native, NativeType::Exec | NativeType::Notify)
@@ -212,10 +214,16 @@ fn names_of_all(alloc: Global, book: &Book, lines: &Overrides) -> Result<Names, 
     Ok(names)
 }
 
-/// The fault of the first resource that is called as an earlier one of its kind is.
+/// The fault of the first resource that is called as an earlier one of its kind is. Where all are called by their
+/// titles there is none.
+#[tactic(auto, using(crate::proofs::TitleLemmas::called_apart))]
 pub fn check_names(alloc: Global, book: &Book, lines: &Overrides) -> Result<(), Stop>
     ensures { Answers result (names_checked lines.now book.now) }
 {
+    if are_by_title(book, lines) {
+        book.references_differ();
+        return Ok(());
+    }
     let _names = names_of_all(alloc, book, lines)?;
     Ok(())
 }

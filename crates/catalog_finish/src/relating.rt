@@ -1,9 +1,11 @@
 //! Which resources come before which, by relation lines and by metaparameters.
-ghost use Rattle.std.specs.Prelude.{◌≡◌, Some, OnOk, slice_get};
+ghost use Rattle.std.specs.Prelude.{◌≡◌, false, Some, OnOk, slice_get};
+ghost use Rattle.std.specs.List.{list_any};
 ghost use Rattle.pp_values.specs.Answers.{Answers};
 ghost use Rattle.res_core.specs.AttributeViews.{set_in};
+ghost use Rattle.res_core.specs.Metaparameters.{is_relation_name};
 ghost use Rattle.override_rules.specs.Names.{attributes_of};
-ghost use Rattle.catalog_finish.specs.RelationParameters.{joined_by, name_of, goes_before, does_signal};
+ghost use Rattle.catalog_finish.specs.RelationParameters.{joined_by, name_of, goes_before, does_signal, does_relate};
 ghost use Rattle.catalog_finish.specs.Relating.{operand_of as operand_meant, side_of as side_meant, ends_of as ends_meant, lines_related as lines_meant, set_targets as set_meant, metaparameter_step, row_related as row_meant, row_step, rows_related as rows_meant, related_pairs as pairs_meant};
 ghost use Rattle.catalog_finish.specs.Sources.{sources_of};
 
@@ -12,9 +14,10 @@ use crate::collecting::collected;
 use crate::edge_table::EdgeTable;
 use crate::tables::Tables;
 use crate::targets::{target, targets};
+use override_rules::Overrides;
 use pp_values::{Memory, Place, Stop, Text};
 use res_book::{RelationLine, Row};
-use res_core::{Indexes, Operand};
+use res_core::{Attribute, Indexes, Operand, is_relation_name};
 use std::alloc::Global;
 
 /// The resources on the two sides of a relation.
@@ -184,6 +187,22 @@ fn related_by(
     Ok(edges)
 }
 
+fn has_relation(attributes: &[Attribute]) -> bool
+    ensures { result ≡ list_any (λ a. is_relation_name a.name) attributes.now }
+{
+    attributes.iter().any(|a| is_relation_name(&a.name))
+}
+
+/// Whether a declaration may have a metaparameter that relates it to others. Most have none, and are asked for none.
+fn may_relate(lines: &Overrides, row: &Row) -> bool
+    ensures { result ≡ false → does_relate (attributes_of lines.now row.now) ≡ false }
+{
+    if lines.is_untouched(row) {
+        return has_relation(row.item.item.attributes.as_slice());
+    }
+    true
+}
+
 fn row_related(
     alloc: Global,
     tables: &Tables<'_>,
@@ -195,6 +214,9 @@ fn row_related(
     requires { slice_get tables.now.book.now number ≡ Some row.now }
     ensures { Answers result (row_meant (sources_of tables.now) index row.now edges) }
 {
+    if !may_relate(tables.lines, row) {
+        return Ok(edges);
+    }
     let subject = Subject { number, row, index };
     let edges = related_by(alloc, tables, &subject, Metaparameter::Before, edges)?;
     let edges = related_by(alloc, tables, &subject, Metaparameter::Require, edges)?;

@@ -1,4 +1,3 @@
-use Rattle.std.proofs.Common.{ap, ◌∙◌}
 use Rattle.catalog_finish.proofs.BelowLemmas.{pairs_turn}
 use Rattle.catalog_finish.proofs.containment.containers.Goals as goal
 

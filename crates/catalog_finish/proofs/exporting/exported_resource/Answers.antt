@@ -1,4 +1,4 @@
-use Rattle.std.proofs.Common.{◌≡◌, None, find, not, sym, ap, ◌∙◌}
+use Rattle.std.proofs.Common.{find, not, sym, ap, ◌∙◌}
 use Rattle.pp_values.specs.Plain.{is_plain_value}
 use Rattle.catalog_finish.proofs.AttributeLemmas.{none_found_plain}
 use Rattle.catalog_finish.proofs.exporting.exported_resource.Goals as goal

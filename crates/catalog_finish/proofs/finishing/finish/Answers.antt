@@ -1,4 +1,4 @@
-use Rattle.std.proofs.Common.{◌≡◌, ◌<◌, ◌≤◌, ◌^◌, List, length, refl, sym, ap, subst, ◌∙◌, arith}
+use Rattle.std.proofs.Common.{◌≡◌, List, length, refl, sym, ap, subst, ◌∙◌, arith}
 use Rattle.rel_graph.specs.Pairs.{AllBelow}
 use Rattle.res_core.specs.declared.held.Held.{Held}
 use Rattle.catalog_finish.specs.Catalogs.{held, resources}

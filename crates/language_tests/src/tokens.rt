@@ -8,25 +8,26 @@ use std::alloc::{AllocError, Global};
 use std::test::Fail;
 
 // A token in short: its line if it is not the first, what it is, and what it says.
-fn write_token(out: &mut String, token: &Token) -> Result<(), AllocError> {
+fn write_token(alloc: Global, out: &mut String, token: &Token<'_>) -> Result<(), Fail> {
     let line = token.line;
-    let text = token.text.as_str();
+    let text = token.text.copy(alloc)?;
     if line != 1 {
         write!(out, "{line}:")?;
     }
     match token.kind {
         Kind::Number => {
             let number = token.number;
-            write!(out, "{number} ")
+            write!(out, "{number} ")?;
         }
-        Kind::Name => write!(out, "{text} "),
-        kind => write!(out, "{kind:?}{text} "),
+        Kind::Name => write!(out, "{text} ")?,
+        kind => write!(out, "{kind:?}{text} ")?,
     }
+    Ok(())
 }
 
-fn write_tokens(out: &mut String, tokens: &[Token]) -> Result<(), AllocError> {
+fn write_tokens(alloc: Global, out: &mut String, tokens: &[Token<'_>]) -> Result<(), Fail> {
     for token in tokens {
-        write_token(out, token)?;
+        write_token(alloc, out, token)?;
     }
     Ok(())
 }
@@ -36,7 +37,7 @@ fn scanned(alloc: Global, manifest: &str) -> Result<String, Fail> {
     let mut out = String::new(alloc);
     if manifest.len() < 4096 {
         let tokens = scan(alloc, manifest)?;
-        write_tokens(&mut out, tokens.as_slice())?;
+        write_tokens(alloc, &mut out, tokens.as_slice())?;
         let end = end_line(manifest);
         write!(out, "/{end}")?;
     }

@@ -1,5 +1,6 @@
 -- What a text says, by its backslashes.
-use Rattle.std.proofs.Common.{◌≡◌, ℕ, zero, suc, ◌+◌, ◌-◌, ◌<◌, ◌≤◌, Bool, true, false, ◌==◌, List, [], ◌∷◌, ◌++◌, length, drop, get_or, refl, ap, sym, subst, append-nil, ◌∙◌, length-drop, IsUtf8, arith}
+use Rattle.std.proofs.Common.{◌≡◌, ◌≢◌, ℕ, zero, suc, ◌+◌, ◌-◌, ◌<◌, ◌≤◌, Bool, true, false, ◌==◌, List, [], ◌∷◌, ◌++◌, length, drop, get_or, refl, ap, sym, subst, append-nil, ◌∙◌, length-drop, IsUtf8, arith}
+use Rattle.std.proofs.Math.Dec.{eqb-suc-zero}
 use Rattle.std.proofs.Math.Seq.{take-length, drop-length}
 use Rattle.std.proofs.lemmas.Bool.{eqb-true}
 use Rattle.std.proofs.lemmas.Str.{IsCharBoundary-after_ascii, IsCharBoundary-start}
@@ -75,3 +76,13 @@ boundary_behind z e utf8 fits = boundary_at e.taken z utf8 fits.within fits.asci
         let f : n + 1 ≡ suc n = omega arith in
         let some : 0 < suc n = omega arith in
         subst (IsCharBoundary z) f (IsCharBoundary-after_ascii z n utf8 (omega arith) (rw e at (ascii some)))
+
+-- what begins without a backslash says something
+says_first : (q : Quotes) (t : Bool) (b : ℕ) (z : List ℕ) → (b == 92) ≡ t → b ≢ 92 → (length (said q 0 (b ∷ z)) == 0) ≡ false
+unfolding said
+says_first q true b z is other = absurd (other (eqb-true b 92 is))
+says_first q false b z is other = rw is (eqb-suc-zero (length (said q 0 z)))
+
+pub plain_says : (q : Quotes) (z : List ℕ) → 0 < length z → get_or z 0 0 ≢ 92 → (length (said q 0 z) == 0) ≡ false
+plain_says q [] some other = absurd (omega arith)
+plain_says q (b ∷ z) some other = says_first q (b == 92) b z refl other

@@ -28,3 +28,8 @@ mark_is_piece z m k begins within ends =
       last = λ _. subst (λ (b : ℕ). b < 128) (ap (λ x. get_or x (length m - 1) 0) same ∙ there) last;
       ends = record { quotes = λ is. absurd (cc); dollar = λ k is. absurd (cc) };
     }
+
+pub pair_is : (z : List ℕ) (k : Kind) (len : ℕ) → 1 < length z → ((y : List ℕ) → punctuation (get_or z 0 0 ∷ get_or z 1 0 ∷ y) ≡ mark k len) → mark k len ≡ punctuation z
+pair_is [] k len some is = absurd (omega arith)
+pair_is (b ∷ []) k len some is = absurd (omega arith)
+pair_is (b ∷ c ∷ z) k len some is = sym (is z)

@@ -3,7 +3,8 @@ use Rattle.std.proofs.Common.{◌≡◌, ℕ, zero, suc, ◌-◌, ◌<◌, ◌�
 use Rattle.pp_lexer.specs.Bytes.{line_after, line_at}
 use Rattle.pp_lexer.specs.Fronts.{HasEnds, IsPart}
 use Rattle.pp_lexer.specs.Modes.{mode_after, open_after}
-use Rattle.pp_lexer.specs.Tokens.{front_at, emitted, tokens_from}
+use Rattle.pp_lexer.specs.Tokens.{front_at, emitted, tokens_from, token, piece}
+use Rattle.pp_lexer.specs.declared.kind.Kind.TheVariants as kinds
 use Rattle.pp_lexer.specs.declared.front.Front.{Front}
 use Rattle.pp_lexer.specs.declared.mode.Mode.{Mode}
 use Rattle.pp_lexer.specs.declared.mode.Open.{Open}
@@ -45,3 +46,12 @@ ends_cut z spelling f part here =
 
 pub some_cut : (z spelling : List ℕ) (f : Front) → IsPart z f → spelling ≡ take f.len z → 0 < length spelling
 some_cut z spelling f part here = omega (arith, ap length here ∙ length-take-le f.len z part.boundary.0, part.moves)
+
+-- a run of a text is a token where it says something
+pub piece_none : (text : List ℕ) (line : ℕ) → length text ≡ 0 → piece text line ≡ []
+piece_none [] line none = refl
+piece_none (b ∷ z) line none = absurd (omega arith)
+
+pub piece_some : (text : List ℕ) (line : ℕ) → 0 < length text → piece text line ≡ token kinds.Piece text line ∷ []
+piece_some [] line some = absurd (omega arith)
+piece_some (b ∷ z) line some = refl

@@ -88,6 +88,11 @@ said q left [] = []
 said q (suc left) (b ∷ z) = said q left z
 said q zero (b ∷ z) = says_at q b z ++ said q (taken_at q b z) z
 
+-- what stands between quotes, or without quotes what is written
+abbrev pub says : Option Quotes → List ℕ → List ℕ
+says None z = z
+says (Some q) z = said q 0 z
+
 -- ---- what the reader of a text relies on
 
 -- an escape takes bytes that are there, and the last of them is ASCII

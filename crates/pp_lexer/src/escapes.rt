@@ -182,9 +182,9 @@ fn split_at_escape(quotes: Quotes, text: &str) -> Option<(&str, Escape, &str)>
     Some((plain, escape, &behind[escape.taken..]))
 }
 
-/// What a text says, from what stands between its quotes.
+/// What a text says that has escapes.
 #[tactic(auto, unfolding(crate::specs::Escapes::said))]
-pub fn said(alloc: Global, quotes: Quotes, spelling: &str) -> Result<Text, Memory>
+fn unescaped(alloc: Global, quotes: Quotes, spelling: &str) -> Result<Text, Memory>
     ensures { IfOk result (λ t. t ≡ spec.said quotes 0 spelling.now) }
 {
     let mut text = String::new(alloc);
@@ -198,4 +198,26 @@ pub fn said(alloc: Global, quotes: Quotes, spelling: &str) -> Result<Text, Memor
     }
     text.push_str(rest)?;
     Ok(Text::new(text))
+}
+
+/// What a text says, from what stands between its quotes.
+pub fn said(alloc: Global, quotes: Quotes, spelling: &str) -> Result<Text, Memory>
+    ensures { IfOk result (λ t. t ≡ spec.said quotes 0 spelling.now) }
+{
+    match split_at_escape(quotes, spelling) {
+        None => Text::from_str(alloc, spelling),
+        Some(_) => unescaped(alloc, quotes, spelling),
+    }
+}
+
+/// Whether a text says nothing, as where it is made of line breaks behind backslashes.
+#[tactic(auto, using(crate::proofs::EscapeLemmas::plain_says))]
+pub fn says_nothing(alloc: Global, quotes: Quotes, spelling: &str) -> Result<bool, Memory>
+    requires { 0 < length spelling.now }
+    ensures { IfOk result (λ nothing. nothing ≡ (length (spec.said quotes 0 spelling.now) == 0)) }
+{
+    if spelling.as_bytes()[0] != b'\\' {
+        return Ok(false);
+    }
+    Ok(said(alloc, quotes, spelling)?.as_str().is_empty())
 }

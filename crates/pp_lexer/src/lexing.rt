@@ -24,7 +24,7 @@ fn ends_early(kind: Kind) -> bool
 }
 
 /// The line of the last token, where that ends the list early.
-fn early_end(tokens: &[Token]) -> Option<u32>
+fn early_end(tokens: &[Token<'_>]) -> Option<u32>
     ensures { result ≡ spec.early_end tokens.now }
 {
     match tokens.last() {
@@ -44,7 +44,7 @@ fn syntax_fault(alloc: Global, file: &Text, line: u32) -> Result<Fault, Memory>
 /// the fault of the syntax at that line. An interpolation that the end of the file cuts off is none: no token of it is
 /// missing, so it is left to the grammar.
 #[tactic(auto, unfolding(crate::specs::Tokens::lexed))]
-pub fn lex(alloc: Global, file: &Text, text: &Text) -> Result<Tokens, Stop>
+pub fn lex<'a>(alloc: Global, file: &Text, text: &'a Text) -> Result<Tokens<'a>, Stop>
     // Places count lines in 32 bits.
     requires { length text.now + 1 < 2 ^ 32 }
     ensures { Answers result (spec.lexed file.now text.now) }

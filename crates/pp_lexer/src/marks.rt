@@ -94,6 +94,44 @@ fn found_lone(bytes: &[u8], kind: Kind) -> Front
     Front::mark(kind, 1)
 }
 
+/// A mark that its first two bytes tell, and its length.
+#[tactic(auto, unfolding(crate::specs::Marks::punctuation))]
+fn paired_mark(first: u8, second: u8) -> Option<(Kind, usize)>
+    ensures value { IfSome result (λ m. (z : List ℕ) → spec.punctuation (first ∷ second ∷ z) ≡ fronts.mark m.0 m.1) }
+    ensures within { IfSome result (λ m. (0 < m.1) × (m.1 ≤ 2)) }
+    ensures ascii { IfSome result (λ _. (first < 128) × (second < 128)) }
+{
+    match (first, second) {
+        (b'=', b'>') => Some((Kind::Arrow, 2)),
+        (b'=', b' ') => Some((Kind::Assign, 1)),
+        (b'=', b'=') => Some((Kind::Equal, 2)),
+        (b'=', b'~') => Some((Kind::Match, 2)),
+        (b'!', b'=') => Some((Kind::NotEqual, 2)),
+        (b'-', b'>') => Some((Kind::InEdge, 2)),
+        (b'~', b'>') => Some((Kind::InEdgeSub, 2)),
+        (b'+', b' ') => Some((Kind::Plus, 1)),
+        (b'-', b' ') => Some((Kind::Minus, 1)),
+        (b'|', b' ') => Some((Kind::Bar, 1)),
+        (b'|', b'$') => Some((Kind::Bar, 1)),
+        (b'!', b'$') => Some((Kind::Bang, 1)),
+        (b'@', b'@') => Some((Kind::AtAt, 2)),
+        _ => None,
+    }
+}
+
+/// A mark that its first two bytes tell.
+#[tactic(auto, using(crate::proofs::MarkLemmas::pair_is))]
+fn found_pair(bytes: &[u8], kind: Kind, len: usize) -> Front
+    requires some { 1 < length bytes.now }
+    requires pair { (z : List ℕ) → spec.punctuation (slice_index bytes.now 0 ∷ slice_index bytes.now 1 ∷ z) ≡ fronts.mark kind len }
+    requires within { (0 < len) × (len ≤ 2) }
+    requires ascii { (slice_index bytes.now 0 < 128) × (slice_index bytes.now 1 < 128) }
+    ensures value { result ≡ spec.punctuation bytes.now }
+    ensures piece { IsPiece bytes.now result }
+{
+    Front::mark(kind, len)
+}
+
 /// The mark with which a text begins.
 fn found_mark(bytes: &[u8], mark: &[u8], kind: Kind) -> Front
     requires begins { starts_with nat_eq bytes.now mark.now ≡ true }
@@ -120,8 +158,23 @@ fn first_mark(mut table: &[(&[u8], Kind)], bytes: &[u8]) -> Front
     bad(bytes)
 }
 
-/// The punctuation at the front of a text, if there is any.
+/// The punctuation at the front of a text, by its first two bytes or by the table.
 #[tactic(auto, unfolding(crate::specs::Marks::punctuation))]
+fn longer_mark(bytes: &[u8]) -> Front
+    requires { 0 < length bytes.now }
+    ensures value { result ≡ spec.punctuation bytes.now }
+    ensures piece { IsPiece bytes.now result }
+{
+    if bytes.len() < 2 {
+        return first_mark(&MARKS, bytes);
+    }
+    match paired_mark(bytes[0], bytes[1]) {
+        Some((kind, len)) => found_pair(bytes, kind, len),
+        None => first_mark(&MARKS, bytes),
+    }
+}
+
+/// The punctuation at the front of a text, if there is any.
 pub fn punctuation(bytes: &[u8]) -> Front
     requires { 0 < length bytes.now }
     ensures value { result ≡ spec.punctuation bytes.now }
@@ -129,6 +182,6 @@ pub fn punctuation(bytes: &[u8]) -> Front
 {
     match lone_mark(bytes[0]) {
         Some(kind) => found_lone(bytes, kind),
-        None => first_mark(&MARKS, bytes),
+        None => longer_mark(bytes),
     }
 }

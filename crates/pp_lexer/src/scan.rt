@@ -2,22 +2,24 @@
 
 ghost use Rattle.std.specs.Prelude.{◌≡◌, ◌+◌, ◌^◌, ◌<◌, ◌++◌, ◌∷◌, [], length, slice_index, IfOk, OnOk, drop};
 ghost use Rattle.pp_lexer.specs.Bytes as bytes;
+ghost use Rattle.pp_lexer.specs.Escapes.{said};
 ghost use Rattle.pp_lexer.specs.Fronts.{HasEnds, IsBetweenQuotes, IsPart, IsPiece};
 ghost use Rattle.pp_lexer.specs.Tokens as spec;
+ghost use Rattle.pp_lexer.specs.declared.escapes.Quotes.TheVariants.{Double};
 
 use crate::bytes::{blank_len, line_at, meets_brace, opens_comment};
-use crate::escapes::{Quotes, said};
+use crate::escapes::{Quotes, says_nothing};
 use crate::front::{Found, Front};
 use crate::kind::Kind;
 use crate::marks::punctuation;
 use crate::mode::{Mode, Nest, mode_after};
 use crate::numbers::number;
+use crate::spelled::Spelled;
 use crate::texts::{in_text, quoted};
 use crate::token::Token;
 use crate::tokens::Tokens;
 use crate::words::{WordSort, begins_word, name, type_name, variable};
 use pp_values::memory::Memory;
-use pp_values::text::Text;
 use std::alloc::Global;
 
 /// The token at a place outside of texts, where neither white space nor a comment stands.
@@ -106,25 +108,25 @@ fn front_at(mode: Mode, nest: &Nest, text: &str) -> Front
 }
 
 /// What a text in single quotes says.
-fn quoted_text(alloc: Global, spelling: &str) -> Result<Text, Memory>
+fn quoted_text(spelling: &str) -> Spelled<'_>
     requires { IsBetweenQuotes spelling.now (length spelling.now) }
-    ensures { IfOk result (λ t. t ≡ spec.quoted_text spelling.now) }
+    ensures { result ≡ spec.quoted_text spelling.now }
 {
     let end = spelling.len() - 1;
-    said(alloc, Quotes::Single, &spelling[1..end])
+    Spelled::quoted(Quotes::Single, &spelling[1..end])
 }
 
 /// What a variable says.
-fn dollar_text(alloc: Global, spelling: &str) -> Result<Text, Memory>
+fn dollar_text(spelling: &str) -> Spelled<'_>
     requires some { 0 < length spelling.now }
     requires dollar { slice_index spelling.now 0 ≡ 36 }
-    ensures { IfOk result (λ t. t ≡ drop 1 spelling.now) }
+    ensures { result ≡ drop 1 spelling.now }
 {
-    Text::from_str(alloc, &spelling[1..])
+    Spelled::plain(&spelling[1..])
 }
 
-fn put(found: &mut Tokens, kind: Kind, text: Text, line: u32) -> Result<(), Memory>
-    ensures { OnOk result (found.new ≡ found.old ++ spec.token kind text line ∷ []) }
+fn put<'a>(found: &mut Tokens<'a>, kind: Kind, text: Spelled<'a>, line: u32) -> Result<(), Memory>
+    ensures { OnOk result (found.new ≡ found.old ++ spec.token kind text.entry line ∷ []) }
 {
     found.push(Token {
         kind,
@@ -134,34 +136,45 @@ fn put(found: &mut Tokens, kind: Kind, text: Text, line: u32) -> Result<(), Memo
     })
 }
 
-fn put_number(alloc: Global, found: &mut Tokens, number: i64, line: u32) -> Result<(), Memory>
+fn put_number(found: &mut Tokens<'_>, number: i64, line: u32) -> Result<(), Memory>
     ensures { OnOk result (found.new ≡ found.old ++ spec.number_token number line ∷ []) }
 {
     found.push(Token {
         kind: Kind::Number,
-        text: Text::new(String::new(alloc)),
+        text: Spelled::nothing(),
         line,
         number,
     })
 }
 
-/// Appends a run that says something.
-fn put_run(found: &mut Tokens, text: Text, line: u32) -> Result<(), Memory>
-    ensures { OnOk result (found.new ≡ found.old ++ spec.piece text line) }
+/// Appends a run of a text in double quotes, if it says something.
+#[tactic(auto, using(crate::proofs::ScanLemmas::piece_none, crate::proofs::ScanLemmas::piece_some))]
+fn put_run<'a>(
+    alloc: Global,
+    found: &mut Tokens<'a>,
+    spelling: &'a str,
+    line: u32,
+) -> Result<(), Memory>
+    requires { 0 < length spelling.now }
+    ensures { OnOk result (found.new ≡ found.old ++ spec.piece (said Double 0 spelling.now) line) }
 {
-    if text.as_str().is_empty() {
-        Ok(())
-    } else {
-        put(found, Kind::Piece, text, line)
+    if says_nothing(alloc, Quotes::Double, spelling)? {
+        return Ok(());
     }
+    put(
+        found,
+        Kind::Piece,
+        Spelled::quoted(Quotes::Double, spelling),
+        line,
+    )
 }
 
 /// Appends the tokens of what stands at a place, from its spelling.
-fn emit(
+fn emit<'a>(
     alloc: Global,
-    tokens: &mut Tokens,
+    tokens: &mut Tokens<'a>,
     found: Found,
-    spelling: &str,
+    spelling: &'a str,
     line: u32,
 ) -> Result<(), Memory>
     requires some { 0 < length spelling.now }
@@ -170,28 +183,28 @@ fn emit(
 {
     match found {
         Found::Blank | Found::CutOff => Ok(()),
-        Found::Mark(kind) => put(tokens, kind, Text::new(String::new(alloc)), line),
-        Found::Word(kind) => put(tokens, kind, Text::from_str(alloc, spelling)?, line),
-        Found::Dollar(kind) => put(tokens, kind, dollar_text(alloc, spelling)?, line),
-        Found::Number(number) => put_number(alloc, tokens, number, line),
-        Found::Quoted => put(tokens, Kind::Text, quoted_text(alloc, spelling)?, line),
-        Found::Run => put_run(tokens, said(alloc, Quotes::Double, spelling)?, line),
+        Found::Mark(kind) => put(tokens, kind, Spelled::nothing(), line),
+        Found::Word(kind) => put(tokens, kind, Spelled::plain(spelling), line),
+        Found::Dollar(kind) => put(tokens, kind, dollar_text(spelling), line),
+        Found::Number(number) => put_number(tokens, number, line),
+        Found::Quoted => put(tokens, Kind::Text, quoted_text(spelling), line),
+        Found::Run => put_run(alloc, tokens, spelling, line),
     }
 }
 
 /// Appends the end of the file, where it is within a text or a comment.
-fn finish(alloc: Global, tokens: &mut Tokens, mode: Mode, line: u32) -> Result<(), Memory>
+fn finish(tokens: &mut Tokens<'_>, mode: Mode, line: u32) -> Result<(), Memory>
     ensures { OnOk result (tokens.new ≡ tokens.old ++ spec.at_end mode line) }
 {
     match mode {
-        Mode::Inside => put(tokens, Kind::Unclosed, Text::new(String::new(alloc)), line),
+        Mode::Inside => put(tokens, Kind::Unclosed, Spelled::nothing(), line),
         _ => Ok(()),
     }
 }
 
 /// The tokens of a text. Where no token can be read, or the end of the file cuts off a text or a comment, the last of them
 /// says so.
-pub fn scan(alloc: Global, text: &str) -> Result<Tokens, Memory>
+pub fn scan(alloc: Global, text: &str) -> Result<Tokens<'_>, Memory>
     // Places count lines in 32 bits.
     requires { length text.now + 1 < 2 ^ 32 }
     ensures { IfOk result (λ ts. ts ≡ spec.tokens text.now) }
@@ -210,7 +223,7 @@ pub fn scan(alloc: Global, text: &str) -> Result<Tokens, Memory>
         line = line_at(line, spelling.as_bytes());
         rest = after;
     }
-    finish(alloc, &mut tokens, mode, line)?;
+    finish(&mut tokens, mode, line)?;
     Ok(tokens)
 }
 

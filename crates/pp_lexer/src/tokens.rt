@@ -9,11 +9,11 @@ use std::marker::Model;
 
 /// A list of tokens.
 #[derive(Debug, Drop)]
-pub struct Tokens {
-    items: Vec<Token>,
+pub struct Tokens<'a> {
+    items: Vec<Token<'a>>,
 }
 
-impl Model for Tokens {
+impl<'a> Model for Tokens<'a> {
     ghost use Rattle.std.specs.Prelude.{List};
     ghost use Rattle.pp_lexer.specs.declared.token.Token.{Token};
 
@@ -22,8 +22,8 @@ impl Model for Tokens {
     ghost view = { λ l. l.items.items };
 }
 
-impl Tokens {
-    pub fn new(alloc: Global) -> Tokens
+impl<'a> Tokens<'a> {
+    pub fn new(alloc: Global) -> Tokens<'a>
         ensures { result ≡ [] }
     {
         Tokens {
@@ -43,15 +43,15 @@ impl Tokens {
         self.items.is_empty()
     }
 
-    pub fn as_slice(&self) -> &[Token]
+    pub fn as_slice(&self) -> &[Token<'a>]
         ensures { result.now ≡ self.now }
     {
         self.items.as_slice()
     }
 
     /// Appends a token. Where there is no memory, the list stays as it was.
-    pub fn push(&mut self, token: Token) -> Result<(), Memory>
-        ensures { self.new ≡ (if is_ok result then self.old ++ token ∷ [] else self.old) }
+    pub fn push(&mut self, token: Token<'a>) -> Result<(), Memory>
+        ensures { self.new ≡ (if is_ok result then self.old ++ token.entry ∷ [] else self.old) }
     {
         self.items.push(token)?;
         Ok(())

@@ -1,14 +1,15 @@
 -- Lists that go on from what was found already, and chains as a loop over the strengths.
-use Rattle.std.proofs.Common.{◌≡◌, ℕ, zero, suc, ◌+◌, ◌-◌, ◌<◌, ◌≤◌, Bool, List, [], ◌∷◌, ◌++◌, Option, Some, None, Ok, Err, refl, sym, ap, ◌∙◌, append_assoc, append-nil, arith}
+use Rattle.std.proofs.Common.{◌≡◌, ℕ, zero, suc, ◌+◌, ◌-◌, ◌<◌, ◌≤◌, Bool, List, [], ◌∷◌, ◌++◌, Option, Some, None, Ok, Err, refl, sym, ap, ◌∙◌, append_assoc, append-nil, length, arith}
+use Rattle.std.proofs.Math.Dec.{eqb-zero-suc}
 use Rattle.pp_lexer.specs.declared.kind.Kind.TheVariants as k
 use Rattle.pp_tree.specs.declared.expr.Form.TheVariants as form
 use Rattle.pp_tree.specs.declared.expr.Piece.TheVariants as piece
 use Rattle.pp_tree.specs.declared.expr.Expr.{Expr}
 use Rattle.pp_tree.specs.declared.expr.Operation.{Operation}
 use Rattle.pp_parser.specs.declared.started.Started.{Started}
-use Rattle.pp_parser.specs.Input.{Input, Parser, Outcome, and_then, ◌>>=◌, ◌>>◌, pure, expect, turns, more_or_done, repeat, repeat_from}
+use Rattle.pp_parser.specs.Input.{Input, Parser, Outcome, and_then, ◌>>=◌, ◌>>◌, pure, kind, expect, turns, more_or_done, repeat, repeat_from}
 use Rattle.pp_parser.specs.Inner.{Inner}
-use Rattle.pp_parser.specs.Expressions.{piece_rule, pieces, postfix_rule, postfixes, postfixed, operation_rule, operand, operand_from, chain, chained, climb}
+use Rattle.pp_parser.specs.Expressions.{piece_rule, pieces, postfix_rule, postfixes, postfixed, operation_rule, operand, operand_from, chain, chained, climb, binds, operator_at}
 use Rattle.pp_parser.proofs.Turns.{one_more, no_more}
 
 module _ {A : Type 0} (step : Parser (Option A)) where
@@ -95,6 +96,23 @@ module _ (inner : Inner) where
   pub chain_behind : (bars : Bool) (strength : ℕ) (i : Input)
       → chain inner bars strength None i ≡ and_then (operand inner bars i) (climb inner bars strength 1)
   chain_behind bars strength i = chain_climbs bars strength None i
+
+  repeat_stops : {A : Type 0} (step : Parser (Option A)) (i : Input) → step i ≡ Ok (None, i) → repeat step i ≡ Ok ([], i)
+  unfolding repeat repeat_from
+  repeat_stops step i none = let some : length i.left + 1 ≡ suc (length i.left) = omega arith in rw (some, none) refl
+
+  operation_none : (tighter : Parser Expr) (strength : ℕ) (i : Input) → binds (kind i) ≡ 0 → 0 < strength → operation_rule inner tighter strength i ≡ Ok (None, i)
+  unfolding operation_rule operator_at
+  operation_none tighter zero i none some = absurd (omega arith)
+  operation_none tighter (suc n) i none some = rw (none, eqb-zero-suc n) refl
+
+  -- where no operator follows, an operand stands alone
+  pub climb_alone : (bars : Bool) (n strength : ℕ) (x : Expr) (i : Input) → binds (kind i) ≡ 0 → 0 < strength → climb inner bars n strength x i ≡ Ok (x, i)
+  unfolding climb
+  climb_alone bars zero strength x i none some = refl
+  climb_alone bars (suc n) strength x i none some =
+      rw (repeat_stops (operation_rule inner (chain inner bars (strength - 1) None) strength) i (operation_none (chain inner bars (strength - 1) None) strength i none some))
+      (climb_alone bars n (strength + 1) x i none (omega arith))
 
   pub climb_on : (bars : Bool) (end strength : ℕ) (x : Expr) (i : Input) → strength < end
       → climb inner bars (end - strength) strength x i

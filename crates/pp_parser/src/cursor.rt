@@ -15,7 +15,7 @@ use std::marker::Model;
 /// The tokens that are left, and the line of the first key that stood twice in its hash literal so far.
 #[derive(Drop)]
 pub struct Cursor<'a> {
-    left: &'a [Token],
+    left: &'a [Token<'a>],
     doubled: Option<u32>,
 }
 
@@ -30,7 +30,7 @@ impl<'a> Model for Cursor<'a> {
 }
 
 impl<'a> Cursor<'a> {
-    pub fn new(left: &'a [Token]) -> Cursor<'a>
+    pub fn new(left: &'a [Token<'a>]) -> Cursor<'a>
         ensures { result ≡ record { left = left.now; doubled = None } }
     {
         Cursor {
@@ -83,7 +83,7 @@ impl<'a> Cursor<'a> {
 
     /// The next token, whatever its kind.
     #[tactic(auto, unfolding(crate::specs::Input::take))]
-    pub fn take(&mut self) -> Result<&'a Token, Refusal>
+    pub fn take(&mut self) -> Result<&'a Token<'a>, Refusal>
         ensures { Takes (spec.take self.old) result self.new }
     {
         match self.left {
@@ -108,7 +108,7 @@ impl<'a> Cursor<'a> {
 
     /// A token of this kind.
     #[tactic(auto, unfolding(crate::specs::Input::expect))]
-    pub fn expect(&mut self, kind: Kind) -> Result<&'a Token, Refusal>
+    pub fn expect(&mut self, kind: Kind) -> Result<&'a Token<'a>, Refusal>
         ensures { Takes (spec.expect kind self.old) result self.new }
     {
         if !self.sees(kind) {
@@ -119,7 +119,7 @@ impl<'a> Cursor<'a> {
 
     /// A name.
     #[tactic(auto, unfolding(crate::specs::Input::expect_any))]
-    pub fn expect_name(&mut self) -> Result<&'a Token, Refusal>
+    pub fn expect_name(&mut self) -> Result<&'a Token<'a>, Refusal>
         ensures { Takes (spec.expect_any is_name self.old) result self.new }
     {
         if !is_name(self.peek()) {
@@ -130,7 +130,7 @@ impl<'a> Cursor<'a> {
 
     /// A name or a keyword.
     #[tactic(auto, unfolding(crate::specs::Input::expect_any))]
-    pub fn expect_word(&mut self) -> Result<&'a Token, Refusal>
+    pub fn expect_word(&mut self) -> Result<&'a Token<'a>, Refusal>
         ensures { Takes (spec.expect_any is_word self.old) result self.new }
     {
         if !is_word(self.peek()) {
@@ -141,7 +141,7 @@ impl<'a> Cursor<'a> {
 
     /// A bar of a lambda's parameters.
     #[tactic(auto, unfolding(crate::specs::Input::expect_any))]
-    pub fn expect_bar(&mut self) -> Result<&'a Token, Refusal>
+    pub fn expect_bar(&mut self) -> Result<&'a Token<'a>, Refusal>
         ensures { Takes (spec.expect_any is_bar self.old) result self.new }
     {
         if !is_bar(self.peek()) {
@@ -164,7 +164,7 @@ impl<'a> Cursor<'a> {
 
     /// A token of this kind, which opens a level.
     #[tactic(auto, unfolding(crate::specs::Input::open_level))]
-    pub fn open_level(&mut self, is_deepest: bool, kind: Kind) -> Result<&'a Token, Refusal>
+    pub fn open_level(&mut self, is_deepest: bool, kind: Kind) -> Result<&'a Token<'a>, Refusal>
         ensures { Takes (spec.open_level is_deepest kind self.old) result self.new }
     {
         if !self.sees(kind) {

@@ -49,7 +49,7 @@ fn stop_at(alloc: Global, file: &Text, what: What, line: u32) -> Stop
 
 /// The line of the first token, or of the end of the file.
 #[tactic(auto, unfolding(crate::specs::Manifest::line_from))]
-fn line_from(end: u32, tokens: &[Token]) -> u32
+fn line_from(end: u32, tokens: &[Token<'_>]) -> u32
     ensures { result ≡ manifest.line_from end tokens.now }
 {
     match tokens {
@@ -59,7 +59,7 @@ fn line_from(end: u32, tokens: &[Token]) -> u32
 }
 
 /// The line of the place from which so many tokens are left; that of none is the end of the file.
-fn line_of(end: u32, tokens: &[Token], left: usize) -> u32
+fn line_of(end: u32, tokens: &[Token<'_>], left: usize) -> u32
     ensures { result ≡ manifest.line_of end tokens.now left }
 {
     let at = tokens.len().saturating_sub(left);
@@ -67,7 +67,7 @@ fn line_of(end: u32, tokens: &[Token], left: usize) -> u32
 }
 
 /// The fault of a text that has no tree.
-fn refused(alloc: Global, file: &Text, end: u32, tokens: &[Token], refusal: Refusal) -> Stop
+fn refused(alloc: Global, file: &Text, end: u32, tokens: &[Token<'_>], refusal: Refusal) -> Stop
     ensures { Answers (Err result) (manifest.file_from file.now end tokens.now (Err refusal)) }
 {
     match refusal {
@@ -123,11 +123,13 @@ pub fn parse(alloc: Global, file: &Text, text: &Text) -> Result<File, Stop>
     ensures answer { Answers result (manifest.file_of file.now text.now) }
 {
     let tokens = scan(alloc, text.as_str())?;
-    let end = end_line(text.as_str());
     let mut left = Cursor::new(tokens.as_slice());
     match read_file(alloc, file, &mut left) {
         Ok(found) => file_with(alloc, file, found, left.doubled()),
         Err(Refusal::Memory) => Err(Stop::Memory),
-        Err(refusal) => Err(refused(alloc, file, end, tokens.as_slice(), refusal)),
+        Err(refusal) => {
+            let end = end_line(text.as_str());
+            Err(refused(alloc, file, end, tokens.as_slice(), refusal))
+        }
     }
 }

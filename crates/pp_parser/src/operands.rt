@@ -39,7 +39,7 @@ fn arrow_at(next: Option<Kind>) -> Option<Arrow>
 }
 
 /// A name and where it stands.
-pub fn name_of(alloc: Global, token: &Token) -> Result<Name, Memory>
+pub fn name_of(alloc: Global, token: &Token<'_>) -> Result<Name, Memory>
     ensures { IfOk result (λ name. name ≡ spec.name_of token.now) }
 {
     Ok(Name {

@@ -153,7 +153,7 @@ impl<F: Fn(Global, &mut Cursor<'_>, usize, Goal) -> Result<Part, Refusal>> Rules
     ///
     /// A loop over the strengths, where the rule recurs: only an operand within an operand of a looser operator is a call within a call.
     #[cycle(climb)]
-    #[tactic(auto, using(crate::proofs::Behind::climb_on, crate::proofs::Behind::climb_done))]
+    #[tactic(auto, using(crate::proofs::Behind::climb_on, crate::proofs::Behind::climb_done, crate::proofs::Behind::climb_alone))]
     fn climb(
         &self,
         tokens: &mut Cursor<'_>,
@@ -164,6 +164,9 @@ impl<F: Fn(Global, &mut Cursor<'_>, usize, Goal) -> Result<Part, Refusal>> Rules
         requires { Nests self.now.levels (F.pre self.now.inner) (F.post self.now.inner) }
         ensures { Reads (spec.climb (within self.now.levels) bars loosest 1 first tokens.old) result tokens.new }
     {
+        if binds(tokens.peek()) == 0 {
+            return Ok(first);
+        }
         let mut x = first;
         for strength in 1..=loosest {
             let more = self.operations(tokens, bars, strength)?;

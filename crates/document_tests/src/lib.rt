@@ -1,4 +1,4 @@
-//! The tests of bundles, and of the texts of faults, catalogs and logs.
+//! The tests of bundles, and of the texts of faults and of edges.
 #![tactic(auto)]
 
 #[cfg(test)]
@@ -7,5 +7,3 @@ mod bundles;
 mod catalogs;
 #[cfg(test)]
 mod faults;
-#[cfg(test)]
-mod logs;

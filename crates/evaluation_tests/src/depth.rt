@@ -50,7 +50,7 @@ fn first_expression(main: &File) -> Option<&Expr> {
 
 fn given(alloc: Global, answer: Result<Evaluated, Stop>) -> Result<String, Memory> {
     match answer {
-        Ok(value) => Ok(text_of(alloc, value.as_value())?.into_string()),
+        Ok(value) => Ok(text_of(alloc, value.as_value())?.into_string(alloc)?),
         Err(stop) => stop_told(alloc, &stop),
     }
 }

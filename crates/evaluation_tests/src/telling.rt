@@ -99,7 +99,7 @@ fn told_of(alloc: Global, environment: Environment<'_>) -> Result<String, Memory
 pub fn stop_told(alloc: Global, stop: &Stop) -> Result<String, Memory> {
     match stop {
         Stop::Fault(fault) => {
-            let mut line = fault_text(alloc, fault)?.into_string();
+            let mut line = fault_text(alloc, fault)?.into_string(alloc)?;
             line.push_str("; ")?;
             Ok(line)
         }

@@ -18,9 +18,9 @@ fn write_paths(out: &mut String, paths: &LevelPaths) -> Result<(), Memory> {
             name,
             template,
         } => {
-            for part in [variable, name, template] {
+            for part in [variable.as_str(), name.as_str(), template.as_str()] {
                 out.push_str(" :")?;
-                out.push_str(part.as_str())?;
+                out.push_str(part)?;
             }
             Ok(())
         }

@@ -1,23 +1,23 @@
 //! JSON data as values, by the forms of these.
+use crate::sites::form_text;
 use json_values::{DataStop, FormStop, Numbers, from_data, to_form};
 use pp_values::{Memory, Value, Values};
 use serde_json::Value as Json;
 use std::alloc::Global;
 use std::test::Fail;
 
-/// The form of the value that a JSON text gives; `None` where a number is refused.
-fn through(alloc: Global, text: &str, mode: Numbers) -> Result<Option<Json>, Fail> {
-    let json = Json::from_str(alloc, text)?;
-    match from_data(alloc, &json, mode) {
-        Ok(value) => Ok(Some(to_form(alloc, &value)?)),
+/// The value that a JSON text gives; `None` where a number is refused.
+fn read(alloc: Global, text: &str, mode: Numbers) -> Result<Option<Value>, Fail> {
+    match from_data(alloc, &Json::from_str(alloc, text)?, mode) {
+        Ok(value) => Ok(Some(value)),
         Err(DataStop::Number) => Ok(None),
         Err(DataStop::Memory) => Err(Fail::from(Memory)),
     }
 }
 
 fn gives(alloc: Global, text: &str, mode: Numbers, want: Option<&str>) -> Result<bool, Fail> {
-    match (through(alloc, text, mode)?, want) {
-        (Some(form), Some(want)) => Ok(form.to_string(alloc)?.as_str() == want),
+    match (read(alloc, text, mode)?, want) {
+        (Some(value), Some(want)) => Ok(form_text(alloc, &value)?.as_str() == want),
         (None, None) => Ok(true),
         _ => Ok(false),
     }
@@ -83,12 +83,20 @@ fn others(rt: HostRuntime) -> Result<(), Fail> {
     Ok(())
 }
 
-#[test]
-fn no_form(rt: HostRuntime) -> Result<(), Fail> {
-    let alloc = rt.alloc();
+/// A list with `default` in it.
+fn with_default(alloc: Global) -> Result<Value, Memory> {
     let mut items = Values::new(alloc);
     items.push(Value::Int(1))?;
     items.push(Value::Default)?;
-    assert!(rt; matches!(to_form(alloc, &Value::List(items)), Err(FormStop::NoForm)));
+    Ok(Value::List(items))
+}
+
+fn has_no_form(alloc: Global) -> Result<bool, Fail> {
+    Ok(matches!(to_form(alloc, &with_default(alloc)?), Err(FormStop::NoForm)))
+}
+
+#[test]
+fn no_form(rt: HostRuntime) -> Result<(), Fail> {
+    assert!(rt; has_no_form(rt.alloc())?);
     Ok(())
 }

@@ -1,23 +1,23 @@
 //! Values out of their forms.
-use json_values::{FormStop, from_form, to_form};
-use pp_values::Memory;
+use crate::sites::form_text;
+use json_values::{FormStop, from_form};
+use pp_values::{Memory, Value};
 use serde_json::Value as Json;
 use std::alloc::Global;
 use std::test::Fail;
 
-/// The form of the value that was read out of a form; `None` where it is no form.
-fn again(alloc: Global, text: &str) -> Result<Option<Json>, Fail> {
-    let json = Json::from_str(alloc, text)?;
-    match from_form(alloc, &json) {
-        Ok(value) => Ok(Some(to_form(alloc, &value)?)),
+/// The value that a form is of; `None` where it is no form.
+fn read(alloc: Global, text: &str) -> Result<Option<Value>, Fail> {
+    match from_form(alloc, &Json::from_str(alloc, text)?) {
+        Ok(value) => Ok(Some(value)),
         Err(FormStop::NoForm) => Ok(None),
         Err(FormStop::Memory) => Err(Fail::from(Memory)),
     }
 }
 
 fn is_form(alloc: Global, text: &str) -> Result<bool, Fail> {
-    match again(alloc, text)? {
-        Some(form) => Ok(form.to_string(alloc)?.as_str() == text),
+    match read(alloc, text)? {
+        Some(value) => Ok(form_text(alloc, &value)?.as_str() == text),
         None => Ok(false),
     }
 }
@@ -69,10 +69,14 @@ const NO_FORMS: [&str; 17] = [
     "{\"__ptype\":\"Ref\",\"kind\":\"file\",\"title\":\"a\",\"x\":1}",
 ];
 
+fn is_none(alloc: Global, text: &str) -> Result<bool, Fail> {
+    Ok(read(alloc, text)?.is_none())
+}
+
 #[test]
 fn no_forms(rt: HostRuntime) -> Result<(), Fail> {
     for text in NO_FORMS.iter() {
-        assert!(rt; again(rt.alloc(), text)?.is_none(), "{text}");
+        assert!(rt; is_none(rt.alloc(), text)?, "{text}");
     }
     Ok(())
 }

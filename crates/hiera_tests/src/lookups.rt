@@ -1,9 +1,8 @@
 //! Look-ups over a site's data, by the forms of what they give or the lines of their faults.
-use crate::sites::{Files, data_of, fault_line, scopes_with};
+use crate::sites::{Files, data_of, fault_line, form_text, scopes_with};
 use hiera_config::{SiteData, data_from};
 use hiera_lookup::lookup;
 use hiera_merge::Merge;
-use json_values::to_form;
 use pp_values::{Fault, Memory, Place, Stop, Text, TextPairs, Value};
 use scope_core::{ScopeId, Scopes};
 use std::alloc::Global;
@@ -21,7 +20,7 @@ fn placed_line(alloc: Global, fault: &Fault) -> Result<String, Memory> {
 
 fn told(alloc: Global, answer: Result<Option<Value>, Stop>) -> Result<String, Fail> {
     match answer {
-        Ok(Some(value)) => Ok(to_form(alloc, &value)?.to_string(alloc)?),
+        Ok(Some(value)) => form_text(alloc, &value),
         Ok(None) => Ok(String::from_str(alloc, "none")?),
         Err(Stop::Fault(fault)) => Ok(placed_line(alloc, &fault)?),
         Err(Stop::Memory) => Err(Fail::from(Memory)),
@@ -285,12 +284,21 @@ fn chain(alloc: Global, count: u32) -> Result<String, Memory> {
     Ok(out)
 }
 
+/// How many keys, the one that is looked up, and what it gives.
+const CHAINS: [(u32, &str, &str); 3] = [
+    (199, "k1", "\"end\""),
+    (200, "k1", "F29"),
+    (200, "k2", "\"end\""),
+];
+
+fn ends_in(alloc: Global, count: u32, key: &str, want: &str) -> Result<bool, Fail> {
+    looks_in(alloc, chain(alloc, count)?.as_str(), key, want)
+}
+
 #[test]
 fn depth(rt: HostRuntime) -> Result<(), Fail> {
-    let lawful = chain(rt.alloc(), 199)?;
-    assert!(rt; looks_in(rt.alloc(), lawful.as_str(), "k1", "\"end\"")?);
-    let deep = chain(rt.alloc(), 200)?;
-    assert!(rt; looks_in(rt.alloc(), deep.as_str(), "k1", "F29")?);
-    assert!(rt; looks_in(rt.alloc(), deep.as_str(), "k2", "\"end\"")?);
+    for (count, key, want) in CHAINS.iter() {
+        assert!(rt; ends_in(rt.alloc(), *count, key, want)?, "{count} {key}");
+    }
     Ok(())
 }

@@ -1,19 +1,9 @@
 //! The merges, and what a dotted key leads to, on JSON data and the forms of what they give.
+use crate::sites::{form_text, value_of};
 use hiera_merge::{Merge, dig, merge_in, merge_of, merged, parts};
-use json_values::{DataStop, Numbers, from_data, to_form};
-use pp_values::{Memory, Value};
-use serde_json::Value as Json;
+use pp_values::{Memory, Value, copy};
 use std::alloc::Global;
 use std::test::Fail;
-
-fn value(alloc: Global, text: &str) -> Result<Value, Fail> {
-    let json = Json::from_str(alloc, text)?;
-    match from_data(alloc, &json, Numbers::Strict) {
-        Ok(value) => Ok(value),
-        Err(DataStop::Number) => Ok(Value::Default),
-        Err(DataStop::Memory) => Err(Fail::from(Memory)),
-    }
-}
 
 fn merge_each(alloc: Global, merge: Merge, sources: &[Value]) -> Result<Option<Value>, Memory> {
     let mut all = Vec::new(alloc);
@@ -35,16 +25,15 @@ fn merge_list(alloc: Global, merge: Merge, sources: &Value) -> Result<Option<Val
 
 fn is_form(alloc: Global, value: &Option<Value>, want: Option<&str>) -> Result<bool, Fail> {
     match (value, want) {
-        (Some(value), Some(want)) => Ok(to_form(alloc, value)?.to_string(alloc)?.as_str() == want),
+        (Some(value), Some(want)) => Ok(form_text(alloc, value)?.as_str() == want),
         (None, None) => Ok(true),
         _ => Ok(false),
     }
 }
 
 fn gives(alloc: Global, merge: Merge, sources: &str, want: Option<&str>) -> Result<bool, Fail> {
-    let sources = value(alloc, sources)?;
-    let value = merge_list(alloc, merge, &sources)?;
-    is_form(alloc, &value, want)
+    let merged = merge_list(alloc, merge, &value_of(alloc, sources)?)?;
+    is_form(alloc, &merged, want)
 }
 
 const THREE: &str =
@@ -91,13 +80,16 @@ fn merges(rt: HostRuntime) -> Result<(), Fail> {
     Ok(())
 }
 
-fn digs(alloc: Global, whole: &str, key: &str, want: Option<&str>) -> Result<bool, Fail> {
-    let whole = value(alloc, whole)?;
+fn dug_out(alloc: Global, whole: &Value, key: &str) -> Result<Option<Value>, Memory> {
     let steps = parts(alloc, key)?;
-    let found = match dig(&whole, steps.as_slice()) {
-        Some(value) => Some(pp_values::copy(alloc, value)?),
-        None => None,
-    };
+    match dig(whole, steps.as_slice()) {
+        Some(value) => Ok(Some(copy(alloc, value)?)),
+        None => Ok(None),
+    }
+}
+
+fn digs(alloc: Global, whole: &str, key: &str, want: Option<&str>) -> Result<bool, Fail> {
+    let found = dug_out(alloc, &value_of(alloc, whole)?, key)?;
     is_form(alloc, &found, want)
 }
 
@@ -135,10 +127,14 @@ const NAMES: [(&str, Option<Merge>); 9] = [
     ("1", None),
 ];
 
+fn is_named(alloc: Global, text: &str, want: Option<Merge>) -> Result<bool, Fail> {
+    Ok(merge_in(&value_of(alloc, text)?) == want)
+}
+
 #[test]
 fn names(rt: HostRuntime) -> Result<(), Fail> {
     for (text, want) in NAMES.iter() {
-        assert!(rt; merge_in(&value(rt.alloc(), text)?) == *want, "{text}");
+        assert!(rt; is_named(rt.alloc(), text, *want)?, "{text}");
     }
     Ok(())
 }
@@ -152,10 +148,14 @@ const OPTIONS: [(&str, Option<Merge>); 6] = [
     ("\"unique\"", None),
 ];
 
+fn is_option(alloc: Global, text: &str, want: Option<Merge>) -> Result<bool, Fail> {
+    Ok(merge_of(&value_of(alloc, text)?) == want)
+}
+
 #[test]
 fn options(rt: HostRuntime) -> Result<(), Fail> {
     for (text, want) in OPTIONS.iter() {
-        assert!(rt; merge_of(&value(rt.alloc(), text)?) == *want, "{text}");
+        assert!(rt; is_option(rt.alloc(), text, *want)?, "{text}");
     }
     Ok(())
 }

@@ -1,6 +1,6 @@
 //! Sites of data for the tests, and the lines of what calls answer.
 use hiera_config::{SiteData, data_from};
-use json_values::{Numbers, from_data};
+use json_values::{Numbers, from_data, to_form};
 use pp_values::{Memory, Place, Text, TextPairs, Value, What};
 use scope_core::{ScopeId, Scopes};
 use serde_json::Value as Json;
@@ -19,18 +19,29 @@ pub fn data_of(alloc: Global, files: Files) -> Result<SiteData, Memory> {
     data_from(alloc, &pairs)
 }
 
-fn value_of(alloc: Global, json: &str) -> Result<Value, Fail> {
+/// The value that a JSON text gives.
+pub fn value_of(alloc: Global, json: &str) -> Result<Value, Fail> {
     Ok(from_data(alloc, &Json::from_str(alloc, json)?, Numbers::Strict)?)
+}
+
+/// The text of a value's form.
+pub fn form_text(alloc: Global, value: &Value) -> Result<String, Fail> {
+    Ok(to_form(alloc, value)?.to_string(alloc)?)
 }
 
 /// Top scope with one variable.
 pub fn scopes_with(alloc: Global, name: &str, json: &str) -> Result<Scopes, Fail> {
-    let value = value_of(alloc, json)?;
+    let mut scopes = Scopes::new(alloc)?;
+    set(alloc, &mut scopes, name, json)?;
+    Ok(scopes)
+}
+
+fn set(alloc: Global, scopes: &mut Scopes, name: &str, json: &str) -> Result<(), Fail> {
     let name = Text::from_str(alloc, name)?;
     let file = Text::from_str(alloc, "")?;
-    let mut scopes = Scopes::new(alloc)?;
+    let value = value_of(alloc, json)?;
     match scopes.assign(alloc, ScopeId::TOP, &name, value, &Place { file, line: 1 }) {
-        Ok(()) => Ok(scopes),
+        Ok(()) => Ok(()),
         Err(_) => Err(Fail::from(Memory)),
     }
 }

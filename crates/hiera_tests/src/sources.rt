@@ -1,17 +1,15 @@
 //! Sources of keys, by the paths and the forms of what they have.
-use crate::sites::{Files, data_of, fault_line, scopes_with};
+use crate::sites::{Files, data_of, fault_line, form_text, scopes_with};
 use hiera_config::{Refused, SiteData, Source, Variables, module_of, sources};
-use json_values::to_form;
 use pp_values::{Memory, Text};
 use scope_core::ScopeId;
 use std::alloc::Global;
 use std::test::Fail;
 
 fn write_source(alloc: Global, out: &mut String, source: &Source) -> Result<(), Fail> {
-    let form = to_form(alloc, &source.value)?;
     out.push_str(source.path.as_str())?;
     out.push_str(" ")?;
-    out.push_str(form.to_string(alloc)?.as_str())?;
+    out.push_str(form_text(alloc, &source.value)?.as_str())?;
     out.push_str(";")?;
     Ok(())
 }
@@ -160,15 +158,18 @@ fn files_with(alloc: Global, level: &str) -> Result<SiteData, Fail> {
     Ok(data)
 }
 
+fn leads(alloc: Global, level: &str, facts: &str, want: &str) -> Result<bool, Fail> {
+    let data = files_with(alloc, level)?;
+    let scopes = scopes_with(alloc, "facts", facts)?;
+    let variables = Variables::in_scope(&scopes, ScopeId::TOP);
+    let answer = sources(alloc, &data, &variables, None, "k");
+    Ok(told(alloc, answer)?.as_str() == want)
+}
+
 #[test]
 fn paths(rt: HostRuntime) -> Result<(), Fail> {
     for (level, facts, want) in PATHS.iter() {
-        let alloc = rt.alloc();
-        let data = files_with(alloc, level)?;
-        let scopes = scopes_with(alloc, "facts", facts)?;
-        let variables = Variables::in_scope(&scopes, ScopeId::TOP);
-        let answer = sources(alloc, &data, &variables, None, "k");
-        assert!(rt; told(alloc, answer)?.as_str() == *want, "{level}");
+        assert!(rt; leads(rt.alloc(), level, facts, want)?, "{level}");
     }
     Ok(())
 }

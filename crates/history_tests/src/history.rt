@@ -163,22 +163,3 @@ fn histories_grow_by_events(rt: HostRuntime) -> Result<(), Fail> {
     }
     Ok(())
 }
-
-/// Whether a compile that began before another entry came ends behind it.
-fn older_compile_ends_last(alloc: Global) -> Result<bool, Fail> {
-    let mut core = opened(alloc, 5)?;
-    let snapshot = core.snap(alloc)?;
-    let gone = Text::from_str(alloc, "a")?;
-    let entry = core.deactivate(alloc, 1, gone)?;
-    let node = Text::from_str(alloc, "b")?;
-    let reply = finish(alloc, &Toy, &mut core, 0, node, snapshot)?;
-    let mut out = String::new(alloc);
-    write_reply(&mut out, &reply)?;
-    Ok(entry == 1 && out.as_str() == "served 2 1 false;")
-}
-
-#[test]
-fn an_older_compile_ends_last(rt: HostRuntime) -> Result<(), Fail> {
-    assert!(rt; older_compile_ends_last(rt.alloc())?);
-    Ok(())
-}

@@ -163,21 +163,3 @@ fn queries_find_by_kind_tag_and_node(rt: HostRuntime) -> Result<(), Fail> {
     }
     Ok(())
 }
-
-fn has(alloc: Global, version: &Version, node: &str) -> Result<bool, Memory> {
-    let node = Text::from_str(alloc, node)?;
-    Ok(version.get(&node).is_some())
-}
-
-// Whether taking a set away leaves the version as it was from which it is taken.
-fn keeps_the_older(alloc: Global) -> Result<bool, Memory> {
-    let version = after(alloc, "a: host x dns")?;
-    let gone = without(alloc, &version, "a")?;
-    Ok(has(alloc, &version, "a")? && !has(alloc, &gone, "a")?)
-}
-
-#[test]
-fn an_older_version_stays(rt: HostRuntime) -> Result<(), Fail> {
-    assert!(rt; keeps_the_older(rt.alloc())?);
-    Ok(())
-}

@@ -1,9 +1,6 @@
 //! Sites with data: what `lookup` writes, and what `sequence` makes of them, over streams in memory.
-use crate::commands::{Failing, NONE, ends_as, is_outcome, run};
-use std::alloc::{AllocError, Global};
-use std::sync::Wait;
+use crate::commands::{NONE, Run, ends_so};
 use std::test::Fail;
-use std::thread::Threads;
 
 /// The value of `a` is a number that is no integer, that of `b` is one.
 const NUMBERS: &str =
@@ -25,11 +22,13 @@ const WITHIN: &str =
 const NODES: &str =
     r#"{"bundle": 1, "files": {"manifests/site.pp": "notify {", "hiera.yaml": "{\"version\":5,\"hierarchy\":[{\"name\":\"nodes\",\"path\":\"%{trusted.certname}.json\"},{\"name\":\"common\",\"path\":\"common.json\"}]}", "data/web1.json": "{\"who\":\"web1 itself\"}", "data/common.json": "{\"os\":\"<%{os}>\",\"facts\":\"%{alias('all')}\",\"all\":[\"%{facts.os}\"],\"who\":\"%{trusted.hostname} in %{trusted.domain}\",\"at\":\"%{environment}\"}"}, "nodes": {"web1": {"os": "debian"}, "lb": {}}}"#;
 
-const LOOKUPS: [(&str, &str, u8, &str, &str); 26] = [
-    ("lookup|n|b", NUMBERS, 0, "1\n", ""),
+const LOOKUPS: [Run<'static>; 34] = [
+    // The value of a key, by a merge and by the data of a node.
+    ("lookup|n|b", NUMBERS, NONE, 0, "1\n", ""),
     (
         "lookup|n|a",
         NUMBERS,
+        NONE,
         1,
         "",
         "F23 lookup:1 BadData data/common.json\n",
@@ -37,6 +36,7 @@ const LOOKUPS: [(&str, &str, u8, &str, &str); 26] = [
     (
         "lookup|n|k|--merge|first",
         HASHES,
+        NONE,
         0,
         "{\"a\":1,\"b\":[1,2]}\n",
         "",
@@ -44,6 +44,7 @@ const LOOKUPS: [(&str, &str, u8, &str, &str); 26] = [
     (
         "lookup|n|k|--merge|hash",
         HASHES,
+        NONE,
         0,
         "{\"__ptype\":\"Hash\",\"__pvalue\":[\"c\",{\"x\":1},\"d\",5,\"a\",1,\"b\",[1,2]]}\n",
         "",
@@ -51,6 +52,7 @@ const LOOKUPS: [(&str, &str, u8, &str, &str); 26] = [
     (
         "lookup|n|k|--merge|deep",
         HASHES,
+        NONE,
         0,
         r#"{"__ptype":"Hash","__pvalue":["c",{"__ptype":"Hash","__pvalue":["y",2,"x",1]},"d",5,"a",1,"b",[2,3,1]]}
 "#,
@@ -59,28 +61,52 @@ const LOOKUPS: [(&str, &str, u8, &str, &str); 26] = [
     (
         "lookup|n|k|--merge|unique",
         HASHES,
+        NONE,
         1,
         "",
         "F22 lookup:1 MergeMismatch k\n",
     ),
-    ("lookup|n|k", HASHES, 0, "{\"a\":1,\"b\":[1,2]}\n", ""),
-    ("lookup|n|k.b.1", HASHES, 0, "2\n", ""),
+    ("lookup|n|k", HASHES, NONE, 0, "{\"a\":1,\"b\":[1,2]}\n", ""),
+    ("lookup|n|k.b.1", HASHES, NONE, 0, "2\n", ""),
     (
         "lookup|n|k.c",
         HASHES,
+        NONE,
         1,
         "",
         "F20 lookup:1 LookupMissing k.c\n",
     ),
-    ("lookup|n|k.c|--merge|hash", HASHES, 0, "{\"x\":1}\n", ""),
-    ("lookup|n|k|--merge|unique", LISTS, 0, "[1,2,3,\"4\"]\n", ""),
-    ("lookup|n|o", LISTS, 0, "[1,2]\n", ""),
-    ("lookup|n|o|--merge|first", LISTS, 0, "[1]\n", ""),
-    ("lookup|n|m", WITHIN, 0, "\"xy\"\n", ""),
-    ("lookup|n|a", WITHIN, 1, "", "F21 lookup:1 LookupLoop a\n"),
+    (
+        "lookup|n|k.c|--merge|hash",
+        HASHES,
+        NONE,
+        0,
+        "{\"x\":1}\n",
+        "",
+    ),
+    (
+        "lookup|n|k|--merge|unique",
+        LISTS,
+        NONE,
+        0,
+        "[1,2,3,\"4\"]\n",
+        "",
+    ),
+    ("lookup|n|o", LISTS, NONE, 0, "[1,2]\n", ""),
+    ("lookup|n|o|--merge|first", LISTS, NONE, 0, "[1]\n", ""),
+    ("lookup|n|m", WITHIN, NONE, 0, "\"xy\"\n", ""),
+    (
+        "lookup|n|a",
+        WITHIN,
+        NONE,
+        1,
+        "",
+        "F21 lookup:1 LookupLoop a\n",
+    ),
     (
         "lookup|n|zz",
         WITHIN,
+        NONE,
         1,
         "",
         "F20 lookup:1 LookupMissing zz\n",
@@ -88,82 +114,53 @@ const LOOKUPS: [(&str, &str, u8, &str, &str); 26] = [
     (
         "lookup|n|--merge",
         WITHIN,
+        NONE,
         1,
         "",
         "F20 lookup:1 LookupMissing --merge\n",
     ),
-    ("lookup|web1|os", NODES, 0, "\"<debian>\"\n", ""),
-    ("lookup|lb|os", NODES, 0, "\"<>\"\n", ""),
-    ("lookup|other|os", NODES, 0, "\"<>\"\n", ""),
-    ("lookup|web1|facts", NODES, 0, "[\"debian\"]\n", ""),
-    ("lookup|other|facts", NODES, 0, "[\"\"]\n", ""),
-    ("lookup|web1|who", NODES, 0, "\"web1 itself\"\n", ""),
-    ("lookup|lb.dom.ain|who", NODES, 0, "\"lb in dom.ain\"\n", ""),
-    ("lookup|lb|at", NODES, 0, "\"production\"\n", ""),
+    ("lookup|web1|os", NODES, NONE, 0, "\"<debian>\"\n", ""),
+    ("lookup|lb|os", NODES, NONE, 0, "\"<>\"\n", ""),
+    ("lookup|other|os", NODES, NONE, 0, "\"<>\"\n", ""),
+    ("lookup|web1|facts", NODES, NONE, 0, "[\"debian\"]\n", ""),
+    ("lookup|other|facts", NODES, NONE, 0, "[\"\"]\n", ""),
+    ("lookup|web1|who", NODES, NONE, 0, "\"web1 itself\"\n", ""),
+    (
+        "lookup|lb.dom.ain|who",
+        NODES,
+        NONE,
+        0,
+        "\"lb in dom.ain\"\n",
+        "",
+    ),
+    ("lookup|lb|at", NODES, NONE, 0, "\"production\"\n", ""),
     (
         "lookup|n|::os",
         NODES,
+        NONE,
         1,
         "",
         "F20 lookup:1 LookupMissing ::os\n",
     ),
-];
-
-#[test]
-fn values_are_looked_up(rt: HostRuntime) -> Result<(), Fail> {
-    for (words, bundle, status, out, err) in LOOKUPS.iter() {
-        assert!(rt;
-            ends_as(&rt, rt.alloc(), words, bundle.as_bytes(), *status, out, err)?,
-            "{words}"
-        );
-    }
-    Ok(())
-}
-
-/// Whether a look-up whose streams fail so ends with this status, and writes this.
-fn fails_as<R: Threads + Wait + Sync>(
-    rt: &R,
-    alloc: Global,
-    words: &str,
-    failing: Failing,
-    status: u8,
-    out: &str,
-    err: &str,
-) -> Result<bool, AllocError> {
-    let outcome = run(rt, alloc, words, NUMBERS.as_bytes(), failing)?;
-    Ok(is_outcome(&outcome, status, out, err))
-}
-
-const STREAMS: [(&str, Failing, u8, &str, &str); 6] = [
-    ("lookup|n|b", NONE, 0, "1\n", ""),
-    ("lookup|n|b", (1, 0, 0), 12, "", "read fault\n"),
-    ("lookup|n|b", (0, 1, 0), 13, "", ""),
-    ("lookup|n|b", (0, 0, 1), 0, "1\n", ""),
+    // Streams that fail.
+    ("lookup|n|b", NUMBERS, (1, 0, 0), 12, "", "read fault\n"),
+    ("lookup|n|b", NUMBERS, (0, 1, 0), 13, "", ""),
+    ("lookup|n|b", NUMBERS, (0, 0, 1), 0, "1\n", ""),
     (
         "lookup|n|z",
+        NUMBERS,
         (0, 1, 0),
         1,
         "",
         "F20 lookup:1 LookupMissing z\n",
     ),
-    ("lookup|n|z", (0, 0, 1), 13, "", ""),
-];
-
-#[test]
-fn faults_of_streams_are_told(rt: HostRuntime) -> Result<(), Fail> {
-    for (words, failing, status, out, err) in STREAMS.iter() {
-        assert!(rt;
-            fails_as(&rt, rt.alloc(), words, *failing, *status, out, err)?,
-            "{words} {status}"
-        );
-    }
-    Ok(())
-}
-
-/// Bundles with facts and data, and what one request after another comes to.
-const BUNDLES: [(&str, &str); 3] = [
+    ("lookup|n|z", NUMBERS, (0, 0, 1), 13, "", ""),
+    // Facts and data of the nodes that ask, one request after another.
     (
+        "sequence",
         r#"{"bundle": 1, "files": {"manifests/site.pp": "node default { @@host { $trusted['certname']: ip => $facts['networking']['ip'], tag => 'web' } }\nnode 'lb' { Host <<| tag == 'web' |>> }\n"}, "nodes": {"lb": {}, "web1": {"networking": {"ip": "10.0.0.1"}}}, "requests": [{"node": "lb"}, {"node": "web1"}, {"node": "lb"}, {"deactivate": "web1"}, {"node": "lb"}]}"#,
+        NONE,
+        0,
         r#"{"entry":0,"journal":1,"kind":"open","site":{"files":{"manifests/site.pp":"node default { @@host { $trusted['certname']: ip => $facts['networking']['ip'], tag => 'web' } }\nnode 'lb' { Host <<| tag == 'web' |>> }\n"},"nodes":{"lb":{},"web1":{"networking":{"ip":"10.0.0.1"}}}}}
 {"author":0,"call":0,"entry":1,"facts":{},"k":1,"kind":"publish","node":"lb","set":[]}
 {"author":0,"call":1,"entry":2,"facts":{"networking":{"ip":"10.0.0.1"}},"k":2,"kind":"publish","node":"web1","set":[{"at":"manifests/site.pp:1","attrs":{"ip":"10.0.0.1"},"tags":["class","host","main","web","web1"],"title":"web1","type":"Host"}]}
@@ -177,9 +174,13 @@ const BUNDLES: [(&str, &str); 3] = [
 {"entry":4,"reply":3}
 {"catalog":{"catalog":1,"edges":[],"node":"lb","resources":[{"attrs":{},"in":[],"tags":["class","main"],"title":"main","type":"Class"}]},"entry":5,"k":5,"reply":4}
 "#,
+        "",
     ),
     (
+        "sequence",
         r#"{"bundle":1,"files":{"manifests/site.pp":""},"nodes":{"a":{"load":0.5,"n":3}},"requests":[{"node":"a"},{"node":"b","facts":{"load":0.5,"n":3}}]}"#,
+        NONE,
+        0,
         r#"{"entry":0,"journal":1,"kind":"open","site":{"files":{"manifests/site.pp":""},"nodes":{"a":{"load":null,"n":3}}}}
 {"author":0,"call":0,"entry":1,"facts":{"load":null,"n":3},"k":1,"kind":"publish","node":"a","set":[]}
 {"author":0,"call":1,"entry":2,"facts":{"load":null,"n":3},"k":2,"kind":"publish","node":"b","set":[]}
@@ -187,9 +188,13 @@ const BUNDLES: [(&str, &str); 3] = [
 {"catalog":{"catalog":1,"edges":[],"node":"a","resources":[{"attrs":{},"in":[],"tags":["class","main"],"title":"main","type":"Class"}]},"entry":1,"k":1,"reply":0}
 {"catalog":{"catalog":1,"edges":[],"node":"b","resources":[{"attrs":{},"in":[],"tags":["class","main"],"title":"main","type":"Class"}]},"entry":2,"k":2,"reply":1}
 "#,
+        "",
     ),
     (
+        "sequence",
         r#"{"bundle": 1, "files": {"manifests/site.pp": "include ntp\n", "modules/ntp/manifests/init.pp": "class ntp($servers, $package = 'ntp') {\n  package { $package: ensure => installed }\n  file { '/etc/ntp.conf': content => join($servers, ' ') }\n}\n", "hiera.yaml": "{\"version\":5,\"hierarchy\":[{\"name\":\"nodes\",\"path\":\"nodes/%{trusted.certname}.json\"},{\"name\":\"common\",\"path\":\"common.json\"}]}", "data/common.json": "{\"ntp::servers\":[\"0.pool\",\"1.pool\"]}", "data/nodes/web1.json": "{\"ntp::servers\":[\"10.0.0.9\"]}"}, "nodes": {"a": {}, "web1": {}}, "requests": [{"node": "a"}, {"node": "web1"}]}"#,
+        NONE,
+        0,
         r#"{"entry":0,"journal":1,"kind":"open","site":{"files":{"data/common.json":"{\"ntp::servers\":[\"0.pool\",\"1.pool\"]}","data/nodes/web1.json":"{\"ntp::servers\":[\"10.0.0.9\"]}","hiera.yaml":"{\"version\":5,\"hierarchy\":[{\"name\":\"nodes\",\"path\":\"nodes/%{trusted.certname}.json\"},{\"name\":\"common\",\"path\":\"common.json\"}]}","manifests/site.pp":"include ntp\n","modules/ntp/manifests/init.pp":"class ntp($servers, $package = 'ntp') {\n  package { $package: ensure => installed }\n  file { '/etc/ntp.conf': content => join($servers, ' ') }\n}\n"},"nodes":{"a":{},"web1":{}}}}
 {"author":0,"call":0,"entry":1,"facts":{},"k":1,"kind":"publish","node":"a","set":[]}
 {"author":0,"call":1,"entry":2,"facts":{},"k":2,"kind":"publish","node":"web1","set":[]}
@@ -197,27 +202,15 @@ const BUNDLES: [(&str, &str); 3] = [
 {"catalog":{"catalog":1,"edges":[],"node":"a","resources":[{"attrs":{},"in":[],"tags":["class","main"],"title":"main","type":"Class"},{"attrs":{"package":"ntp","servers":["0.pool","1.pool"]},"in":[],"tags":["class","main","ntp"],"title":"ntp","type":"Class"},{"attrs":{"ensure":"installed"},"in":[1],"tags":["class","main","ntp","package"],"title":"ntp","type":"Package"},{"attrs":{"content":"0.pool 1.pool"},"in":[1],"tags":["class","file","main","ntp"],"title":"/etc/ntp.conf","type":"File"}]},"entry":1,"k":1,"reply":0}
 {"catalog":{"catalog":1,"edges":[],"node":"web1","resources":[{"attrs":{},"in":[],"tags":["class","main"],"title":"main","type":"Class"},{"attrs":{"package":"ntp","servers":["10.0.0.9"]},"in":[],"tags":["class","main","ntp"],"title":"ntp","type":"Class"},{"attrs":{"ensure":"installed"},"in":[1],"tags":["class","main","ntp","package"],"title":"ntp","type":"Package"},{"attrs":{"content":"10.0.0.9"},"in":[1],"tags":["class","file","main","ntp"],"title":"/etc/ntp.conf","type":"File"}]},"entry":2,"k":2,"reply":1}
 "#,
+        "",
     ),
 ];
 
-fn answers<R: Threads + Wait + Sync>(
-    rt: &R,
-    alloc: Global,
-    bundle: &str,
-    out: &str,
-) -> Result<bool, AllocError> {
-    for words in ["sequence", "batch"].iter() {
-        if !ends_as(rt, alloc, words, bundle.as_bytes(), 0, out, "")? {
-            return Ok(false);
-        }
-    }
-    Ok(true)
-}
-
 #[test]
-fn facts_and_data_count(rt: HostRuntime) -> Result<(), Fail> {
-    for (bundle, out) in BUNDLES.iter() {
-        assert!(rt; answers(&rt, rt.alloc(), bundle, out)?, "{bundle}");
+fn values_are_looked_up(rt: HostRuntime) -> Result<(), Fail> {
+    for run in LOOKUPS.iter() {
+        let words = run.0;
+        assert!(rt; ends_so(&rt, rt.alloc(), run)?, "{words}");
     }
     Ok(())
 }

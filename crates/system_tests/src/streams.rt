@@ -2,9 +2,8 @@ ghost use Rattle.std.specs.Prelude.{◌≡◌, ◌≤◌, Err, true, length};
 ghost use Rattle.site_io.specs.declared.transfer.ReadStop.TheVariants.{Fault};
 
 use site_io::{
-    Bytes, Got, MemSink, MemSource, ReadStop, ReaderSource, Sink, Source, StandardError,
-    StandardInput, StandardOutput, SureSink, SureSource, Took, WriteFault, WriterSink, read_all,
-    write_all,
+    Bytes, Got, MemSink, MemSource, ReadStop, ReaderSource, Sink, Source, SureSink, SureSource,
+    Took, WriteFault, WriterSink, read_all, write_all,
 };
 use std::alloc::{AllocError, Global};
 use std::io;
@@ -129,15 +128,6 @@ fn reads_and_writes_many_pieces(rt: HostRuntime) -> Result<(), Fail> {
     Ok(())
 }
 
-#[test]
-fn bytes_grow(rt: HostRuntime) -> Result<(), Fail> {
-    let mut bytes = Bytes::new(rt.alloc());
-    let is_empty = bytes.is_empty();
-    bytes.extend_from_slice(b"ab")?;
-    assert!(rt; is_empty && Bytes::from_vec(bytes.into_vec()).as_slice() == b"ab".as_slice());
-    Ok(())
-}
-
 /// A reader that gives `ab`, is interrupted, fails, gives `c`, ends, and after that would give more.
 #[derive(Drop)]
 struct FlakyReader {
@@ -185,13 +175,6 @@ fn adapts_a_reader(rt: HostRuntime) {
     assert!(rt; source.faults() == 1);
 }
 
-#[test]
-fn goes_on_after_a_fault(rt: HostRuntime) {
-    let mut source = ReaderSource::new(FlakyReader { calls: 0 });
-    assert!(rt; comes_to(rt.alloc(), &mut source, 9, Err(ReadStop::Fault)));
-    assert!(rt; comes_to(rt.alloc(), &mut source, 9, Ok(1)));
-}
-
 /// A writer that takes two bytes a call, is interrupted at its second call, takes none at its fourth, and
 /// fails at its sixth.
 #[derive(Drop)]
@@ -231,33 +214,6 @@ fn adapts_a_writer(rt: HostRuntime) {
         assert!(rt; write_all(&mut sink, bytes).is_ok() == is_whole);
         assert!(rt; sink.faults() == faults);
     }
-}
-
-#[test]
-fn writes_a_part_before_a_fault(rt: HostRuntime) -> Result<(), Fail> {
-    let mut sink = MemSink::new(rt.alloc(), 4, &[])?;
-    let are_written = write_all(&mut sink, b"abc").is_ok();
-    let is_refused = write_all(&mut sink, b"def").is_err();
-    assert!(rt; are_written && is_refused);
-    assert!(rt; sink.written() == b"abcd".as_slice() && sink.faults() == 1);
-    Ok(())
-}
-
-#[test]
-fn adapts_standard_input(rt: HostRuntime) -> Result<(), Fail> {
-    let mut input = StandardInput::new(rt.stdin());
-    read_all(rt.alloc(), &mut input, 1024)?;
-    assert!(rt; input.faults() == 0);
-    Ok(())
-}
-
-#[test]
-fn adapts_standard_output_and_error(rt: HostRuntime) {
-    let mut output = StandardOutput::new(rt.stdout());
-    assert!(rt; write_all(&mut output, b"to standard output\n").is_ok());
-    let mut error = StandardError::new(rt.stderr());
-    assert!(rt; write_all(&mut error, b"to standard error\n").is_ok());
-    assert!(rt; output.faults() == 0 && error.faults() == 0);
 }
 
 const CAUSES: [(ReadStop, &str); 3] = [

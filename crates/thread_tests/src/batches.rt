@@ -1,29 +1,20 @@
-//! Batches over the toy language, and over one whose compiles wait for one another.
-ghost use Rattle.std.specs.Prelude.{IsTrue};
-ghost use Rattle.res_core.specs.AskedFacts.{give_facts};
-
-use crate::accounts::{are_accounted, compiles};
-use crate::crowds::crowd;
+//! Batches over a language whose compiles wait for one another.
 use export_store::version::Version;
 use pp_values::memory::Memory;
 use pp_values::text::Text;
 use pp_values::value::Value;
 use res_core::export_set::ExportSet;
 use res_core::exports::Exports;
-use res_core::requests::Requests;
 use site_batch::{BatchResult, run_batch};
 use site_core::compile_stop::CompileStop;
-use site_core::history::History;
 use site_core::language::Language;
-use site_io::{Gate, OpenGate};
-use site_replies::Replies;
-use site_sequence::run_sequence;
+use site_io::OpenGate;
 use std::alloc::Global;
 use std::sync::atomic::{AtomicU64, Ordering};
 use std::sync::{Arc, Wait};
 use std::test::Fail;
 use std::thread::Threads;
-use toy_language::{Toy, ToySite, requests, toy_site, write_entries, write_reply};
+use toy_language::{ToySite, requests, toy_site};
 
 /// How far the compiles have come.
 #[derive(Drop)]
@@ -147,162 +138,5 @@ fn meet<R: Threads + Wait + Sync>(rt: &R, alloc: Global) -> Result<bool, Memory>
 #[test]
 fn two_compiles_overlap(rt: HostRuntime) -> Result<(), Fail> {
     assert!(rt; meet(&rt, rt.alloc())?);
-    Ok(())
-}
-
-/// Counts how often it is called.
-#[derive(Drop)]
-struct CountingGate {
-    calls: AtomicU64,
-}
-
-impl Gate for CountingGate {
-    fn between<R: Wait>(&self, _rt: &R) {
-        self.calls.fetch_add(1, Ordering::SeqCst);
-    }
-}
-
-/// A batch of so many workers over the toy language, and how often its gate was called.
-fn batch<R: Threads + Wait + Sync>(
-    rt: &R,
-    alloc: Global,
-    requests: &Requests,
-    workers: u32,
-) -> Result<(BatchResult<Toy>, u64), Memory>
-    requires { IsTrue (give_facts requests.now) }
-{
-    if workers < 1 || workers > 64 || requests.len() > 1_000_000 {
-        return Err(Memory);
-    }
-    let gate = CountingGate {
-        calls: AtomicU64::new(0),
-    };
-    let came = run_batch(rt, alloc, Toy, toy_site(alloc), requests, workers, &gate)?;
-    Ok((came, gate.calls.load(Ordering::SeqCst)))
-}
-
-/// Writes the replies and then the history.
-fn write_all(
-    out: &mut String,
-    replies: &Replies<Toy>,
-    history: &History<ToySite>,
-) -> Result<(), Memory> {
-    for reply in replies.as_slice() {
-        write_reply(out, reply)?;
-    }
-    write_entries(out, history.entries.as_slice())?;
-    Ok(())
-}
-
-fn in_turn(alloc: Global, requests: &Requests) -> Result<String, Memory>
-    requires { IsTrue (give_facts requests.now) }
-{
-    let mut out = String::new(alloc);
-    let came = run_sequence(alloc, &Toy, toy_site(alloc), requests)?;
-    write_all(&mut out, &came.replies, &came.history)?;
-    Ok(out)
-}
-
-fn by_one<R: Threads + Wait + Sync>(
-    rt: &R,
-    alloc: Global,
-    requests: &Requests,
-) -> Result<String, Memory>
-    requires { IsTrue (give_facts requests.now) }
-{
-    let mut out = String::new(alloc);
-    let (came, _) = batch(rt, alloc, requests, 1)?;
-    write_all(&mut out, &came.replies, &came.history)?;
-    Ok(out)
-}
-
-/// Whether one worker answers the requests as they are answered in turn.
-fn are_answered_alike<R: Threads + Wait + Sync>(
-    rt: &R,
-    alloc: Global,
-    words: &str,
-) -> Result<bool, Memory> {
-    let requests = requests(alloc, words)?;
-    let alone = by_one(rt, alloc, &requests)?;
-    let in_turn = in_turn(alloc, &requests)?;
-    Ok(alone.as_str() == in_turn.as_str())
-}
-
-const SEQUENCES: [&str; 4] = [
-    "",
-    "a +b -a +b +bad b bad a/9 a/1 -none",
-    "b +b +a/0 a/2 a/3 -b -b +bad a a a b/7",
-    "-a -b a/3 +a -a +b",
-];
-
-#[test]
-fn one_worker_answers_in_turn(rt: HostRuntime) -> Result<(), Fail> {
-    for words in SEQUENCES.iter() {
-        assert!(rt; are_answered_alike(&rt, rt.alloc(), words)?, "{words}");
-    }
-    Ok(())
-}
-
-/// Whether a crowd's replies fit one history, and the gate was called once for each compile.
-fn fits_one_history<R: Threads + Wait + Sync>(
-    rt: &R,
-    alloc: Global,
-    workers: u32,
-    count: u32,
-) -> Result<bool, Memory> {
-    let requests = crowd(alloc, count)?;
-    let (came, calls) = batch(rt, alloc, &requests, workers)?;
-    let replies = came.replies.as_slice();
-    let entries = came.history.entries.as_slice();
-    let fit = are_accounted(alloc, requests.as_slice(), replies, entries)?;
-    Ok(fit && calls == compiles(replies))
-}
-
-/// Workers and requests.
-const BATCHES: [(u32, u32); 10] = [
-    (1, 0),
-    (2, 0),
-    (64, 0),
-    (2, 1),
-    (64, 1),
-    (64, 63),
-    (64, 2000),
-    (3, 1000),
-    (1, 1000),
-    (8, 10_000),
-];
-
-#[test]
-fn replies_fit_one_history(rt: HostRuntime) -> Result<(), Fail> {
-    for (workers, count) in BATCHES.iter() {
-        assert!(rt;
-            fits_one_history(&rt, rt.alloc(), *workers, *count)?,
-            "{workers} workers, {count} requests"
-        );
-    }
-    Ok(())
-}
-
-/// How often the gate is called where one worker answers these.
-fn gate_calls<R: Threads + Wait + Sync>(rt: &R, alloc: Global, words: &str) -> Result<u64, Memory> {
-    let requests = requests(alloc, words)?;
-    let (_, calls) = batch(rt, alloc, &requests, 1)?;
-    Ok(calls)
-}
-
-const GATED: [(&str, u64); 6] = [
-    ("", 0),
-    ("a", 1),
-    ("+bad", 1),
-    ("-a -a", 0),
-    ("b bad a/2", 0),
-    ("a +b -a bad +bad a/9 a/1 b +b", 5),
-];
-
-#[test]
-fn compiles_come_to_the_gate(rt: HostRuntime) -> Result<(), Fail> {
-    for (words, calls) in GATED.iter() {
-        assert!(rt; gate_calls(&rt, rt.alloc(), words)? == *calls, "{words}");
-    }
     Ok(())
 }

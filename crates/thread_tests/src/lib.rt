@@ -2,10 +2,6 @@
 #![tactic(auto)]
 
 #[cfg(test)]
-mod accounts;
-#[cfg(test)]
 mod batches;
-#[cfg(test)]
-mod crowds;
 #[cfg(test)]
 mod shared;

@@ -88,7 +88,8 @@ const SERVED: &str =
 {"catalog":{"catalog":1,"edges":[],"node":"a","resources":[{"attrs":{},"in":[],"tags":["class","main"],"title":"main","type":"Class"}]},"entry":1,"k":1,"reply":0}
 "#;
 
-const RUNS: [Run<'static>; 91] = [
+/// Faulty words, and input that no command reads.
+const WORDS: [Run<'static>; 43] = [
     // Faulty words.
     ("", "", NONE, 10, "", USAGE),
     ("manifest", "", NONE, 10, "", USAGE),
@@ -155,6 +156,10 @@ const RUNS: [Run<'static>; 91] = [
         "",
         "B2 files\n",
     ),
+];
+
+/// Catalogs, faults and bundles.
+const ANSWERS: [Run<'static>; 15] = [
     // Catalogs and faults of a node.
     (
         "manifest|web-1.example_0",
@@ -313,6 +318,10 @@ const RUNS: [Run<'static>; 91] = [
 "#,
         "",
     ),
+];
+
+/// Streams that fail, refusals that are written, and logs.
+const STREAMS: [Run<'static>; 33] = [
     // Streams that fail.
     ("manifest|n", GOOD, (1, 0, 0), 12, "", "read fault\n"),
     ("manifest|n", GOOD, (2, 0, 0), 12, "", "read fault\n"),
@@ -391,8 +400,28 @@ const RUNS: [Run<'static>; 91] = [
 ];
 
 #[test]
-fn runs_end(rt: HostRuntime) -> Result<(), Fail> {
-    for run in RUNS.iter() {
+fn words_and_inputs_are_refused(rt: HostRuntime) -> Result<(), Fail> {
+    for run in WORDS.iter() {
+        let words = run.0;
+        let input = run.1;
+        assert!(rt; ends_so(&rt, rt.alloc(), run)?, "{words} {input}");
+    }
+    Ok(())
+}
+
+#[test]
+fn manifests_and_bundles_are_answered(rt: HostRuntime) -> Result<(), Fail> {
+    for run in ANSWERS.iter() {
+        let words = run.0;
+        let input = run.1;
+        assert!(rt; ends_so(&rt, rt.alloc(), run)?, "{words} {input}");
+    }
+    Ok(())
+}
+
+#[test]
+fn streams_may_fail(rt: HostRuntime) -> Result<(), Fail> {
+    for run in STREAMS.iter() {
         let words = run.0;
         let input = run.1;
         assert!(rt; ends_so(&rt, rt.alloc(), run)?, "{words} {input}");

@@ -53,11 +53,7 @@ fn reduce_members(alloc: Global, arguments: &[Value]) -> Result<Option<Values>, 
 }
 
 /// The members of a list, or the pairs of a hash as lists of two, with the start value before them, if there is one.
-fn members_behind(
-    alloc: Global,
-    start: &[Value],
-    value: &Value,
-) -> Result<Option<Values>, Memory>
+fn members_behind(alloc: Global, start: &[Value], value: &Value) -> Result<Option<Values>, Memory>
     ensures { IfOk result (λ l. l ≡ option_map (λ ds. views start.now ++ ds) (members (view value.now))) }
 {
     match value {

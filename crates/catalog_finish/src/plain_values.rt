@@ -3,7 +3,7 @@ ghost use Rattle.std.specs.Prelude.{◌≡◌, IfOk};
 ghost use Rattle.pp_values.specs.Views.{view};
 ghost use Rattle.catalog_finish.specs.PlainForms.{plain_of, plain_list, plain_pairs};
 
-use pp_values::{Memory, Pairs, Value, Values, is_plain_value, text_of};
+use pp_values::{Boxed, Memory, Pairs, Value, Values, is_plain_value, text_of};
 use std::alloc::Global;
 
 /// The value with a data type and `default` as their texts, at any depth. What has none of them is moved.
@@ -30,7 +30,7 @@ pub fn plain_copy(alloc: Global, value: &Value) -> Result<Value, Memory>
         Value::Text(text) => Ok(Value::Text(text.copy(alloc)?)),
         Value::List(items) => Ok(Value::List(plain_items(alloc, items)?)),
         Value::Hash(pairs) => Ok(Value::Hash(plain_hash(alloc, pairs)?)),
-        Value::Ref(reference) => Ok(Value::Ref(reference.copy(alloc)?)),
+        Value::Ref(reference) => Ok(Value::Ref(Boxed::new(alloc, reference.get().copy(alloc)?)?)),
         Value::Kind(_) => Ok(Value::Text(text_of(alloc, value)?)),
         Value::Default => Ok(Value::Text(text_of(alloc, value)?)),
     }

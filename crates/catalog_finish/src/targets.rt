@@ -70,7 +70,7 @@ pub fn targets(
     ensures { Answers result (targets_meant (sources_of tables.now) at.now name.now found (view value.now)) }
 {
     match value {
-        Value::Ref(reference) => with_target(alloc, tables, at, reference, found),
+        Value::Ref(reference) => with_target(alloc, tables, at, reference.get(), found),
         Value::List(items) => each_target(alloc, tables, at, name, items.as_slice(), found),
         _ => Err(Stop::Fault(mismatch(alloc, at, name)?)),
     }

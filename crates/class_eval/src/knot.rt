@@ -56,9 +56,9 @@ pub fn form<F: Fn(&mut World<'_>, Goal<'_>, Here, u32) -> Result<Evaluated, Stop
         Form::List(items) => list(forms, world, items, here),
         Form::Hash(pairs) => hash(forms, world, pairs, expr.at, here),
         Form::Parentheses(within) => forms.value(world, within.get(), here),
-        Form::Call(called) => call(forms, world, called, expr.at, here),
-        Form::If(choice) => if_of(forms, world, choice, expr.at, here),
-        Form::Unless(choice) => unless_of(forms, world, choice, expr.at, here),
+        Form::Call(called) => call(forms, world, called.get(), expr.at, here),
+        Form::If(choice) => if_of(forms, world, choice.get(), expr.at, here),
+        Form::Unless(choice) => unless_of(forms, world, choice.get(), expr.at, here),
         Form::Case(choice) => case_of(forms, world, choice, expr.at, here),
         Form::Postfix(first, more) => postfixed(forms, world, first.get(), more, expr.at, here),
         Form::Prefix(operator, operand) => prefix(

@@ -7,7 +7,7 @@ ghost use Rattle.pp_values.specs.Views.{view};
 use crate::flattening::flat_members;
 use crate::names::{class_reference, normal_name};
 use eval_world::Evaluated;
-use pp_values::{Memory, Reference, Text, Texts, Value, Values};
+use pp_values::{Boxed, Memory, Reference, Text, Texts, Value, Values};
 use std::alloc::Global;
 
 /// The names of the classes that are asked for, lists flattened; `None` where there is no argument, or where one is
@@ -43,7 +43,7 @@ fn name_in(alloc: Global, value: &Value) -> Result<Option<Text>, Memory>
 {
     match value {
         Value::Text(name) => Ok(Some(normal_name(alloc, name)?)),
-        Value::Ref(reference) => class_in(alloc, reference),
+        Value::Ref(reference) => class_in(alloc, reference.get()),
         _ => Ok(None),
     }
 }
@@ -70,7 +70,7 @@ fn reference_values(alloc: Global, names: &[Text]) -> Result<Values, Memory>
 {
     let mut list = Values::new(alloc);
     for name in names {
-        list.push(Value::Ref(class_reference(alloc, name)?))?;
+        list.push(Value::Ref(Boxed::new(alloc, class_reference(alloc, name)?)?))?;
     }
     Ok(list)
 }

@@ -5,6 +5,7 @@ use expr_eval::{
 };
 use pp_ops::op::Op;
 use pp_types::is_type_name;
+use pp_values::Boxed;
 use pp_values::fault::{Stop, What};
 use pp_values::interpolating::text_of;
 use pp_values::kind::Kind;
@@ -88,7 +89,7 @@ fn bare_type(alloc: Global, name: &str) -> Result<Value, Memory> {
 fn file(alloc: Global) -> Result<Value, Memory> {
     let kind = Kind::from_str(alloc, "file")?;
     let title = Text::from_str(alloc, "a")?;
-    Ok(Value::Ref(Reference { kind, title }))
+    Ok(Value::Ref(Boxed::new(alloc, Reference { kind, title })?))
 }
 
 fn value(alloc: Global, given: Given) -> Result<Value, Memory> {

@@ -18,6 +18,7 @@ use pp_types::arguments::title;
 use pp_types::data_type::DataType;
 use pp_types::making::kind_of;
 use pp_types::refusal::Halt;
+use pp_values::Boxed;
 use pp_values::fault::{Fault, Stop};
 use pp_values::kind::Kind;
 use pp_values::memory::Memory;
@@ -132,7 +133,7 @@ fn as_value(alloc: Global, kind: TypeBox) -> Result<Value, Memory>
     ensures { IfOk result (λ v. view v ≡ as_value kind) }
 {
     match reference_of(alloc, kind.as_type())? {
-        Some(reference) => Ok(Value::Ref(reference)),
+        Some(reference) => Ok(Value::Ref(Boxed::new(alloc, reference)?)),
         None => Ok(Value::Kind(kind)),
     }
 }

@@ -9,7 +9,7 @@ ghost use Rattle.json_values.specs.Forms.{value_of, values_of, members_of, objec
 
 use crate::stops::FormStop;
 use crate::value_forms::is_plain;
-use pp_values::{Kind, Pairs, Reference, Text, Value, Values, is_key, same_key};
+use pp_values::{Boxed, Kind, Pairs, Reference, Text, Value, Values, is_key, same_key};
 use serde_json::{Map, Value as Json};
 use std::alloc::Global;
 
@@ -221,7 +221,8 @@ fn reference_to(alloc: Global, kind: &Text, title: &Text) -> Result<Value, FormS
     match Kind::from_text(kind.copy(alloc)?) {
         Some(kind) => {
             let title = title.copy(alloc)?;
-            Ok(Value::Ref(Reference { kind, title }))
+            let reference = Reference { kind, title };
+            Ok(Value::Ref(Boxed::new(alloc, reference)?))
         }
         None => Err(FormStop::NoForm),
     }

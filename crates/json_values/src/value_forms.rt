@@ -30,7 +30,7 @@ pub fn value_form(alloc: Global, value: &Value) -> Result<Json, Memory>
                 Ok(long_form(alloc, Json::Array(pair_forms(alloc, pairs)?))?)
             }
         }
-        Value::Ref(reference) => Ok(reference_form(alloc, reference)?),
+        Value::Ref(reference) => Ok(reference_form(alloc, reference.get())?),
         Value::Kind(_) => Ok(Json::Null),
         Value::Default => Ok(Json::Null),
     }

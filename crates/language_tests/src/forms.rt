@@ -33,7 +33,7 @@ fn parts_text(alloc: Global, form: &Form) -> Result<String, AllocError> {
         Form::Interpolated(pieces) => ("pieces", pieces.len()),
         Form::List(items) => ("list", items.len()),
         Form::Hash(pairs) => ("hash", pairs.len()),
-        Form::Call(call) => ("call", call.args.len()),
+        Form::Call(call) => ("call", call.get().args.len()),
         Form::Case(case) => ("case", case.options.len()),
         Form::Postfix(_, postfixes) => ("postfix", postfixes.len()),
         Form::Binary(_, operations) => ("binary", operations.len()),

@@ -19,7 +19,7 @@ pub fn is_same(a: &Value, b: &Value) -> bool
         (Value::Text(a), Value::Text(b)) => a == b,
         (Value::List(a), Value::List(b)) => are_same(a.as_slice(), b.as_slice()),
         (Value::Hash(a), Value::Hash(b)) => have_same(a.as_slice(), b.as_slice()),
-        (Value::Ref(a), Value::Ref(b)) => a == b,
+        (Value::Ref(a), Value::Ref(b)) => a.get() == b.get(),
         (Value::Kind(a), Value::Kind(b)) => same_type(a.as_type(), b.as_type()),
         (Value::Default, Value::Default) => true,
         _ => false,

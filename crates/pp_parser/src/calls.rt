@@ -11,6 +11,7 @@ use crate::refusal::Refusal;
 use crate::rules::Rules;
 use pp_lexer::kind::Kind;
 use pp_tree::expr::{Call, Form};
+use pp_values::Boxed;
 use pp_values::text::Text;
 use std::alloc::Global;
 
@@ -30,11 +31,12 @@ impl<F: Fn(Global, &mut Cursor<'_>, usize, Goal) -> Result<Part, Refusal>> Rules
             Some(Kind::OpenParen) => {
                 let args = self.arguments(tokens)?;
                 let lambda = self.optional_lambda(tokens, bars)?;
-                Ok(Form::Call(Call {
+                let call = Call {
                     function: name,
                     args,
                     lambda,
-                }))
+                };
+                Ok(Form::Call(Boxed::new(self.alloc, call)?))
             }
             _ => Ok(Form::Name(name)),
         }

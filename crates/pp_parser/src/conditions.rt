@@ -88,12 +88,13 @@ impl<F: Fn(Global, &mut Cursor<'_>, usize, Goal) -> Result<Part, Refusal>> Rules
         let block = self.block(tokens)?;
         let elsifs = self.elsifs(tokens)?;
         let otherwise = self.otherwise(tokens)?;
-        Ok(Form::If(If {
+        let choice = If {
             condition,
             block,
             elsifs,
             otherwise,
-        }))
+        };
+        Ok(Form::If(Boxed::new(self.alloc, choice)?))
     }
 
     /// `unless condition { statements }`, and its `else`.
@@ -105,11 +106,12 @@ impl<F: Fn(Global, &mut Cursor<'_>, usize, Goal) -> Result<Part, Refusal>> Rules
         let condition = self.condition(tokens, Kind::Unless)?;
         let block = self.block(tokens)?;
         let otherwise = self.otherwise(tokens)?;
-        Ok(Form::Unless(Unless {
+        let choice = Unless {
             condition,
             block,
             otherwise,
-        }))
+        };
+        Ok(Form::Unless(Boxed::new(self.alloc, choice)?))
     }
 
     /// A further option of a `case`, or nothing where `}` ends them.

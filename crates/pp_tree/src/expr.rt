@@ -62,11 +62,11 @@ pub enum Form {
     /// `($a)`
     Parentheses(Boxed<Expr>),
     /// `f(1)`
-    Call(Call),
+    Call(Boxed<Call>),
     /// `if $a { } else { }`
-    If(If),
+    If(Boxed<If>),
     /// `unless $a { }`
-    Unless(Unless),
+    Unless(Boxed<Unless>),
     /// `case $a { 1: { } }`
     Case(Case),
     /// `$a[1].f(2)`: what stands first, and what follows it.

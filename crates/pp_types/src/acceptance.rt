@@ -85,7 +85,7 @@ fn is_type_within(wide: Seen<'_>, value: &Value) -> bool
 {
     match value {
         Value::Kind(narrow) => includes_seen(wide, Seen::Given(narrow.as_type())),
-        Value::Ref(reference) => includes_seen(wide, Seen::Reference(reference)),
+        Value::Ref(reference) => includes_seen(wide, Seen::Reference(reference.get())),
         _ => false,
     }
 }

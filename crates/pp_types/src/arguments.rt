@@ -89,7 +89,7 @@ fn type_of(alloc: Global, value: &Value) -> Result<PType, Halt>
 {
     match value {
         Value::Kind(inner) => Ok(copy_type(alloc, inner.as_type())?),
-        Value::Ref(reference) => Ok(reference_type(alloc, reference)?),
+        Value::Ref(reference) => Ok(reference_type(alloc, reference.get())?),
         _ => Err(Halt::Refused),
     }
 }

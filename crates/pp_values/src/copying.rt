@@ -7,6 +7,7 @@ use crate::pairs::Pairs;
 use crate::type_copying::copy_type_box;
 use crate::value::Value;
 use crate::values::Values;
+use sqlite_items::Boxed;
 use std::alloc::Global;
 
 /// A value that is the same in every part.
@@ -21,7 +22,7 @@ pub fn copy(alloc: Global, value: &Value) -> Result<Value, Memory>
         Value::Text(text) => Ok(Value::Text(text.copy(alloc)?)),
         Value::List(items) => Ok(Value::List(copy_values(alloc, items)?)),
         Value::Hash(pairs) => Ok(Value::Hash(copy_pairs(alloc, pairs)?)),
-        Value::Ref(reference) => Ok(Value::Ref(reference.copy(alloc)?)),
+        Value::Ref(reference) => Ok(Value::Ref(Boxed::new(alloc, reference.get().copy(alloc)?)?)),
         Value::Kind(ptype) => Ok(Value::Kind(copy_type_box(alloc, ptype)?)),
         Value::Default => Ok(Value::Default),
     }

@@ -24,7 +24,7 @@ pub fn equal(a: &Value, b: &Value) -> bool
         (Value::Text(a), Value::Text(b)) => equal_texts(a, b),
         (Value::List(a), Value::List(b)) => equal_items(a.as_slice(), b.as_slice()),
         (Value::Hash(a), Value::Hash(b)) => a.len() == b.len() && is_within(a.as_slice(), b),
-        (Value::Ref(a), Value::Ref(b)) => a == b,
+        (Value::Ref(a), Value::Ref(b)) => a.get() == b.get(),
         (Value::Kind(a), Value::Kind(b)) => same_type(a.as_type(), b.as_type()),
         (Value::Default, Value::Default) => true,
         _ => false,

@@ -43,7 +43,7 @@ pub fn write_value(out: &mut String, value: &Value) -> Result<(), Memory>
             write_pairs(out, pairs.as_slice())?;
             write_text(out, "}")
         }
-        Value::Ref(reference) => write_quoted_reference(out, reference),
+        Value::Ref(reference) => write_quoted_reference(out, reference.get()),
         Value::Kind(ptype) => write_type(out, ptype.as_type()),
         Value::Default => write_text(out, "default"),
     }

@@ -13,11 +13,11 @@ use std::fmt;
 use std::marker::Model;
 
 /// How many bytes a text has at most that lies in its value, without memory of its own.
-const SHORT: usize = 24;
+const SHORT: usize = 20;
 
 /// A text. A contract sees it as its bytes in UTF-8.
 ///
-/// Names, titles and tags are short, and are copied more often than anything else: up to 24 bytes lie in the value.
+/// Names, titles and tags are short, and are copied more often than anything else: up to 20 bytes lie in the value.
 pub struct Text {
     form: TextForm,
 }

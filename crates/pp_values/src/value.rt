@@ -8,6 +8,7 @@ use crate::ptype::TypeBox;
 use crate::reference::Reference;
 use crate::text::Text;
 use crate::values::Values;
+use sqlite_items::Boxed;
 use std::alloc::Global;
 
 /// A value of the language.
@@ -20,7 +21,7 @@ pub enum Value {
     List(Values),
     Hash(Pairs),
     /// A reference to a resource, such as `File['/tmp']`.
-    Ref(Reference),
+    Ref(Boxed<Reference>),
     /// A data type as a value.
     Kind(TypeBox),
     /// The literal `default`.

@@ -4,6 +4,7 @@ ghost use Rattle.pp_values.specs.Keys.{is_key};
 ghost use Rattle.pp_values.specs.Views.{view};
 
 use crate::names::reference;
+use pp_values::Boxed;
 use pp_values::bounds::{Bound, Bounds};
 use pp_values::interpolating::text_of;
 use pp_values::memory::Memory;
@@ -70,7 +71,10 @@ pub fn value(alloc: Global, sample: Sample) -> Result<Value, Memory> {
         Sample::Text(says) => text(alloc, says),
         Sample::List(second) => Ok(Value::List(list(alloc, second)?)),
         Sample::Hash(second) => Ok(Value::Hash(hash(alloc, "a", second)?)),
-        Sample::Reference(title) => Ok(Value::Ref(reference(alloc, "web::vhost", title)?)),
+        Sample::Reference(title) => Ok(Value::Ref(Boxed::new(
+            alloc,
+            reference(alloc, "web::vhost", title)?,
+        )?)),
         Sample::Least => integers(alloc, Bounds::Least(Bound::Number(1))),
         Sample::Both => integers(alloc, Bounds::Both(Bound::Number(1), Bound::Default)),
     }

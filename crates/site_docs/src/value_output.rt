@@ -30,7 +30,7 @@ pub(crate) fn write_value(out: &mut JsonOutput, value: &Value) -> Result<(), All
                 write_pairs(out, pairs)
             }
         }
-        Value::Ref(reference) => write_reference(out, reference),
+        Value::Ref(reference) => write_reference(out, reference.get()),
         Value::Kind(_) => out.null(),
         Value::Default => out.null(),
     }

@@ -1,5 +1,6 @@
 //! Data types made by name and arguments, what they accept and what they include, on tables.
 use pp_types::{accepts, includes, is_type_name, kind_of};
+use pp_values::Boxed;
 use pp_values::fault::{Stop, What};
 use pp_values::memory::Memory;
 use pp_values::pairs::Pairs;
@@ -52,7 +53,7 @@ fn value(alloc: Global, given: Given) -> Result<Value, Memory> {
         Given::Text(word) => text(alloc, word),
         Given::List(second) => list(alloc, second),
         Given::Hash(key) => hash(alloc, key),
-        Given::File(title) => Ok(Value::Ref(reference(alloc, "file", title)?)),
+        Given::File(title) => Ok(Value::Ref(Boxed::new(alloc, reference(alloc, "file", title)?)?)),
         Given::Type(name) => bare_value(alloc, name),
     }
 }

@@ -1,4 +1,5 @@
 use json_values::value_forms::value_form;
+use pp_values::Boxed;
 use pp_values::memory::Memory;
 use pp_values::pairs::Pairs;
 use pp_values::text::Text;
@@ -87,7 +88,10 @@ fn value(alloc: Global, sample: Sample) -> Result<Value, Memory> {
         Sample::EmptyHash => Ok(Value::Hash(Pairs::new(alloc))),
         Sample::IntegerKey => integer_key(alloc),
         Sample::List => list(alloc),
-        Sample::Reference => Ok(Value::Ref(reference(alloc, "web::vhost", "A")?)),
+        Sample::Reference => Ok(Value::Ref(Boxed::new(
+            alloc,
+            reference(alloc, "web::vhost", "A")?,
+        )?)),
         Sample::Least => Ok(Value::Int(i64::MIN)),
         Sample::Default => Ok(Value::Default),
     }

@@ -65,7 +65,7 @@ fn postfix<F: Fn(&mut World<'_>, Goal<'_>, Here, u32) -> Result<Evaluated, Stop>
 {
     match postfix {
         Postfix::Access(args) => accessed(forms, world, value, args, line, here),
-        Postfix::Method(call) => method(forms, world, value, call, line, here),
+        Postfix::Method(call) => method(forms, world, value, call.get(), line, here),
         Postfix::Select(options) => selected(forms, world, value, options, line, here),
     }
 }

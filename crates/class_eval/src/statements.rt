@@ -86,11 +86,11 @@ fn operand<F: Fn(&mut World<'_>, Goal<'_>, Here, u32) -> Result<Evaluated, Stop>
     match operand {
         Operand::Expr(expr) => Ok(Some(forms.value(world, expr, here)?)),
         Operand::Resource(declared) => {
-            resource(forms, world, declared, here)?;
+            resource(forms, world, declared.get(), here)?;
             Ok(None)
         }
         Operand::Collector(registered) => {
-            collector(forms, world, registered, here)?;
+            collector(forms, world, registered.get(), here)?;
             Ok(None)
         }
         Operand::Override(_) | Operand::Defaults(_) => Ok(Some(world.not_built(here, line)?)),

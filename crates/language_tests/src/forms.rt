@@ -46,22 +46,24 @@ fn operand_text(alloc: Global, operand: &Operand) -> Result<String, AllocError> 
     match operand {
         Operand::Expr(x) => form_text(alloc, x),
         Operand::Resource(resource) => {
+            let resource = resource.get();
             let form = resource.form;
             let kind = &resource.kind;
             let bodies = resource.bodies.len();
             format!(in alloc; "resource {form:?} {kind} {bodies}")
         }
         Operand::Collector(collector) => {
+            let collector = collector.get();
             let kind = &collector.kind;
             let exported = collector.exported;
             format!(in alloc; "collector {kind} {exported}")
         }
         Operand::Override(changed) => {
-            let kind = &changed.target.kind;
+            let kind = &changed.get().target.kind;
             format!(in alloc; "override {kind}")
         }
         Operand::Defaults(defaults) => {
-            let kind = &defaults.kind;
+            let kind = &defaults.get().kind;
             format!(in alloc; "defaults {kind}")
         }
     }

@@ -14,8 +14,8 @@ use pp_lexer::kind::Kind;
 use pp_tree::collector::{Collector, Comparison, Conjunction, Query, Test};
 use pp_tree::resource::Attributes;
 use pp_tree::statement::Operand;
-use pp_values::Items;
 use pp_values::text::Text;
+use pp_values::{Boxed, Items};
 use std::alloc::Global;
 
 impl<F: Fn(Global, &mut Cursor<'_>, usize, Goal) -> Result<Part, Refusal>> Rules<F> {
@@ -186,12 +186,13 @@ impl<F: Fn(Global, &mut Cursor<'_>, usize, Goal) -> Result<Part, Refusal>> Rules
         let query = self.optional_query(tokens, close)?;
         tokens.expect(close)?;
         let attributes = self.optional_settings(tokens)?;
-        Ok(Operand::Collector(Collector {
+        let collector = Collector {
             kind,
             exported,
             query,
             attributes,
             at,
-        }))
+        };
+        Ok(Operand::Collector(Boxed::new(self.alloc, collector)?))
     }
 }

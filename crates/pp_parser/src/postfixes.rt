@@ -81,11 +81,12 @@ impl<F: Fn(Global, &mut Cursor<'_>, usize, Goal) -> Result<Part, Refusal>> Rules
         let name = tokens.expect_name()?;
         let args = self.optional_arguments(tokens)?;
         let lambda = self.optional_lambda(tokens, bars)?;
-        Ok(Postfix::Method(Call {
+        let call = Call {
             function: name.text.copy(self.alloc)?,
             args,
             lambda,
-        }))
+        };
+        Ok(Postfix::Method(Boxed::new(self.alloc, call)?))
     }
 
     /// `? { options }`

@@ -19,8 +19,8 @@ use pp_lexer::token::Token;
 use pp_tree::expr::Expr;
 use pp_tree::resource::{Attributes, Body, Resource, ResourceForm};
 use pp_tree::statement::Operand;
-use pp_values::Items;
 use pp_values::text::Text;
+use pp_values::{Boxed, Items};
 use std::alloc::Global;
 
 /// A name or the word `class`, which may stand before the braces of a resource.
@@ -135,12 +135,13 @@ impl<F: Fn(Global, &mut Cursor<'_>, usize, Goal) -> Result<Part, Refusal>> Rules
         self.open(tokens, Kind::OpenBrace)?;
         let bodies = self.bodies(tokens)?;
         tokens.expect(Kind::CloseBrace)?;
-        Ok(Operand::Resource(Resource {
+        let resource = Resource {
             form,
             kind,
             bodies,
             at,
-        }))
+        };
+        Ok(Operand::Resource(Boxed::new(self.alloc, resource)?))
     }
 
     /// `@` or `@@` and a resource

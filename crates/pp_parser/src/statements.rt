@@ -16,7 +16,7 @@ use pp_tree::definition::Name;
 use pp_tree::expr::{Args, Expr, Form, Postfix};
 use pp_tree::resource::{Defaults, Override, Reference};
 use pp_tree::statement::{Block, Chain, Operand, Statement};
-use pp_values::Items;
+use pp_values::{Boxed, Items};
 use std::alloc::Global;
 
 /// Whether a block ends here.
@@ -65,7 +65,8 @@ impl<F: Fn(Global, &mut Cursor<'_>, usize, Goal) -> Result<Part, Refusal>> Rules
             attributes,
             at,
         };
-        Ok(self.alone(at, Operand::Defaults(defaults)))
+        let operand = Operand::Defaults(Boxed::new(self.alloc, defaults)?);
+        Ok(self.alone(at, operand))
     }
 
     /// Behind `Type[args]`: `{ attributes }`
@@ -86,7 +87,8 @@ impl<F: Fn(Global, &mut Cursor<'_>, usize, Goal) -> Result<Part, Refusal>> Rules
             attributes,
             at,
         };
-        Ok(self.alone(at, Operand::Override(found)))
+        let operand = Operand::Override(Boxed::new(self.alloc, found)?);
+        Ok(self.alone(at, operand))
     }
 
     /// A chain that begins with `Type[args]`.

@@ -107,7 +107,7 @@ pub enum Postfix {
     /// `[1]` in `$a[1]`
     Access(Items<Expr>),
     /// `.f(2)` in `$a.f(2)`
-    Method(Call),
+    Method(Boxed<Call>),
     /// `? { 1 => 'a', default => 'b' }`
     Select(Items<Pair<Expr>>),
 }

@@ -1,8 +1,8 @@
 use crate::collector::Collector;
 use crate::expr::Expr;
 use crate::resource::{Defaults, Override, Resource};
-use pp_values::Items;
 use pp_values::text::Text;
+use pp_values::{Boxed, Items};
 
 /// Statements in braces, or those of a file.
 pub type Block = Items<Statement>;
@@ -50,13 +50,13 @@ pub enum Operand {
     /// `A['x']`
     Expr(Expr),
     /// `file { 'x': }`
-    Resource(Resource<Expr>),
+    Resource(Boxed<Resource<Expr>>),
     /// `File <| |>`
-    Collector(Collector),
+    Collector(Boxed<Collector>),
     /// `File['x'] { mode => '0644' }`
-    Override(Override<Expr>),
+    Override(Boxed<Override<Expr>>),
     /// `File { mode => '0644' }`
-    Defaults(Defaults<Expr>),
+    Defaults(Boxed<Defaults<Expr>>),
 }
 
 /// A statement function and its arguments without parentheses: `include a, b`.

@@ -1,6 +1,7 @@
 pub mod ByteLemmas
 mod Examples
 pub mod EscapeLemmas
+pub mod LineLemmas
 pub mod MarkLemmas
 pub mod NumberLemmas
 pub mod NumberLaws

@@ -1,9 +1,10 @@
 -- The tokens of a text, piece by piece.
-use Rattle.std.proofs.Common.{◌≡◌, ℕ, zero, suc, ◌-◌, ◌<◌, ◌≤◌, List, [], ◌∷◌, ◌++◌, length, take, drop, refl, sym, ap, ◌∙◌, subst, append_assoc, length-take-le, get_or-take, arith}
-use Rattle.pp_lexer.specs.Bytes.{line_after, line_at}
+use Rattle.std.proofs.Common.{◌≡◌, ℕ, zero, suc, ◌-◌, ◌<◌, ◌≤◌, false, ◌==◌, List, [], ◌∷◌, ◌++◌, length, take, drop, refl, sym, ap, ◌∙◌, subst, append_assoc, length-take-le, get_or, get_or-take, arith}
+use Rattle.std.proofs.lemmas.Bool.Decides.{nat_tests}
+use Rattle.pp_lexer.specs.Bytes.{blank_len, line_after, line_at}
 use Rattle.pp_lexer.specs.Fronts.{HasEnds, IsPart}
 use Rattle.pp_lexer.specs.Modes.{mode_after, open_after}
-use Rattle.pp_lexer.specs.Tokens.{front_at, emitted, tokens_from, token, piece}
+use Rattle.pp_lexer.specs.Tokens.{in_code, token_front, front_at, emitted, tokens_from, token, piece}
 use Rattle.pp_lexer.specs.declared.kind.Kind.TheVariants as kinds
 use Rattle.pp_lexer.specs.declared.front.Front.{Front}
 use Rattle.pp_lexer.specs.declared.mode.Mode.{Mode}
@@ -55,3 +56,16 @@ piece_none (b ∷ z) line none = absurd (omega arith)
 pub piece_some : (text : List ℕ) (line : ℕ) → 0 < length text → piece text line ≡ token kinds.Piece text line ∷ []
 piece_some [] line some = absurd (omega arith)
 piece_some (b ∷ z) line some = refl
+
+-- white space and comments begin with a byte up to `#`, or with `/`
+above : (b n : ℕ) → n < b → (b == n) ≡ false
+above b n h = grind (arith, nat_tests, h)
+
+other : (b n : ℕ) → (b ≡ n → ⊥) → (b == n) ≡ false
+other b n h = grind (arith, nat_tests, h)
+
+pub no_blank : (z : List ℕ) → 35 < get_or z 0 0 → (get_or z 0 0 ≡ 47 → ⊥) → in_code z ≡ token_front z
+unfolding in_code blank_len
+no_blank z high isnt =
+    let b = get_or z 0 0 in
+    rw (above b 32 (omega (arith, high)), above b 9 (omega (arith, high)), above b 13 (omega (arith, high)), above b 10 (omega (arith, high)), above b 35 high, other b 47 isnt) refl

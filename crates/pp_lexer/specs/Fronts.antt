@@ -1,6 +1,7 @@
 -- What stands at the front of a text. A text is the list of its bytes.
-use Rattle.std.specs.Prelude.{◌≡◌, ℕ, ◌-◌, ◌<◌, ◌≤◌, List, length, slice_index}
+use Rattle.std.specs.Prelude.{◌≡◌, ℕ, ◌-◌, ◌<◌, ◌≤◌, Bool, true, false, List, length, slice_index}
 use Rattle.std.specs.Str.{IsCharBoundary}
+use Rattle.pp_lexer.specs.Bytes.{line_after, line_at}
 use Rattle.pp_lexer.specs.declared.front.Found.{Found}
 use Rattle.pp_lexer.specs.declared.front.Found.TheVariants as found
 use Rattle.pp_lexer.specs.declared.front.Front.{Front}
@@ -43,3 +44,15 @@ pub record IsPart (text : List ℕ) (f : Front) : Type 0 where
   pub moves : 1 ≤ f.len
   pub boundary : IsCharBoundary text f.len
   pub ends : HasEnds text f.found f.len
+
+-- words, variables and numbers
+abbrev pub is_on_line : Found → Bool
+is_on_line (found.Word k) = true
+is_on_line (found.Dollar k) = true
+is_on_line (found.Number n) = true
+is_on_line _ = false
+
+-- what stands on one line, and a comment from `#` on, in which a line feed is the last byte
+pub record HasLines (text : List ℕ) (f : Found) : Type 0 where
+  pub one : is_on_line f ≡ true → (line : ℕ) → line_at line text ≡ line
+  pub comment : f ≡ found.Blank → slice_index text 0 ≡ 35 → (line : ℕ) → line_at line text ≡ line_after line (slice_index text (length text - 1))

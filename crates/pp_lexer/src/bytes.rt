@@ -23,7 +23,8 @@ fn is_white(b: u8) -> bool
 pub fn is_word(b: u8) -> bool
     ensures { result ≡ spec.is_word b }
 {
-    b.is_ascii_alphanumeric() || b == b'_'
+    // Most bytes of words are such letters.
+    b.is_ascii_lowercase() || b == b'_' || b.is_ascii_alphanumeric()
 }
 
 /// The length of the white space at the front.

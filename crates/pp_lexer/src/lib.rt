@@ -6,6 +6,7 @@ mod escapes;
 mod front;
 pub mod kind;
 pub mod lexing;
+mod lines;
 mod marks;
 mod mode;
 mod numbers;

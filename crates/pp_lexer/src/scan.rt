@@ -11,6 +11,7 @@ use crate::bytes::{blank_len, line_at, meets_brace, opens_comment};
 use crate::escapes::{Quotes, says_nothing};
 use crate::front::{Found, Front};
 use crate::kind::Kind;
+use crate::lines::line_behind;
 use crate::marks::punctuation;
 use crate::mode::{Mode, Nest, mode_after};
 use crate::numbers::number;
@@ -46,12 +47,16 @@ fn token_front(bytes: &[u8]) -> Front
 }
 
 /// What stands at a place outside of texts.
-#[tactic(auto, unfolding(crate::specs::Tokens::in_code))]
+#[tactic(auto, unfolding(crate::specs::Tokens::in_code), using(crate::proofs::ScanLemmas::no_blank))]
 fn in_code(bytes: &[u8]) -> Front
     requires { 0 < length bytes.now }
     ensures value { result ≡ spec.in_code bytes.now }
     ensures piece { IsPiece bytes.now result }
 {
+    let first = bytes[0];
+    if b'#' < first && first != b'/' {
+        return token_front(bytes);
+    }
     let blank = blank_len(bytes);
     if blank != 0 {
         Front::new(Found::Blank, blank)
@@ -220,7 +225,7 @@ pub fn scan(alloc: Global, text: &str) -> Result<Tokens<'_>, Memory>
         emit(alloc, &mut tokens, front.found, spelling, line)?;
         nest.pass(front.found)?;
         mode = mode_after(front.found);
-        line = line_at(line, spelling.as_bytes());
+        line = line_behind(line, front.found, spelling);
         rest = after;
     }
     finish(&mut tokens, mode, line)?;

@@ -1,6 +1,6 @@
 //! Names, types and variables.
 
-ghost use Rattle.std.specs.Prelude.{◌≡◌, ◌+◌, ◌-◌, ◌<◌, ◌≤◌, length, take, drop, map, slice_index, true, IsTrue};
+ghost use Rattle.std.specs.Prelude.{◌≡◌, ◌+◌, ◌-◌, ◌<◌, ◌≤◌, length, take, drop, map, slice_index, true, false, IfNone, IfSome, IsTrue};
 ghost use Rattle.std.specs.Str.{bytes_eq};
 ghost use Rattle.pp_lexer.specs.Fronts.{IsPiece};
 ghost use Rattle.pp_lexer.specs.Words as spec;
@@ -48,6 +48,9 @@ pub const WORDS: [(&[u8], Kind); 27] = [
     (b"fail", Kind::StatementFunction),
 ];
 
+/// No keyword and no name of a statement function is longer.
+const LONGEST: usize = 8;
+
 pub fn begins_segment(sort: WordSort, b: u8) -> bool
     ensures { result ≡ spec.begins_segment sort b }
 {
@@ -82,6 +85,27 @@ fn continues_word(sort: WordSort, bytes: &[u8], at: usize) -> bool
     }
 }
 
+/// Whether a word goes on with the byte at this place: whether the next byte is then the second of `::`, and none where
+/// the word ends. The flag says that this byte is one.
+#[tactic(auto, using(crate::proofs::WordLemmas::plain_goes, crate::proofs::WordLemmas::second_goes, crate::proofs::WordLemmas::other_goes, crate::proofs::WordLemmas::word_stops))]
+fn goes_on(sort: WordSort, bytes: &[u8], at: usize, is_second: bool) -> Option<bool>
+    requires { at < length bytes.now }
+    ensures goes { IfSome result (λ next. spec.word_end sort is_second at (drop at bytes.now) ≡ spec.word_end sort next (at + 1) (drop (at + 1) bytes.now)) }
+    ensures stops { IfNone result (spec.word_end sort is_second at (drop at bytes.now) ≡ at) }
+    ensures ascii { IfSome result (λ _. is_second ≡ false → slice_index bytes.now at < 128) }
+    ensures second { IfSome result (λ next. next ≡ true → slice_index bytes.now (at + 1) ≡ 58) }
+{
+    // Most bytes of a word are such, and tell this alone.
+    if is_word(bytes[at]) || is_second {
+        return Some(false);
+    }
+    if continues_word(sort, bytes, at) {
+        Some(bytes[at] == b':')
+    } else {
+        None
+    }
+}
+
 /// The length of a word that begins here.
 pub fn word_len(sort: WordSort, bytes: &[u8]) -> usize
     requires { spec.begins_word sort bytes.now ≡ true }
@@ -91,10 +115,10 @@ pub fn word_len(sort: WordSort, bytes: &[u8]) -> usize
 {
     let mut is_second = byte(bytes, 0) == b':';
     for at in 1..bytes.len() {
-        if !is_second && !continues_word(sort, bytes, at) {
-            return at;
+        match goes_on(sort, bytes, at, is_second) {
+            None => return at,
+            Some(next) => is_second = next,
         }
-        is_second = !is_second && bytes[at] == b':';
     }
     bytes.len()
 }
@@ -120,10 +144,13 @@ fn named(mut table: &[(&[u8], Kind)], spelling: &[u8]) -> Kind
     Kind::Name
 }
 
-#[tactic(auto, unfolding(crate::specs::Words::name_kind))]
+#[tactic(auto, unfolding(crate::specs::Words::name_kind), using(crate::proofs::WordLemmas::long_name))]
 fn name_kind(spelling: &[u8]) -> Kind
     ensures { result ≡ spec.name_kind spelling.now }
 {
+    if spelling.len() > LONGEST {
+        return Kind::Name;
+    }
     named(&WORDS, spelling)
 }
 

@@ -1,6 +1,7 @@
 -- Lists that go on from what was found already, and chains as a loop over the strengths.
-use Rattle.std.proofs.Common.{◌≡◌, ℕ, zero, suc, ◌+◌, ◌-◌, ◌<◌, ◌≤◌, Bool, List, [], ◌∷◌, ◌++◌, Option, Some, None, Ok, Err, refl, sym, ap, ◌∙◌, append_assoc, append-nil, length, arith}
+use Rattle.std.proofs.Common.{◌≡◌, ℕ, zero, suc, ◌+◌, ◌-◌, ◌<◌, ◌≤◌, Bool, false, List, [], ◌∷◌, ◌++◌, Option, Some, None, Ok, Err, refl, sym, ap, ◌∙◌, append_assoc, append-nil, length, arith}
 use Rattle.std.proofs.Math.Dec.{eqb-zero-suc}
+use Rattle.pp_lexer.specs.declared.kind.Kind.{Kind}
 use Rattle.pp_lexer.specs.declared.kind.Kind.TheVariants as k
 use Rattle.pp_tree.specs.declared.expr.Form.TheVariants as form
 use Rattle.pp_tree.specs.declared.expr.Piece.TheVariants as piece
@@ -9,7 +10,8 @@ use Rattle.pp_tree.specs.declared.expr.Operation.{Operation}
 use Rattle.pp_parser.specs.declared.started.Started.{Started}
 use Rattle.pp_parser.specs.Input.{Input, Parser, Outcome, and_then, ◌>>=◌, ◌>>◌, pure, kind, expect, turns, more_or_done, repeat, repeat_from}
 use Rattle.pp_parser.specs.Inner.{Inner}
-use Rattle.pp_parser.specs.Expressions.{piece_rule, pieces, postfix_rule, postfixes, postfixed, operation_rule, operand, operand_from, chain, chained, climb, binds, operator_at}
+use Rattle.pp_parser.specs.Kinds.{begins_postfix}
+use Rattle.pp_parser.specs.Expressions.{piece_rule, pieces, postfix_by, postfix_rule, postfixes, postfixed, operation_rule, operand, operand_from, chain, chained, climb, binds, operator_at}
 use Rattle.pp_parser.proofs.Turns.{one_more, no_more}
 
 module _ {A : Type 0} (step : Parser (Option A)) where
@@ -105,6 +107,21 @@ module _ (inner : Inner) where
   unfolding operation_rule operator_at
   operation_none tighter zero i none some = absurd (omega arith)
   operation_none tighter (suc n) i none some = rw (none, eqb-zero-suc n) refl
+
+  postfix_by_none : (bars : Bool) (next : Option Kind) → begins_postfix next ≡ false → (i : Input) → postfix_by inner bars next i ≡ Ok (None, i)
+  postfix_by_none bars (Some k.TightBracket) off i = absurd (cc)
+  postfix_by_none bars (Some k.Dot) off i = absurd (cc)
+  postfix_by_none bars (Some k.Question) off i = absurd (cc)
+  postfix_by_none bars _ off i = refl
+
+  postfix_rule_none : (bars : Bool) (i : Input) → begins_postfix (kind i) ≡ false → postfix_rule inner bars i ≡ Ok (None, i)
+  unfolding postfix_rule
+  postfix_rule_none bars i off = postfix_by_none bars (kind i) off i
+
+  -- where nothing follows, a value stands alone
+  pub postfixes_none : (bars : Bool) (s : Started) (i : Input) → s.postfixes ≡ [] → begins_postfix (kind i) ≡ false → postfixes inner bars s i ≡ Ok (s.base, i)
+  unfolding postfixes
+  postfixes_none bars s i none off = rw (none, repeat_stops (postfix_rule inner bars) i (postfix_rule_none bars i off)) refl
 
   -- where no operator follows, an operand stands alone
   pub climb_alone : (bars : Bool) (n strength : ℕ) (x : Expr) (i : Input) → binds (kind i) ≡ 0 → 0 < strength → climb inner bars n strength x i ≡ Ok (x, i)

@@ -72,6 +72,13 @@ ends_body (Some k.Semicolon) = true
 ends_body (Some k.CloseBrace) = true
 ends_body _ = false
 
+-- a token that something behind a value may begin with
+abbrev pub begins_postfix : Option Kind → Bool
+begins_postfix (Some k.TightBracket) = true
+begins_postfix (Some k.Dot) = true
+begins_postfix (Some k.Question) = true
+begins_postfix _ = false
+
 -- `==` on kinds
 unfoldable pub same_kind : Kind → Kind → Bool
 same_kind = sameb the_type

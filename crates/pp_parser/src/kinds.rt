@@ -97,3 +97,13 @@ pub fn ends_body(next: Option<Kind>) -> bool
         _ => false,
     }
 }
+
+/// A token that something behind a value may begin with.
+pub fn begins_postfix(next: Option<Kind>) -> bool
+    ensures { result ≡ spec.begins_postfix next }
+{
+    match next {
+        Some(Kind::TightBracket | Kind::Dot | Kind::Question) => true,
+        _ => false,
+    }
+}

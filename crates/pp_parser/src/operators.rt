@@ -176,7 +176,7 @@ impl<F: Fn(Global, &mut Cursor<'_>, usize, Goal) -> Result<Part, Refusal>> Rules
     }
 
     /// Operands and operators of this strength and tighter, from left to right. The first operand may be begun already.
-    #[tactic(auto, using(crate::proofs::Behind::chain_climbs))]
+    #[tactic(auto, using(crate::proofs::Behind::chain_climbs, crate::proofs::Behind::climb_alone))]
     pub fn chain(
         &self,
         tokens: &mut Cursor<'_>,
@@ -191,6 +191,9 @@ impl<F: Fn(Global, &mut Cursor<'_>, usize, Goal) -> Result<Part, Refusal>> Rules
             None => self.operand(tokens, bars)?,
             Some(start) => self.postfixes(tokens, bars, start)?,
         };
+        if binds(tokens.peek()) == 0 {
+            return Ok(first);
+        }
         self.climb(tokens, bars, loosest, first)
     }
 

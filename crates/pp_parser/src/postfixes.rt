@@ -8,6 +8,7 @@ ghost use Rattle.pp_parser.specs.Nests.{Nests};
 
 use crate::cursor::Cursor;
 use crate::goal::{Goal, Part};
+use crate::kinds::begins_postfix;
 use crate::refusal::Refusal;
 use crate::rules::Rules;
 use crate::started::Started;
@@ -139,9 +140,9 @@ impl<F: Fn(Global, &mut Cursor<'_>, usize, Goal) -> Result<Part, Refusal>> Rules
         Err(tokens.refusal())
     }
 
-    /// A value that was begun, and all that follows it.
+    /// A value that was begun, and all that follows it, turn by turn.
     #[tactic(auto, using(crate::proofs::Behind::postfixes_behind))]
-    pub fn postfixes(
+    fn all_postfixes(
         &self,
         tokens: &mut Cursor<'_>,
         bars: bool,
@@ -155,16 +156,37 @@ impl<F: Fn(Global, &mut Cursor<'_>, usize, Goal) -> Result<Part, Refusal>> Rules
         Ok(postfixed(self.alloc, base, found)?)
     }
 
+    /// A value that was begun, and all that follows it. Mostly nothing does.
+    #[tactic(auto, using(crate::proofs::Behind::postfixes_none))]
+    pub fn postfixes(
+        &self,
+        tokens: &mut Cursor<'_>,
+        bars: bool,
+        start: Started,
+    ) -> Result<Expr, Refusal>
+        requires { Nests self.now.levels (F.pre self.now.inner) (F.post self.now.inner) }
+        ensures { Reads (spec.postfixes (within self.now.levels) bars start tokens.old) result tokens.new }
+    {
+        if start.postfixes.is_empty() && !begins_postfix(tokens.peek()) {
+            return Ok(start.base);
+        }
+        self.all_postfixes(tokens, bars, start)
+    }
+
     /// A value, and all that follows it.
-    #[tactic(auto, unfolding(crate::specs::Expressions::value, crate::specs::Expressions::primary))]
+    #[tactic(auto, unfolding(crate::specs::Expressions::value, crate::specs::Expressions::primary), using(crate::proofs::Behind::postfixes_none))]
     pub fn value(&self, tokens: &mut Cursor<'_>, bars: bool) -> Result<Expr, Refusal>
         requires { Nests self.now.levels (F.pre self.now.inner) (F.post self.now.inner) }
         ensures { Reads (spec.value (within self.now.levels) bars tokens.old) result tokens.new }
     {
         let at = tokens.line();
         let form = self.form(tokens, bars)?;
+        let base = Expr::new(self.alloc, at, form)?;
+        if !begins_postfix(tokens.peek()) {
+            return Ok(base);
+        }
         let start = Started {
-            base: Expr::new(self.alloc, at, form)?,
+            base,
             postfixes: Items::new(self.alloc),
         };
         self.postfixes(tokens, bars, start)

@@ -15,7 +15,8 @@ fn place(alloc: Global) -> Result<Place, Memory> {
 
 fn is_unknown(stop: &Stop, name: &Text) -> bool {
     match stop {
-        Stop::Fault(fault) => matches!(fault.what.get(), What::UnknownVariable(other) if other == name),
+        Stop::Fault(fault) =>
+            matches!(fault.what.get(), What::UnknownVariable(other) if other == name),
         Stop::Memory => false,
     }
 }
@@ -34,7 +35,10 @@ fn sets_trusted(alloc: Global) -> Result<bool, Stop> {
     let name = Text::from_str(alloc, "trusted")?;
     let inner = scopes.enter(alloc, ScopeKind::Lambda, ScopeId::TOP)?;
     scopes.assign(alloc, inner, &name, Value::Int(9), &place(alloc)?)?;
-    Ok(matches!(scopes.read(alloc, inner, &name, &place(alloc)?), Ok(Value::Int(9))))
+    Ok(matches!(
+        scopes.read(alloc, inner, &name, &place(alloc)?),
+        Ok(Value::Int(9))
+    ))
 }
 
 fn is_no_index(stop: &Stop) -> bool {

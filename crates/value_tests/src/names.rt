@@ -18,7 +18,8 @@ fn prints_kind(alloc: Global) -> Result<bool, Memory> {
 
 fn is_unknown(stop: &Stop, name: &Text) -> bool {
     match stop {
-        Stop::Fault(fault) => matches!(fault.what.get(), What::UnknownFunction(other) if other == name),
+        Stop::Fault(fault) =>
+            matches!(fault.what.get(), What::UnknownFunction(other) if other == name),
         Stop::Memory => false,
     }
 }

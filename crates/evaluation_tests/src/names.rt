@@ -2,6 +2,7 @@
 //! an index that stands in no list.
 use expr_eval::{combine, type_value};
 use pp_ops::op::Op;
+use pp_types::is_type_name;
 use pp_values::fault::{Stop, What};
 use pp_values::{Memory, Place, Text, Value};
 use scope_core::{ScopeId, ScopeKind, Scopes};
@@ -53,7 +54,11 @@ fn is_no_index(stop: &Stop) -> bool {
 /// `Class` with an index that stands in no list.
 fn refuses_index(alloc: Global) -> Result<bool, Stop> {
     let at = place(alloc)?;
-    let class = type_value(alloc, &Text::from_str(alloc, "Class")?, &at)?;
+    let name = Text::from_str(alloc, "Class")?;
+    if !is_type_name(name.as_str()) {
+        return Ok(false);
+    }
+    let class = type_value(alloc, &name, &at)?;
     match combine(alloc, Op::Access, &class, &Value::Int(1), &at) {
         Ok(_value) => Ok(false),
         Err(stop) => Ok(is_no_index(&stop)),

@@ -1,3 +1,4 @@
+//! Copies and lines of faults that no manifest comes to yet.
 use pp_values::fault::{Fault, Subject, What};
 use pp_values::memory::Memory;
 use pp_values::place::Place;
@@ -8,30 +9,11 @@ use site_docs::fault_texts::fault_text;
 use std::alloc::Global;
 use std::test::Fail;
 
-fn duplicate(alloc: Global) -> Result<What, Memory> {
-    let reference = reference(alloc, "web::vhost", "a b")?;
-    let file = Text::from_str(alloc, "n.pp")?;
-    let earlier = Place { file, line: 2 };
-    Ok(What::Duplicate { reference, earlier })
-}
-
 fn cycle(alloc: Global) -> Result<What, Memory> {
     let mut references = Refs::new(alloc);
     references.push(reference(alloc, "file", "/a")?)?;
     references.push(reference(alloc, "notify", "f")?)?;
     Ok(What::Cycle(references))
-}
-
-fn same_namevar(alloc: Global) -> Result<What, Memory> {
-    let later = reference(alloc, "user", "b")?;
-    let earlier = reference(alloc, "user", "a")?;
-    Ok(What::SameNamevar { later, earlier })
-}
-
-fn missing(alloc: Global) -> Result<What, Memory> {
-    let name = Text::from_str(alloc, "mode")?;
-    let reference = reference(alloc, "file", "/a")?;
-    Ok(What::MissingParameter { reference, name })
 }
 
 fn default_set(alloc: Global) -> Result<What, Memory> {
@@ -40,18 +22,12 @@ fn default_set(alloc: Global) -> Result<What, Memory> {
     Ok(What::AlreadySet { subject, name })
 }
 
-/// A fault of each shape, by its number.
+/// A fault of a shape, by its number.
 fn what(alloc: Global, number: u32) -> Result<What, Memory> {
     match number {
-        9 => missing(alloc),
-        11 => Ok(What::BadOperand(Text::from_str(alloc, "+")?)),
-        14 => duplicate(alloc),
         15 => default_set(alloc),
         16 => Ok(What::NoOverrideTarget(reference(alloc, "file", "/a")?)),
-        18 => cycle(alloc),
-        25 => Ok(What::Failed(Text::from_str(alloc, "a\nb\n")?)),
-        30 => same_namevar(alloc),
-        _ => Ok(What::ResourceLimit),
+        _ => cycle(alloc),
     }
 }
 
@@ -77,16 +53,10 @@ fn tells_as(alloc: Global, number: u32, want: &str) -> Result<bool, Memory> {
     Ok(is_told(alloc, &fault, want)? && is_copied(alloc, &fault, want)?)
 }
 
-const FAULTS: [(u32, &str); 9] = [
-    (9, "F9 m.pp:7 MissingParameter File[/a] mode"),
-    (11, "F11 m.pp:7 BadOperand +"),
-    (14, "F14 m.pp:7 Duplicate Web::Vhost[a b] n.pp:2"),
+const FAULTS: [(u32, &str); 3] = [
     (15, "F15 m.pp:7 AlreadySet Web::Vhost mode"),
     (16, "F16 m.pp:7 NoOverrideTarget File[/a]"),
     (18, "F18 m.pp:7 Cycle File[/a] -> Notify[f] -> File[/a]"),
-    (25, "F25 m.pp:7 Failed a b "),
-    (28, "F28 m.pp:7 ResourceLimit"),
-    (30, "F30 m.pp:7 SameNamevar User[b] User[a]"),
 ];
 
 #[test]

@@ -1,8 +1,6 @@
-//! The tests of bundles, and of the texts of faults and of edges.
+//! The tests of the texts of faults and of edges that no manifest comes to yet.
 #![tactic(auto)]
 
-#[cfg(test)]
-mod bundles;
 #[cfg(test)]
 mod catalogs;
 #[cfg(test)]

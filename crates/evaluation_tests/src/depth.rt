@@ -1,15 +1,34 @@
 //! The calls for one expression and for one block, at lawful depths and past them.
-use crate::telling::{facts, parsed, stop_told};
 use class_eval::Evaluator;
 use eval_world::{Environment, Evaluated, Here};
 use hiera_config::SiteData;
+use pp_parser::manifest::parse;
 use pp_tree::expr::Expr;
 use pp_tree::file::File;
 use pp_tree::statement::{Operand, Statement};
-use pp_values::{Memory, Stop, Text, text_of};
+use pp_values::{MAIN_MANIFEST, Memory, Pairs, Stop, Text, Value, text_of};
+use site_docs::fault_text;
 use std::alloc::Global;
 use std::collections::BTreeMap;
 use std::test::Fail;
+
+/// The tree of a main manifest, which is not long.
+fn parsed(alloc: Global, manifest: &str) -> Result<File, Stop> {
+    let file = Text::from_str(alloc, MAIN_MANIFEST)?;
+    let text = Text::from_str(alloc, manifest)?;
+    if text.as_str().len() < 65536 {
+        parse(alloc, &file, &text)
+    } else {
+        Err(Stop::Memory)
+    }
+}
+
+fn stop_told(alloc: Global, stop: &Stop) -> Result<String, Memory> {
+    match stop {
+        Stop::Fault(fault) => Ok(fault_text(alloc, fault)?.into_string(alloc)?),
+        Stop::Memory => Err(Memory),
+    }
+}
 
 /// The value of a manifest's first expression (or of its statements as a block of line 5) at a depth, as a text.
 fn value_told(alloc: Global, is_block: bool, manifest: &str, depth: u32) -> Result<String, Memory> {
@@ -21,7 +40,7 @@ fn value_told(alloc: Global, is_block: bool, manifest: &str, depth: u32) -> Resu
 
 fn value_in(alloc: Global, main: &File, is_block: bool, depth: u32) -> Result<String, Memory> {
     let node = Text::from_str(alloc, "a")?;
-    let facts = facts(alloc)?;
+    let facts = Value::Hash(Pairs::new(alloc));
     let files = BTreeMap::new(alloc);
     let site_data = SiteData::new(alloc);
     let environment = Environment::new(main, &files, &site_data);
@@ -59,10 +78,10 @@ fn given(alloc: Global, answer: Result<Evaluated, Stop>) -> Result<String, Memor
 const AT_DEPTHS: [(bool, &str, u32, &str); 6] = [
     (false, "[1].map |$x| { $x + 1 }", 1, "[2]"),
     (false, "\n1", 1000, "1"),
-    (false, "\n1", 1001, "F29 manifests/site.pp:2 DepthLimit; "),
+    (false, "\n1", 1001, "F29 manifests/site.pp:2 DepthLimit"),
     (true, "$a = 1\n$a + 1\nnotify { 'n': }", 1, "2"),
-    (true, "\n1", 1000, "F29 manifests/site.pp:2 DepthLimit; "),
-    (true, "1", 1001, "F29 manifests/site.pp:5 DepthLimit; "),
+    (true, "\n1", 1000, "F29 manifests/site.pp:2 DepthLimit"),
+    (true, "1", 1001, "F29 manifests/site.pp:5 DepthLimit"),
 ];
 
 fn is_value_told(alloc: Global, row: &(bool, &str, u32, &str)) -> Result<bool, Memory> {

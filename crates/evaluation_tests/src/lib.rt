@@ -1,21 +1,7 @@
-//! The tests of what the crates of evaluation offer to callers.
+//! The tests of what the crates of evaluation offer to callers, where no manifest comes to it.
 #![tactic(auto)]
 
 #[cfg(test)]
-mod classes;
-#[cfg(test)]
 mod depth;
 #[cfg(test)]
-mod edges;
-#[cfg(test)]
-mod look_ups;
-#[cfg(test)]
-mod manifests;
-#[cfg(test)]
-mod parameters;
-#[cfg(test)]
-mod scopes;
-#[cfg(test)]
-mod steps;
-#[cfg(test)]
-mod telling;
+mod names;

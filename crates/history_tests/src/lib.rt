@@ -1,9 +1,7 @@
-//! The tests of versions, histories and requests in turn.
+//! The tests of histories and requests in turn.
 #![tactic(auto)]
 
 #[cfg(test)]
 mod history;
 #[cfg(test)]
 mod sequences;
-#[cfg(test)]
-mod versions;

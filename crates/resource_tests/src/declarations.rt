@@ -1,37 +1,28 @@
-//! The declarations of a compile: numbers, faults, marks, and what is still to be evaluated.
-use pp_values::{Kind, Memory, Place, Reference, Stop, Text, Texts, What};
-use res_book::{Book, Collector, Containment, DECLARATION_LIMIT, Mode, RelationLine, Relations};
+//! The declarations of a compile: numbers, marks, and what is still to be evaluated. Which are refused is told by manifests.
+use pp_values::{Kind, Memory, Place, Reference, Stop, Text, Texts};
+use res_book::{Book, Collector, Containment, Mode, RelationLine, Relations};
 use res_core::{Attributes, Declared, Operands, Query, QueryBox, Resource, Tags};
 use std::alloc::Global;
 use std::test::Fail;
 
-/// What a declaration answers.
-#[derive(Clone, Copy)]
-enum Told {
-    Number(u32),
-    ClassVirtual,
-    /// With the line of the earlier one.
-    Duplicate(u32),
-    TooMany,
-}
-
-/// One after another in a book, at lines from 1 on: kind, title, how it is declared, and the answer.
-const DECLARED: [(&str, &str, &str, Told); 15] = [
-    ("class", "main", "", Told::Number(0)),
-    ("file", "/a", "", Told::Number(1)),
-    ("file", "/a", "", Told::Duplicate(2)),
-    ("file", "/a", "@", Told::Duplicate(2)),
-    ("file", "/a", "import", Told::Duplicate(2)),
-    ("class", "main", "", Told::Duplicate(1)),
-    ("class", "main", "@", Told::ClassVirtual),
-    ("class", "web", "@@", Told::ClassVirtual),
-    ("web::vhost", "a", "", Told::Number(2)),
-    ("web::vhost", "b", "@", Told::Number(3)),
-    ("web::vhost", "c", "@@", Told::Number(4)),
-    ("web::vhost", "d", "import", Told::Number(5)),
-    ("file", "/A", "", Told::Number(6)),
-    ("user", "/a", "", Told::Number(7)),
-    ("file", "/A", "@@", Told::Duplicate(13)),
+/// One after another in a book, at lines from 1 on: kind, title, and how it is declared. What is declared twice, and a class that
+/// is virtual, is refused.
+const DECLARED: [(&str, &str, &str); 15] = [
+    ("class", "main", ""),
+    ("file", "/a", ""),
+    ("file", "/a", ""),
+    ("file", "/a", "@"),
+    ("file", "/a", "import"),
+    ("class", "main", ""),
+    ("class", "main", "@"),
+    ("class", "web", "@@"),
+    ("web::vhost", "a", ""),
+    ("web::vhost", "b", "@"),
+    ("web::vhost", "c", "@@"),
+    ("web::vhost", "d", "import"),
+    ("file", "/A", ""),
+    ("user", "/a", ""),
+    ("file", "/A", "@@"),
 ];
 
 /// A kind, a title, and the number that they find.
@@ -120,49 +111,9 @@ fn declare(
     book.declare(alloc, item, mode)
 }
 
-fn is_fault(told: Told, stop: &Stop) -> bool {
-    match stop {
-        Stop::Fault(fault) => is_what(told, fault.what.get()),
-        Stop::Memory => false,
-    }
-}
-
-fn is_what(told: Told, what: &What) -> bool {
-    match what {
-        What::ClassVirtual(_) => matches!(told, Told::ClassVirtual),
-        What::Duplicate {
-            reference: _,
-            earlier,
-        } => is_at(told, earlier.line),
-        What::ResourceLimit => matches!(told, Told::TooMany),
-        _ => false,
-    }
-}
-
-fn is_at(told: Told, earlier: u32) -> bool {
-    match told {
-        Told::Duplicate(line) => earlier == line,
-        _ => false,
-    }
-}
-
-fn is_number(told: Told, answer: u32) -> bool {
-    match told {
-        Told::Number(number) => answer == number,
-        _ => false,
-    }
-}
-
-fn is_told(told: Told, answer: &Result<u32, Stop>) -> bool {
-    match answer {
-        Ok(number) => is_number(told, *number),
-        Err(stop) => is_fault(told, stop),
-    }
-}
-
 fn declare_row(alloc: Global, book: &mut Book, row: u32) -> Result<u32, Stop> {
     match DECLARED.get(row as usize) {
-        Some((name, title, sign, _told)) => {
+        Some((name, title, sign)) => {
             declare(alloc, book, name, title, sign, row.saturating_add(1))
         }
         None => Err(Stop::Memory),
@@ -176,12 +127,6 @@ fn book(alloc: Global, rows: u32) -> Book {
         let _answer = declare_row(alloc, &mut book, row);
     }
     book
-}
-
-fn answers(alloc: Global, row: u32, told: Told) -> bool {
-    let mut book = book(alloc, row);
-    let answer = declare_row(alloc, &mut book, row);
-    is_told(told, &answer)
 }
 
 fn finds(alloc: Global, name: &str, title: &str, number: Option<u32>) -> Result<bool, Memory> {
@@ -250,22 +195,6 @@ fn waits(
     Ok(pending(alloc, &book)?.as_str() == told)
 }
 
-/// A book with as many declarations as there may be refuses one more, but a duplicate first.
-fn fills(alloc: Global) -> Result<bool, Stop> {
-    let mut book = Book::new(alloc);
-    for number in 0..DECLARATION_LIMIT {
-        let title = format!(in alloc; "{number}")?;
-        declare(alloc, &mut book, "file", title.as_str(), "", 1)?;
-    }
-    let more = declare(alloc, &mut book, "file", "more", "", 2);
-    let again = declare(alloc, &mut book, "file", "65535", "", 3);
-    Ok(
-        is_told(Told::TooMany, &more)
-            && is_told(Told::Duplicate(1), &again)
-            && book.count() == DECLARATION_LIMIT,
-    )
-}
-
 fn collector(alloc: Global, exported: bool) -> Result<Collector, Memory> {
     Ok(Collector {
         kind: kind(alloc, "file")?,
@@ -305,23 +234,6 @@ fn are_related(relations: &Relations) -> bool {
         && relations.containments().len() == 1
 }
 
-fn holds(outcome: Result<bool, Stop>) -> bool {
-    match outcome {
-        Ok(holds) => holds,
-        Err(_stop) => false,
-    }
-}
-
-#[test]
-fn declarations_are_numbered_or_refused(rt: HostRuntime) -> Result<(), Fail> {
-    let mut row: u32 = 0;
-    for (name, title, sign, told) in DECLARED.iter() {
-        assert!(rt; answers(rt.alloc(), row, *told), "{name} {title} {sign}");
-        row = row.saturating_add(1);
-    }
-    Ok(())
-}
-
 #[test]
 fn references_find_numbers(rt: HostRuntime) -> Result<(), Fail> {
     for (name, title, number) in FOUND.iter() {
@@ -343,12 +255,6 @@ fn instances_wait_for_their_evaluation(rt: HostRuntime) -> Result<(), Fail> {
     for (marked, evaluated, told) in PENDING.iter() {
         assert!(rt; waits(rt.alloc(), *marked, *evaluated, told)?, "{told}");
     }
-    Ok(())
-}
-
-#[test]
-fn a_full_book_refuses_one_more(rt: HostRuntime) -> Result<(), Fail> {
-    assert!(rt; holds(fills(rt.alloc())));
     Ok(())
 }
 

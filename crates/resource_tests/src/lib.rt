@@ -2,11 +2,7 @@
 #![tactic(auto)]
 
 #[cfg(test)]
-mod called;
-#[cfg(test)]
 mod declarations;
-#[cfg(test)]
-mod exported;
 #[cfg(test)]
 mod natives;
 #[cfg(test)]

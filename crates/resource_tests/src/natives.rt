@@ -1,58 +1,23 @@
-//! The native types, and which attributes a resource takes.
-use pp_values::{Kind, Memory, Place, Reference, Stop, Text, Texts, Value, What};
-use res_core::{
-    Form, Line, Lines, check_attribute, check_known, is_relation_name, known_attributes, namevar,
-    native, property,
-};
+//! The properties of the native types in their order, and names that no manifest gives to these calls.
+use pp_values::{Memory, Place, Text, Value};
+use res_core::{Form, Line, Lines, is_relation_name, native, property};
 use std::alloc::Global;
 use std::test::Fail;
 
-/// A kind, its name attribute, its properties in order, and then its other attributes.
-const NATIVES: [(&str, &str, &str, &str); 9] = [
-    (
-        "file",
-        "path",
-        " ensure content target owner group mode",
-        " path source recurse purge force backup replace",
-    ),
-    (
-        "package",
-        "name",
-        " ensure",
-        " name provider source install_options",
-    ),
-    (
-        "service",
-        "name",
-        " ensure enable",
-        " name provider hasstatus hasrestart restart",
-    ),
-    (
-        "user",
-        "name",
-        " ensure uid gid home shell comment groups",
-        " name managehome system",
-    ),
-    ("group", "name", " ensure gid", " name system"),
-    (
-        "host",
-        "name",
-        " ensure ip host_aliases comment target",
-        " name",
-    ),
+/// A kind, and its properties in order.
+const NATIVES: [(&str, &str); 9] = [
+    ("file", " ensure content target owner group mode"),
+    ("package", " ensure"),
+    ("service", " ensure enable"),
+    ("user", " ensure uid gid home shell comment groups"),
+    ("group", " ensure gid"),
+    ("host", " ensure ip host_aliases comment target"),
     (
         "cron",
-        "name",
         " ensure command user hour minute month monthday weekday",
-        " name",
     ),
-    (
-        "exec",
-        "command",
-        "",
-        " command path cwd user environment refreshonly creates returns timeout",
-    ),
-    ("notify", "name", "", " name message"),
+    ("exec", ""),
+    ("notify", ""),
 ];
 
 const OTHERS: [&str; 7] = [
@@ -63,28 +28,6 @@ const OTHERS: [&str; 7] = [
     "web::vhost",
     "schedule",
     "",
-];
-
-/// A kind, an attribute, and the fault: 0 for none.
-const CHECKS: [(&str, &str, u32); 18] = [
-    ("file", "mode", 0),
-    ("file", "source", 0),
-    ("file", "path", 0),
-    ("file", "before", 0),
-    ("file", "require", 0),
-    ("file", "notify", 0),
-    ("exec", "subscribe", 0),
-    ("exec", "tag", 0),
-    ("notify", "noop", 0),
-    ("notify", "loglevel", 0),
-    ("notify", "message", 0),
-    ("notify", "mode", 10),
-    ("file", "Mode", 10),
-    ("file", "name", 10),
-    ("file", "alias", 10),
-    ("web::vhost", "mode", 5),
-    ("web::vhost", "tag", 5),
-    ("class", "name", 5),
 ];
 
 const RELATIONS: [(&str, bool); 8] = [
@@ -122,30 +65,9 @@ fn properties(alloc: Global, kind: &Text) -> Result<Text, Memory> {
     Ok(Text::new(out))
 }
 
-fn all_attributes(alloc: Global, kind: &Text) -> Result<Text, Memory> {
-    let mut out = String::new(alloc);
-    if let Some(native) = native(kind) {
-        for name in known_attributes(alloc, native)?.as_slice() {
-            append(&mut out, name.as_str())?;
-        }
-    }
-    Ok(Text::new(out))
-}
-
-fn is_named_by(kind: &Text, name: &str) -> bool {
-    match native(kind) {
-        Some(native) => namevar(native) == name,
-        None => false,
-    }
-}
-
-fn has_row(alloc: Global, row: &(&str, &str, &str, &str)) -> Result<bool, Memory> {
+fn has_properties(alloc: Global, row: &(&str, &str)) -> Result<bool, Memory> {
     let kind = Text::from_str(alloc, row.0)?;
-    let properties = properties(alloc, &kind)?;
-    let mut all = String::from_str(alloc, row.2)?;
-    all.push_str(row.3)?;
-    let has_all = all_attributes(alloc, &kind)?.is(all.as_str());
-    Ok(is_named_by(&kind, row.1) && properties.is(row.2) && has_all)
+    Ok(properties(alloc, &kind)?.is(row.1))
 }
 
 fn is_native(alloc: Global, kind: &str) -> Result<bool, Memory> {
@@ -154,53 +76,6 @@ fn is_native(alloc: Global, kind: &str) -> Result<bool, Memory> {
 
 fn relates(alloc: Global, name: &str) -> Result<bool, Memory> {
     Ok(is_relation_name(&Text::from_str(alloc, name)?))
-}
-
-fn resource(alloc: Global, kind: &str) -> Result<Reference, Memory> {
-    let title = Text::from_str(alloc, "/x")?;
-    match Kind::from_text(Text::from_str(alloc, kind)?) {
-        Some(kind) => Ok(Reference { kind, title }),
-        None => Err(Memory),
-    }
-}
-
-/// The fault's number where it names this kind, or this resource and this attribute.
-fn number(stop: &Stop, what: &Reference, name: &Text) -> u32 {
-    match stop {
-        Stop::Fault(fault) => match fault.what.get() {
-            What::UnknownType(kind) if kind == what.kind.as_text() => 5,
-            What::UnknownParameter {
-                reference,
-                name: told,
-            } if reference == what && told == name => { 10 }
-            _ => 99,
-        },
-        Stop::Memory => 98,
-    }
-}
-
-fn outcome(answer: Result<(), Stop>, what: &Reference, name: &Text) -> u32 {
-    match answer {
-        Ok(()) => 0,
-        Err(stop) => number(&stop, what, name),
-    }
-}
-
-fn is_checked(alloc: Global, row: &(&str, &str, u32)) -> Result<bool, Memory> {
-    let what = resource(alloc, row.0)?;
-    let name = Text::from_str(alloc, row.1)?;
-    let at = place(alloc)?;
-    Ok(outcome(check_attribute(alloc, &what, &name, &at), &what, &name) == row.2)
-}
-
-/// A defined type takes its parameters and the metaparameters.
-fn is_checked_by_parameters(alloc: Global, name: &str, fault: u32) -> Result<bool, Memory> {
-    let what = resource(alloc, "web::vhost")?;
-    let mut known = Texts::new(alloc);
-    known.push(Text::from_str(alloc, "port")?)?;
-    let name = Text::from_str(alloc, name)?;
-    let at = place(alloc)?;
-    Ok(outcome(check_known(alloc, &what, &known, &name, &at), &what, &name) == fault)
 }
 
 /// A line that is put into a list, and its parts.
@@ -225,9 +100,9 @@ fn line_parts(alloc: Global) -> Result<bool, Memory> {
 }
 
 #[test]
-fn native_types_have_their_rows(rt: HostRuntime) -> Result<(), Fail> {
+fn native_types_have_their_properties(rt: HostRuntime) -> Result<(), Fail> {
     for row in NATIVES.iter() {
-        assert!(rt; has_row(rt.alloc(), row)?, "{}", row.0);
+        assert!(rt; has_properties(rt.alloc(), row)?, "{}", row.0);
     }
     Ok(())
 }
@@ -237,22 +112,6 @@ fn other_kinds_are_not_native(rt: HostRuntime) -> Result<(), Fail> {
     for kind in OTHERS.iter() {
         assert!(rt; !is_native(rt.alloc(), kind)?, "{kind}");
     }
-    Ok(())
-}
-
-#[test]
-fn attributes_are_checked(rt: HostRuntime) -> Result<(), Fail> {
-    for row in CHECKS.iter() {
-        assert!(rt; is_checked(rt.alloc(), row)?, "{}", row.1);
-    }
-    Ok(())
-}
-
-#[test]
-fn parameters_are_checked(rt: HostRuntime) -> Result<(), Fail> {
-    assert!(rt; is_checked_by_parameters(rt.alloc(), "port", 0)?);
-    assert!(rt; is_checked_by_parameters(rt.alloc(), "tag", 0)?);
-    assert!(rt; is_checked_by_parameters(rt.alloc(), "mode", 10)?);
     Ok(())
 }
 

@@ -7,6 +7,4 @@ mod commands;
 #[cfg(test)]
 mod lookups;
 #[cfg(test)]
-mod manifests;
-#[cfg(test)]
 mod replies;

@@ -1,12 +1,15 @@
-//! Measures of two tables. `merge COUNT` merges two hashes of so many keys, half of which are in both, and prints how many keys
-//! there are then; `lines COUNT` reads an attribute that so many override lines set, and prints how many lines there are.
+//! Measures, each by a word and a count: `lines COUNT` reads an attribute that so many override lines set, and prints how many
+//! lines there are; `chain`, `star` and `random COUNT` order so many resources with about as many edges, and print how many were
+//! ordered. Several are taken one after another.
 #![tactic(auto)]
 
 mod lines;
-mod merging;
+mod orders;
+mod shapes;
 
 use lines::overridden;
-use merging::merged;
+use orders::ordered;
+use shapes::Shape;
 use std::alloc::Global;
 use std::process::ExitCode;
 use std::rt::Env;
@@ -17,21 +20,25 @@ fn main(rt: HostRuntime) -> io::Result<ExitCode> {
     for word in env::args(&rt)?.skip(1) {
         words.push(word)?;
     }
-    match measured(rt.alloc(), words.as_slice()) {
-        Some(count) => println!(rt; "{count}")?,
-        None => eprintln!(rt; "usage: table_measures merge|lines COUNT")?,
+    let mut rest = words.as_slice();
+    while let [measure, count, further @ ..] = rest {
+        let Some(found) = measured(rt.alloc(), measure.as_str(), count.as_str()) else {
+            eprintln!(rt; "usage: table_measures lines|chain|star|random COUNT ..")?;
+            return Ok(ExitCode::from(64));
+        };
+        println!(rt; "{found}")?;
+        rest = further;
     }
     Ok(ExitCode::from(0))
 }
 
-fn measured(alloc: Global, words: &[String]) -> Option<usize> {
-    let [measure, count] = words else {
-        return None;
-    };
-    let count: u32 = count.as_str().parse().ok()?;
-    match measure.as_str() {
-        "merge" => merged(alloc, count).ok(),
+fn measured(alloc: Global, measure: &str, count: &str) -> Option<usize> {
+    let count: u32 = count.parse().ok()?;
+    match measure {
         "lines" => overridden(alloc, count).ok(),
+        "chain" => ordered(alloc, Shape::Chain, count),
+        "star" => ordered(alloc, Shape::Star, count),
+        "random" => ordered(alloc, Shape::Random, count),
         _ => None,
     }
 }

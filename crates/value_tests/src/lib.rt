@@ -1,21 +1,9 @@
-//! The tests of values: data types, operators, functions, and their text as JSON.
+//! The tests of values that no command comes to yet: copies, forms, names.
 #![tactic(auto)]
 
 #[cfg(test)]
-mod accepting;
-#[cfg(test)]
-mod comparing;
-#[cfg(test)]
 mod copies;
 #[cfg(test)]
-mod functions;
+mod forms;
 #[cfg(test)]
-mod hashes;
-#[cfg(test)]
-mod json;
-#[cfg(test)]
-mod operators;
-#[cfg(test)]
-mod types;
-#[cfg(test)]
-mod values;
+mod names;

@@ -1,7 +1,6 @@
-//! Values out of their forms.
-use crate::sites::form_text;
-use json_values::{FormStop, from_form};
-use pp_values::{Memory, Value};
+//! Values out of their forms, and back: no command reads a form yet, or writes one of a value that may have none.
+use json_values::{FormStop, from_form, to_form};
+use pp_values::{Memory, Value, Values};
 use serde_json::Value as Json;
 use std::alloc::Global;
 use std::test::Fail;
@@ -13,6 +12,11 @@ fn read(alloc: Global, text: &str) -> Result<Option<Value>, Fail> {
         Err(FormStop::NoForm) => Ok(None),
         Err(FormStop::Memory) => Err(Fail::from(Memory)),
     }
+}
+
+/// The text of a value's form.
+fn form_text(alloc: Global, value: &Value) -> Result<String, Fail> {
+    Ok(to_form(alloc, value)?.to_string(alloc)?)
 }
 
 fn is_form(alloc: Global, text: &str) -> Result<bool, Fail> {
@@ -78,5 +82,23 @@ fn no_forms(rt: HostRuntime) -> Result<(), Fail> {
     for text in NO_FORMS.iter() {
         assert!(rt; is_none(rt.alloc(), text)?, "{text}");
     }
+    Ok(())
+}
+
+/// A list with `default` in it.
+fn with_default(alloc: Global) -> Result<Value, Memory> {
+    let mut items = Values::new(alloc);
+    items.push(Value::Int(1))?;
+    items.push(Value::Default)?;
+    Ok(Value::List(items))
+}
+
+fn has_no_form(alloc: Global) -> Result<bool, Fail> {
+    Ok(matches!(to_form(alloc, &with_default(alloc)?), Err(FormStop::NoForm)))
+}
+
+#[test]
+fn no_form(rt: HostRuntime) -> Result<(), Fail> {
+    assert!(rt; has_no_form(rt.alloc())?);
     Ok(())
 }

@@ -2,3 +2,4 @@ mod Examples
 mod Levels
 mod NodeLines
 mod Pairs
+mod Single

@@ -1,16 +1,20 @@
 //! Statements and blocks.
-ghost use Rattle.std.specs.Prelude.{◌≡◌};
+ghost use Rattle.std.specs.Prelude.{◌≡◌, IfSome};
+ghost use Rattle.class_eval.specs.Single.{IsBlock, IsChain, IsOperand, IsStatement};
 ghost use Rattle.class_eval.specs.Statements as spec;
 ghost use Rattle.eval_world.specs.Nests.{Nests};
 ghost use Rattle.eval_world.specs.Outcomes.{Gives, same};
+ghost use Rattle.pp_tree.specs.declared.statement.Operand.{out-Operand};
+ghost use Rattle.pp_tree.specs.declared.statement.Statement.{out-Statement};
 
 use eval_resources::{collector, resource};
 use eval_world::{Evaluated, Forms, Goal, Here, Meaning, World};
+use pp_tree::expr::Expr;
 use pp_tree::statement::{Block, Chain, Operand, Statement};
 use pp_values::{Stop, Value};
 
 /// The value of a block: that of its last statement that gives one, and Undef where none does.
-#[tactic(auto, unfolding(crate::specs::Statements::statements_from))]
+#[tactic(auto, unfolding(crate::specs::Statements::statements_from), using(crate::proofs::Single::of_block))]
 pub fn block<F: Fn(&mut World<'_>, Goal<'_>, Here, u32) -> Result<Evaluated, Stop>, M: Meaning>(
     forms: &Forms<F, M>,
     world: &mut World<'_>,
@@ -20,6 +24,9 @@ pub fn block<F: Fn(&mut World<'_>, Goal<'_>, Here, u32) -> Result<Evaluated, Sto
     requires { Nests (M.within forms.now.left) forms.now.left (F.pre forms.now.inner) (F.post forms.now.inner) }
     ensures { Gives same (spec.block_rule (M.within forms.now.left) block.now here world.old) result world.new }
 {
+    if let Some(expr) = only_expression(block) {
+        return forms.value(world, expr, here);
+    }
     let mut last = Evaluated::new(Value::Undef);
     let mut rest = block.as_slice();
     while let Some((next, more)) = rest.split_first() {
@@ -28,6 +35,43 @@ pub fn block<F: Fn(&mut World<'_>, Goal<'_>, Here, u32) -> Result<Evaluated, Sto
         rest = more;
     }
     Ok(last)
+}
+
+/// The expression that a block is, where it is nothing more.
+fn only_expression(block: &Block) -> Option<&Expr>
+    ensures { IfSome result (λ e. IsBlock e.now block.now) }
+{
+    match block.as_slice() {
+        [only] => stated(only),
+        _ => None,
+    }
+}
+
+fn stated(statement: &Statement) -> Option<&Expr>
+    ensures { IfSome result (λ e. IsStatement e.now (out-Statement statement.now)) }
+{
+    match statement {
+        Statement::Chain(chain) => alone(chain),
+        Statement::Words(_) => None,
+    }
+}
+
+fn alone(chain: &Chain) -> Option<&Expr>
+    ensures { IfSome result (λ e. IsChain e.now chain.now.links chain.now.first) }
+{
+    match chain.links.as_slice() {
+        [] => expressed(&chain.first),
+        _ => None,
+    }
+}
+
+fn expressed(operand: &Operand) -> Option<&Expr>
+    ensures { IfSome result (λ e. IsOperand e.now (out-Operand operand.now)) }
+{
+    match operand {
+        Operand::Expr(expr) => Some(expr),
+        _ => None,
+    }
 }
 
 fn or_before(given: Option<Evaluated>, before: Evaluated) -> Evaluated

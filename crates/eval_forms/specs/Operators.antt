@@ -1,5 +1,5 @@
 -- Operators before and between values, and assignments.
-use Rattle.std.specs.Prelude.{ℕ, Bool, true, false, not, List, [], ◌∷◌}
+use Rattle.std.specs.Prelude.{◌≡◌, ℕ, Bool, true, false, not, List, [], ◌∷◌}
 use Rattle.expr_eval.specs.Spreading.{spread}
 use Rattle.expr_eval.specs.Testing.{is_of}
 use Rattle.expr_eval.specs.Truth.{is_true}
@@ -98,6 +98,11 @@ operations_from inner done [] line here = pure done
 operations_from inner done (o ∷ os) line here = do
   more ← operation_rule inner done o line here
   operations_from inner more os line here
+
+-- it is the only operation
+abbrev pub IsOnly : Operation Expr → List (Operation Expr) → Type 0
+IsOnly o (p ∷ []) = p ≡ o
+IsOnly o _ = ⊥
 
 -- `$a + 1 - $b`
 unfoldable pub binary_rule : Inner → Expr → List (Operation Expr) → ℕ → Here → Step Datum

@@ -1,5 +1,5 @@
 //! Chains of operators between values.
-ghost use Rattle.std.specs.Prelude.{◌≡◌};
+ghost use Rattle.std.specs.Prelude.{◌≡◌, IfSome};
 ghost use Rattle.pp_values.specs.Views.{view};
 ghost use Rattle.eval_forms.specs.Operators as spec;
 ghost use Rattle.eval_world.specs.Nests.{Nests};
@@ -29,8 +29,45 @@ pub fn binary<F: Fn(&mut World<'_>, Goal<'_>, Here, u32) -> Result<Evaluated, St
     ensures { Gives same (spec.binary_rule (M.within forms.now.left) first.now operations.now line here world.old)
         result world.new }
 {
+    if let Some(result) = over_known(forms, world, first, operations, line, here) {
+        return result;
+    }
     let first = forms.value(world, first, here)?;
     operations_from(forms, world, first, operations, line, here)
+}
+
+/// The same of one operator between a variable and a variable or an integer: without a copy of a value.
+fn over_known<F: Fn(&mut World<'_>, Goal<'_>, Here, u32) -> Result<Evaluated, Stop>, M: Meaning>(
+    forms: &Forms<F, M>,
+    world: &World<'_>,
+    first: &Expr,
+    operations: &Items<Operation>,
+    line: u32,
+    here: Here,
+) -> Option<Result<Evaluated, Stop>>
+    ensures { IfSome result (λ r. Gives same
+        (spec.binary_rule (M.within forms.now.left) first.now operations.now line here world.now) r world.now) }
+{
+    let only = only_one(operations)?;
+    let OperatorKind::Combine(op) = OperatorKind::of(only.operator) else {
+        return None;
+    };
+    if let Some(number) = forms.number(&only.right) {
+        let left = forms.known(world, first, here)?;
+        return Some(combined(world, op, left, &Value::Int(number), line, here));
+    }
+    let right = forms.known(world, &only.right, here)?;
+    let left = forms.known(world, first, here)?;
+    Some(combined(world, op, left, right, line, here))
+}
+
+fn only_one(operations: &Items<Operation>) -> Option<&Operation>
+    ensures { IfSome result (λ o. spec.IsOnly o.now operations.now) }
+{
+    match operations.as_slice() {
+        [only] => Some(only),
+        _ => None,
+    }
 }
 
 /// Operations behind a value, from the left.

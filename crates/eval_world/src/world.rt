@@ -1,5 +1,7 @@
 ghost use Rattle.std.specs.Prelude.{◌≡◌, [], IfOk};
 ghost use Rattle.pp_values.specs.Faults.{fault};
+ghost use Rattle.pp_values.specs.declared.fault.Stop.TheVariants as stop;
+ghost use Rattle.pp_values.specs.declared.fault.What.TheVariants as what;
 ghost use Rattle.eval_world.specs.Outcomes.{Gives, nothing, same};
 ghost use Rattle.eval_world.specs.Worlds as spec;
 
@@ -132,9 +134,8 @@ impl<'a> World<'a> {
         }
     }
 
-    /// Sets a variable. F3 is placed at this line, and a place is made only for it: the scopes are asked with no
-    /// place at all.
-    #[tactic(auto, unfolding(crate::specs::Worlds::assign), using(crate::proofs::Elsewhere::set_here, crate::proofs::Elsewhere::refused_here))]
+    /// Sets a variable. F3 is placed at this line, and a place is made only for it.
+    #[tactic(auto, using(crate::proofs::Elsewhere::set_here, crate::proofs::Elsewhere::refused_here))]
     pub fn assign(
         &mut self,
         here: Here,
@@ -145,18 +146,18 @@ impl<'a> World<'a> {
         ensures { Gives nothing (spec.assign here name.now value line self.old) result self.new }
     {
         let alloc = self.heap.alloc();
-        let nowhere = self.nowhere();
-        match self
-            .scopes
-            .assign(alloc, here.scope, name, value.into_value(), &nowhere)
-        {
-            Ok(()) => Ok(()),
-            Err(Stop::Memory) => Err(Stop::Memory),
-            Err(Stop::Fault(_)) => {
-                let name = name.copy(alloc)?;
-                Err(Stop::Fault(self.fault(here, line, What::Reassigned(name))?))
-            }
+        match self.scopes.put(alloc, here.scope, name, value.into_value()) {
+            Ok(true) => Ok(()),
+            Ok(false) => Err(self.reassigned(here, name, line)?),
+            Err(Memory) => Err(Stop::Memory),
         }
+    }
+
+    fn reassigned(&self, here: Here, name: &Text, line: u32) -> Result<Stop, Memory>
+        ensures { IfOk result (λ s. s ≡ stop.Fault (fault (spec.place_at self.now here line) (what.Reassigned name.now))) }
+    {
+        let name = name.copy(self.heap.alloc())?;
+        Ok(Stop::Fault(self.fault(here, line, What::Reassigned(name))?))
     }
 
     /// The scope of one call of a lambda that stands here.

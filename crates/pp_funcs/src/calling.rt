@@ -31,7 +31,15 @@ pub fn call_pure(alloc: Global, name: &Text, args: &Values, at: &Place) -> Resul
     requires { needs_evaluator name.now ≡ false }
     ensures { Answers (said result) (applied name.now args.now at.now) }
 {
-    match called(alloc, name, args.as_slice()) {
+    call_pure_of(alloc, name, args.as_slice(), at)
+}
+
+/// The same of arguments that are borrowed.
+pub fn call_pure_of(alloc: Global, name: &Text, args: &[Value], at: &Place) -> Result<Value, Stop>
+    requires { needs_evaluator name.now ≡ false }
+    ensures { Answers (said result) (applied name.now (views args.now) at.now) }
+{
+    match called(alloc, name, args) {
         Ok(value) => Ok(value),
         Err(Halt::Memory) => Err(Stop::Memory),
         Err(Halt::Refused(refusal)) => Err(Stop::Fault(refusal_fault(alloc, name, at, refusal)?)),

@@ -54,7 +54,13 @@ fn is_empty_value(value: &Value) -> Result<Value, Halt>
 fn characters(text: &[u8]) -> usize
     ensures { result ≡ characters text.now }
 {
-    text.iter().filter(|byte| is_first(**byte)).count()
+    let mut count = 0;
+    for byte in text {
+        if is_first(*byte) {
+            count += 1;
+        }
+    }
+    count
 }
 
 /// Whether the byte is the first one of a character.

@@ -15,6 +15,6 @@ pub mod seen;
 pub mod stripping;
 pub mod texting;
 
-pub use calling::call_pure;
+pub use calling::{call_pure, call_pure_of};
 pub use evaluated::{EVALUATED, needs_evaluator};
 pub use function::{FUNCTIONS, Function};

@@ -1,5 +1,5 @@
 -- What calls on scopes answer.
-use Rattle.std.specs.Prelude.{◌≡◌, IsTrue, is_err, Result, Ok, Err}
+use Rattle.std.specs.Prelude.{◌≡◌, Bool, true, false, IsTrue, is_err, Result, Ok, Err}
 use denote.Ref as Ref
 use Rattle.pp_values.specs.Answers.{IsRefused, fault_told}
 use Rattle.pp_values.specs.Datum.{Datum}
@@ -7,6 +7,7 @@ use Rattle.pp_values.specs.Views.{view}
 use Rattle.pp_values.specs.declared.fault.Fault.{Fault}
 use Rattle.pp_values.specs.declared.fault.Stop.{Stop}
 use Rattle.pp_values.specs.declared.fault.Stop.TheVariants as stop
+use Rattle.pp_values.specs.declared.memory.Memory.{Memory}
 use Rattle.pp_values.specs.declared.value.Value.{Value}
 use Rattle.scope_core.specs.Scopes.{Scopes}
 
@@ -20,3 +21,10 @@ Reads meant (Err stop.Memory) = IsTrue (is_err meant)
 abbrev pub Changes : Result Scopes Fault → Scopes → Result (Unit {0}) Stop → Scopes → Type 0
 Changes meant old (Ok u) new = meant ≡ Ok new
 Changes meant old (Err e) new = (new ≡ old) × IsRefused (fault_told e) meant
+
+-- A call that puts a name into a scope: true where it is set now, false where it may not be set. Where there is no
+-- memory, the scopes stay as they were.
+abbrev pub Puts : Bool → Scopes → Scopes → Result Bool Memory → Scopes → Type 0
+Puts is_set named old (Ok true) new = (is_set ≡ false) × (new ≡ named)
+Puts is_set named old (Ok false) new = (is_set ≡ true) × (new ≡ old)
+Puts is_set named old (Err e) new = new ≡ old

@@ -5,10 +5,11 @@ ghost use Rattle.scope_core.specs.Scopes.{scope_of, ended};
 
 use crate::binding::Binding;
 use crate::owner::Owner;
-use crate::scope_names::ScopeNames;
+use crate::scope_names::{Room, ScopeNames};
 use pp_values::{Memory, Text, Value};
 use std::alloc::Global;
 use std::marker::Model;
+use std::mem;
 
 /// One scope. A contract sees its names by name in byte order, with what their values say.
 #[derive(Drop)]
@@ -64,26 +65,35 @@ impl Scope {
         }
     }
 
-    /// Sets a name. Where there is no memory, the scope stays as it was.
-    pub fn set(&mut self, alloc: Global, name: Text, value: Binding) -> Result<(), Memory>
+    /// Sets a name, the first one in this room. Where there is no memory, the scope stays as it was.
+    pub fn set(
+        &mut self,
+        alloc: Global,
+        room: &mut Room,
+        name: Text,
+        value: Binding,
+    ) -> Result<(), Memory>
         ensures { self.new
             ≡ (if is_ok result then record self.old { names = with_value name value self.old.names } else self.old) }
     {
         if let Some(names) = &mut self.names {
             return names.set(alloc, name, value);
         }
-        self.names = Some(ScopeNames::of_one(alloc, name, value)?);
+        let room = mem::replace(room, Vec::new(alloc));
+        self.names = Some(ScopeNames::of_one(alloc, room, name, value)?);
         Ok(())
     }
 
-    /// Ends the scope of a lambda's call.
-    pub fn end(&mut self)
+    /// Ends the scope of a lambda's call, whose names give their room.
+    pub fn end(&mut self, room: &mut Room)
         ensures { self.new ≡ ended self.old.owner self.old }
     {
         if self.owner == Owner::Lambda {
             self.owner = Owner::Ended;
             self.parent = 0;
-            self.names = None;
+            if let Some(names) = self.names.take() {
+                *room = names.into_room();
+            }
         }
     }
 }

@@ -12,6 +12,9 @@ use pp_values::{Memory, Text, Value};
 use std::alloc::Global;
 use std::marker::Model;
 
+/// What the first names of a scope lie in, kept for another scope's.
+pub type Room = Vec<(Text, Binding)>;
+
 /// How many names lie in a list and are compared one by one. What is set behind them goes into an ordered map.
 const FEW: usize = 8;
 
@@ -21,7 +24,7 @@ const FEW: usize = 8;
 /// at less cost than a map.
 #[derive(Drop)]
 pub struct ScopeNames {
-    first: Vec<(Text, Binding)>,
+    first: Room,
     later: Named<Binding>,
 }
 
@@ -41,16 +44,31 @@ impl Model for ScopeNames {
 }
 
 impl ScopeNames {
-    /// One name with its value.
-    pub fn of_one(alloc: Global, name: Text, value: Binding) -> Result<ScopeNames, Memory>
+    /// One name with its value. What the room holds is let go.
+    pub fn of_one(
+        alloc: Global,
+        room: Room,
+        name: Text,
+        value: Binding,
+    ) -> Result<ScopeNames, Memory>
         ensures { IfOk result (λ names. names ≡ (name, value) ∷ []) }
     {
-        let mut first = Vec::new(alloc);
+        let mut first = room;
+        first.clear();
         first.push((name, value))?;
         Ok(ScopeNames {
             first,
             later: Named::new(alloc),
         })
+    }
+
+    /// What the first names lie in.
+    pub fn into_room(self) -> Room {
+        let ScopeNames {
+            first,
+            later: _later,
+        } = self;
+        first
     }
 
     #[tactic(auto, using(crate::proofs::Puts::found_in_both))]

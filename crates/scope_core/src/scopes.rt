@@ -2,7 +2,7 @@ ghost use Rattle.std.specs.Prelude.{◌≡◌, length, map, option_map, is_ok, i
 ghost use Rattle.std.specs.Char.{to_ascii_lowercase};
 ghost use Rattle.pp_values.specs.Views.{view};
 ghost use Rattle.scope_core.specs.Names.{value_of_class};
-ghost use Rattle.scope_core.specs.Outcomes.{Changes, Reads};
+ghost use Rattle.scope_core.specs.Outcomes.{Changes, Puts, Reads};
 ghost use Rattle.scope_core.specs.Scopes as spec;
 
 use crate::binding::Binding;
@@ -13,6 +13,7 @@ use crate::owner::Owner;
 use crate::scope::Scope;
 use crate::scope_id::ScopeId;
 use crate::scope_kind::ScopeKind;
+use crate::scope_names::Room;
 use pp_values::{Memory, Place, Stop, Text, Value};
 use std::alloc::Global;
 use std::marker::Model;
@@ -25,6 +26,8 @@ pub struct Scopes {
     scopes: Vec<Scope>,
     node: u32,
     classes: Named<u32>,
+    /// That of the call of a lambda that ended last: the next call puts its names there.
+    room: Room,
 }
 
 impl Model for Scopes {
@@ -48,6 +51,7 @@ impl Scopes {
             scopes,
             node: 0,
             classes: Named::new(alloc),
+            room: Vec::new(alloc),
         })
     }
 
@@ -91,10 +95,11 @@ impl Scopes {
     pub fn leave(&mut self, scope: ScopeId)
         ensures { self.new ≡ spec.left scope.number self.old }
     {
-        end_scope(&mut self.scopes, scope.number as usize);
+        end_scope(&mut self.scopes, &mut self.room, scope.number as usize);
     }
 
     /// Sets a name in one scope. A name may be set once there; `facts` and `trusted` nowhere once top scope has them.
+    #[tactic(auto, unfolding(crate::specs::Scopes::assign))]
     pub fn assign(
         &mut self,
         alloc: Global,
@@ -105,26 +110,44 @@ impl Scopes {
     ) -> Result<(), Stop>
         ensures { Changes (spec.assign scope.number name.now (view value) at.now self.old) self.old result self.new }
     {
-        self.assign_binding(alloc, scope, name, Binding::new(value), at)
+        match self.put(alloc, scope, name, value) {
+            Ok(true) => Ok(()),
+            Ok(false) => Err(Stop::from(reassigned(alloc, name, at)?)),
+            Err(Memory) => Err(Stop::Memory),
+        }
     }
 
-    #[tactic(auto, unfolding(crate::specs::Scopes::assign))]
-    fn assign_binding(
+    /// The same for whoever tells the fault: false where the name may not be set.
+    pub fn put(
+        &mut self,
+        alloc: Global,
+        scope: ScopeId,
+        name: &Text,
+        value: Value,
+    ) -> Result<bool, Memory>
+        ensures { Puts (spec.is_set scope.number name.now self.old)
+            (spec.with_name scope.number name.now (view value) self.old) self.old result self.new }
+    {
+        self.put_binding(alloc, scope, name, Binding::new(value))
+    }
+
+    fn put_binding(
         &mut self,
         alloc: Global,
         scope: ScopeId,
         name: &Text,
         value: Binding,
-        at: &Place,
-    ) -> Result<(), Stop>
-        ensures { Changes (spec.assign scope.number name.now value at.now self.old) self.old result self.new }
+    ) -> Result<bool, Memory>
+        ensures { Puts (spec.is_set scope.number name.now self.old)
+            (spec.with_name scope.number name.now value self.old) self.old result self.new }
     {
         if self.is_set(scope.number, name) {
-            return Err(Stop::from(reassigned(alloc, name, at)?));
+            return Ok(false);
         }
         let name = name.copy(alloc)?;
-        set_name(alloc, &mut self.scopes, scope.number as usize, name, value)?;
-        Ok(())
+        let place = scope.number as usize;
+        set_name(alloc, &mut self.scopes, &mut self.room, place, name, value)?;
+        Ok(true)
     }
 
     /// The value of a name as it is written after `$`: `x`, `::x` or `c::x`.
@@ -267,17 +290,18 @@ fn lowered(alloc: Global, name: Text) -> Result<Text, Memory>
     Ok(Text::new(name))
 }
 
-fn end_scope(scopes: &mut Vec<Scope>, place: usize)
+fn end_scope(scopes: &mut Vec<Scope>, room: &mut Room, place: usize)
     ensures { scopes.new.items ≡ spec.scopes_after place (slice_get scopes.old.items place) scopes.old.items }
 {
     if let Some(scope) = scopes.get_mut(place) {
-        scope.end();
+        scope.end(room);
     }
 }
 
 fn set_name(
     alloc: Global,
     scopes: &mut Vec<Scope>,
+    room: &mut Room,
     place: usize,
     name: Text,
     value: Binding,
@@ -288,7 +312,7 @@ fn set_name(
         else scopes.old.items) }
 {
     match scopes.get_mut(place) {
-        Some(scope) => scope.set(alloc, name, value),
+        Some(scope) => scope.set(alloc, room, name, value),
         None => Ok(()),
     }
 }

@@ -6,3 +6,4 @@ mod Kept
 mod Pending
 mod References
 mod Tables
+mod Claimed

@@ -1,7 +1,7 @@
-ghost use Rattle.std.specs.Prelude.{◌≡◌, ◌<◌, [], ◌∷◌, ◌++◌, length, not, is_ok, if◌then◌else◌, option_copied, slice_get, IfOk, IsTrue};
+ghost use Rattle.std.specs.Prelude.{◌≡◌, ◌<◌, [], length, not, option_copied, slice_get, IsTrue};
 ghost use Rattle.res_book.specs.Outcomes.{Changes};
 ghost use Rattle.res_book.specs.Rows.{reference_of, is_class_virtual as class_virtual_meant, is_virtual as virtual_meant, is_live as live_meant, is_instance as instance_meant, is_pending as pending_meant};
-ghost use Rattle.res_book.specs.Rows.{AreApart, AreContained, item_at, mode_at, is_live_at, is_pending_at, pending_from, pending_after, bound_at, number_of, declared, declared_as, declared_last, is_contained, limit, with_mark, with_bound};
+ghost use Rattle.res_book.specs.Rows.{AreApart, AreContained, item_at, mode_at, is_live_at, is_pending_at, pending_from, pending_after, bound_at, number_of, declared, declared_as, declared_once, is_contained, limit, with_mark, with_bound};
 
 use crate::faults::{class_virtual, duplicate, too_many};
 use crate::mode::Mode;
@@ -113,9 +113,12 @@ impl Book {
         if is_class_virtual(&item, &mode) {
             return Err(Stop::Fault(class_virtual(alloc, &item)?));
         }
+        if self.count() < DECLARATION_LIMIT {
+            return self.declare_once(alloc, item, mode);
+        }
         match self.earlier(&item) {
             Some(row) => Err(Stop::Fault(duplicate(alloc, &item, &row.item.at)?)),
-            None => self.declare_new(alloc, item, mode),
+            None => Err(Stop::Fault(too_many(alloc, &item)?)),
         }
     }
 
@@ -135,38 +138,31 @@ impl Book {
         self.numbers.get(item.item.kind.as_text(), &item.item.title)
     }
 
-    /// Declares a resource that is not declared yet.
-    fn declare_new(&mut self, alloc: Global, item: Declared, mode: Mode) -> Result<u32, Stop>
-        requires new { declared_as (reference_of item) self.old ≡ None }
+    /// Declares a resource where there is room, unless its reference is declared. Whatever the error, all stays as it
+    /// was.
+    fn declare_once(&mut self, alloc: Global, item: Declared, mode: Mode) -> Result<u32, Stop>
         requires contained { IsTrue (is_contained item.container self.old) }
-        ensures { Changes (declared_last item mode self.old) self.old result self.new }
-    {
-        if self.count() >= DECLARATION_LIMIT {
-            return Err(Stop::Fault(too_many(alloc, &item)?));
-        }
-        let row = Row {
-            item,
-            mode,
-            marked: false,
-            bound: None,
-        };
-        Ok(self.add(alloc, row)?)
-    }
-
-    /// Adds a row, whose reference no other has. Where there is no memory, all stays as it was.
-    fn add(&mut self, alloc: Global, row: Row) -> Result<u32, Memory>
-        requires new { declared_as (reference_of row.item) self.old ≡ None }
-        requires contained { IsTrue (is_contained row.item.container self.old) }
         requires room { length self.old < limit }
-        ensures number { IfOk result (λ n. n ≡ length self.old) }
-        ensures rows { self.new ≡ (if is_ok result then self.old ++ row ∷ [] else self.old) }
+        ensures { Changes (declared_once item mode (declared_as (reference_of item) self.old) self.old) self.old result self.new }
     {
         let number = self.count();
         self.rows.reserve(1)?;
-        let kind = row.item.item.kind.as_text();
-        self.numbers.set(alloc, kind, &row.item.item.title, number)?;
-        self.rows.push(row)?;
-        Ok(number)
+        let kind = item.item.kind.as_text();
+        match self.numbers.claim(alloc, kind, &item.item.title, number)? {
+            Some(earlier) => {
+                let earlier = self.row(earlier);
+                Err(Stop::Fault(duplicate(alloc, &item, &earlier.item.at)?))
+            }
+            None => {
+                self.rows.push(Row {
+                    item,
+                    mode,
+                    marked: false,
+                    bound: None,
+                })?;
+                Ok(number)
+            }
+        }
     }
 
     /// Whether a declaration is live: neither virtual nor exported, or taken by a collector.

@@ -1,10 +1,10 @@
 //! The numbers of declarations, by reference.
-ghost use Rattle.std.specs.Prelude.{◌≡◌, ℕ, List, if◌then◌else◌, IfOk, IsSome, OnOk, OnErr};
+ghost use Rattle.std.specs.Prelude.{◌≡◌, ℕ, List, if◌then◌else◌, IfOk, IsSome};
 ghost use Rattle.std.specs.BTreeMap.{get};
 ghost use Rattle.std.specs.Cmp.Lexicographic.{slice_cmp};
 ghost use Rattle.std.specs.Ordering.{nat_cmp};
 ghost use Rattle.std.specs.Str.{bytes_eq};
-ghost use Rattle.res_book.specs.Numbers.{number_in, number_at, Adds, Keeps};
+ghost use Rattle.res_book.specs.Numbers.{number_in, number_at, Claims, ClaimsTitle};
 
 use pp_values::{Memory, Text};
 use std::alloc::Global;
@@ -36,43 +36,53 @@ impl Numbers {
         }
     }
 
-    /// Sets the number of a kind and title. Where there is no memory, what is found stays the same.
-    pub fn set(
+    /// Sets the number of a kind and title that has none. Where it has one, that is the answer, and what is found
+    /// stays the same. So it does where there is no memory.
+    pub fn claim(
         &mut self,
         alloc: Global,
         kind: &Text,
         title: &Text,
         number: u32,
-    ) -> Result<(), Memory>
-        ensures added { OnOk result (Adds kind.now title.now number self.old.by_kind self.new.by_kind) }
-        ensures kept { OnErr result (Keeps self.old.by_kind self.new.by_kind) }
+    ) -> Result<Option<u32>, Memory>
+        ensures { Claims kind.now title.now number self.old.by_kind self.new.by_kind result }
     {
-        if self.by_kind.contains_key(kind) {
-            return self.set_title(alloc, kind, title, number);
+        if let Some(titles) = self.by_kind.get_mut(kind) {
+            return claim_title(alloc, titles, title, number);
         }
         let kind = kind.copy(alloc)?;
         let titles = only(alloc, title, number)?;
         self.by_kind.insert(kind, titles)?;
-        Ok(())
+        Ok(None)
     }
+}
 
-    /// Sets the number of a title of a kind that has titles already.
-    fn set_title(
-        &mut self,
-        alloc: Global,
-        kind: &Text,
-        title: &Text,
-        number: u32,
-    ) -> Result<(), Memory>
-        requires { IsSome (get (slice_cmp nat_cmp) self.old.by_kind kind.now) }
-        ensures added { OnOk result (Adds kind.now title.now number self.old.by_kind self.new.by_kind) }
-        ensures kept { OnErr result (Keeps self.old.by_kind self.new.by_kind) }
-    {
-        let title = title.copy(alloc)?;
-        if let Some(titles) = self.by_kind.get_mut(kind) {
-            titles.insert(title, number)?;
+/// Sets the number of a title that has none. The titles are searched once, unless it has one.
+fn claim_title(
+    alloc: Global,
+    titles: &mut BTreeMap<Text, u32>,
+    title: &Text,
+    number: u32,
+) -> Result<Option<u32>, Memory>
+    ensures { ClaimsTitle title.now number titles.old titles.new result }
+{
+    let key = title.copy(alloc)?;
+    match titles.insert(key, number)? {
+        Some(earlier) => {
+            put_back(titles, title, earlier);
+            Ok(Some(earlier))
         }
-        Ok(())
+        None => Ok(None),
+    }
+}
+
+/// Gives a title the number that it had.
+fn put_back(titles: &mut BTreeMap<Text, u32>, title: &Text, number: u32)
+    requires { IsSome (get (slice_cmp nat_cmp) titles.old title.now) }
+    ensures { (t : List ℕ) → number_in (Some titles.new) t ≡ (if bytes_eq title.now t then Some number else number_in (Some titles.old) t) }
+{
+    if let Some(place) = titles.get_mut(title) {
+        *place = number;
     }
 }
 

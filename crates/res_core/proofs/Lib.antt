@@ -3,3 +3,5 @@ pub mod NameLemmas
 mod Examples
 mod NativeExamples
 pub mod SettingLemmas
+mod RelationNames
+pub mod PlaceLemmas

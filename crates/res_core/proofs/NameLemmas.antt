@@ -1,5 +1,5 @@
 -- Names that are put behind one another, and then in order.
-use Rattle.std.proofs.Common.{◌≡◌, ℕ, Bool, true, false, cond, ◌||◌, IsTrue, List, [], ◌∷◌, ◌++◌, map, filter, refl, ap, sym, subst, ◌∙◌, if◌then◌else◌, arith}
+use Rattle.std.proofs.Common.{◌≡◌, ℕ, Bool, true, false, cond, ◌||◌, IsTrue, List, [], ◌∷◌, ◌++◌, map, filter, refl, ap, sym, subst, ◌∙◌, if◌then◌else◌, arith, Result, Ok, Err, IfOk}
 use Rattle.std.proofs.Math.Bool.{or_comm}
 use Rattle.std.proofs.lemmas.List.{map-append}
 use Rattle.std.proofs.lemmas.List.Folds.{list_any-append}
@@ -15,6 +15,7 @@ use Rattle.std.specs.List.{dedup, dedup_from, list_all}
 use Rattle.std.specs.List.Sorted.{IsPermutation, IsSorted, IsStrictlySortedBy}
 use Rattle.std.specs.Ordering.{is_lt}
 use Rattle.std.specs.Str.{bytes_eq}
+use Rattle.pp_values.specs.declared.memory.Memory.{Memory}
 use Rattle.pp_values.specs.Rising.{text_cmp, with_texts, sorted, is_rising, has_text}
 use Rattle.pp_values.proofs.RisingLemmas.{is_rising-with_texts, has_text-with_texts, same_rising}
 use Rattle.res_core.specs.TagNames.{segments, is_filled, is_lower_byte, is_taggable, with_segments, names, lowered, tags, AddsTexts, TagsAreTheSet}
@@ -123,20 +124,19 @@ put_parts old one two new name first others named headed followed cut =
     put_behind old new (map lowered (with_segments name))
     (followed ∙ segment_more name first others one two cut headed ∙ ap (λ ts. ts ++ map lowered (filter is_filled (segments name))) named ∙ behind old (lowered name ∷ []) _)
 
-turned : (c g t k : Bool) → (((c || g) || t) || k) ≡ (k || (t || (g || c)))
-turned c g t k = or_comm _ k ∙ ap (λ b. k || b) (or_comm _ t ∙ ap (λ b. t || b) (or_comm c g))
+turned : (g t k : Bool) → ((g || t) || k) ≡ (k || (t || (g || false)))
+turned g t k = or_comm _ k ∙ ap (λ b. k || b) (or_comm g t ∙ ap (λ b. t || b) (sym (or_nothing g)))
 
--- the names of the four parts are put behind one another
-pub all_names : (kind title : List ℕ) (given container start a b c d : List (List ℕ)) →
-    start ≡ [] → a ≡ start ++ map lowered container → b ≡ a ++ map lowered given →
-    AddsTexts b c (map lowered (if is_taggable title then with_segments title else [])) →
-    AddsTexts c d (map lowered (with_segments kind)) →
-    (q : List ℕ) → has_text d q ≡ has_text (map lowered (names kind title given container)) q
-all_names kind title given container start a b c d empty of_container of_given of_title of_kind q =
-    of_kind q
-    ∙ ap (λ x. x || has k) (of_title q ∙ ap (λ x. x || has t) (put_behind a b _ of_given q ∙ ap (λ x. x || has g) (ap (λ us. has_text us q) (of_container ∙ ap (λ us. us ++ n) empty))))
-    ∙ turned (has n) (has g) (has t) (has k)
-    ∙ sym joined where
+-- what the names of the four parts hold
+names_hold : (kind title : List ℕ) (given container : List (List ℕ)) (q : List ℕ) →
+    has_text (map lowered (names kind title given container)) q
+    ≡ (has_text (map lowered (with_segments kind)) q
+    || (has_text (map lowered (if is_taggable title then with_segments title else [])) q
+    || (has_text (map lowered given) q || has_text (map lowered container) q)))
+names_hold kind title given container q =
+    ap has (map-append lowered (with_segments kind) _ ∙ ap (λ x. k ++ x) (map-append lowered (if is_taggable title then with_segments title else []) _ ∙ ap (λ x. t ++ x) (map-append lowered given container)))
+    ∙ list_any-append (bytes_eq q) k _
+    ∙ ap (λ x. has k || x) (list_any-append (bytes_eq q) t _ ∙ ap (λ x. has t || x) (list_any-append (bytes_eq q) g (map lowered container))) where
       k : List (List ℕ)
       k = map lowered (with_segments kind)
 
@@ -146,17 +146,71 @@ all_names kind title given container start a b c d empty of_container of_given o
       g : List (List ℕ)
       g = map lowered given
 
-      n : List (List ℕ)
-      n = map lowered container
-
       has : List (List ℕ) → Bool
       has ts = has_text ts q
 
-      joined : has (map lowered (names kind title given container)) ≡ (has k || (has t || (has g || has n)))
-      joined =
-          ap has (map-append lowered (with_segments kind) _ ∙ ap (λ x. k ++ x) (map-append lowered (if is_taggable title then with_segments title else []) _ ∙ ap (λ x. t ++ x) (map-append lowered given container)))
-          ∙ list_any-append (bytes_eq q) k _
-          ∙ ap (λ x. has k || x) (list_any-append (bytes_eq q) t _ ∙ ap (λ x. has t || x) (list_any-append (bytes_eq q) g n))
+-- the names of three parts are put behind one another
+pub own_put : (kind title : List ℕ) (given start b c d : List (List ℕ)) → start ≡ [] → b ≡ start ++ map lowered given →
+    AddsTexts b c (map lowered (if is_taggable title then with_segments title else [])) →
+    AddsTexts c d (map lowered (with_segments kind)) →
+    (q : List ℕ) → has_text d q ≡ has_text (map lowered (names kind title given [])) q
+own_put kind title given start b c d empty of_given of_title of_kind q =
+    of_kind q
+    ∙ ap (λ x. x || has_text (map lowered (with_segments kind)) q)
+    (of_title q
+    ∙ ap (λ x. x || has_text (map lowered (if is_taggable title then with_segments title else [])) q)
+    (ap (λ us. has_text us q) (of_given ∙ ap (λ us. us ++ map lowered given) empty)))
+    ∙ turned (has_text (map lowered given) q)
+    (has_text (map lowered (if is_taggable title then with_segments title else [])) q)
+    (has_text (map lowered (with_segments kind)) q)
+    ∙ sym (names_hold kind title given [] q)
+
+-- texts that are all in lower case stay as they are
+pub all_stay : (ts : List (List ℕ)) → list_all (list_all is_lower_byte) ts ≡ true → map lowered ts ≡ ts
+all_stay [] h = refl
+all_stay (t ∷ ts) h =
+    ap (λ u. u ∷ map lowered ts) (lowered_stays t (first_so _ _ h))
+    ∙ ap (λ us. t ∷ us) (all_stay ts (second_so (list_all is_lower_byte t) _ h))
+
+-- a copy of such texts holds what they hold
+pub copy_holds : (r : Result (List (List ℕ)) Memory) (ts : List (List ℕ)) → list_all (list_all is_lower_byte) ts ≡ true →
+    IfOk r (λ us. us ≡ ts) → IfOk r (λ us. (q : List ℕ) → has_text us q ≡ has_text (map lowered ts) q)
+copy_holds (Ok us) ts h e = λ q. ap (λ vs. has_text vs q) (e ∙ sym (all_stay ts h))
+copy_holds (Err m) ts h e = e
+
+-- texts that were put into an empty list, in order
+pub put_holds : (us all start names ts : List (List ℕ)) → us ≡ sorted all → all ≡ start ++ map lowered names →
+    start ≡ [] → names ≡ ts → (q : List ℕ) → has_text us q ≡ has_text (map lowered ts) q
+put_holds us all start names ts in_order put empty same q =
+    ap (λ vs. has_text vs q) in_order
+    ∙ sorted_holds all q
+    ∙ ap (λ vs. has_text vs q) (put ∙ ap (λ vs. vs ++ map lowered names) empty ∙ ap (map lowered) same)
+
+regrouped : (k t g n : Bool) → ((k || (t || (g || false))) || n) ≡ (k || (t || (g || n)))
+regrouped true t g n = refl
+regrouped false true g n = refl
+regrouped false false true n = refl
+regrouped false false false n = refl
+
+-- the container's tags with the other names put at their places are the tags
+pub tags_made : (kind title : List ℕ) (given container held own : List (List ℕ)) → is_rising held ≡ true →
+    ((q : List ℕ) → has_text held q ≡ has_text (map lowered container) q) →
+    ((q : List ℕ) → has_text own q ≡ has_text (map lowered (names kind title given [])) q) →
+    with_texts held own ≡ tags kind title given container
+tags_made kind title given container held own rises of_held of_own =
+    same_rising (with_texts held own) (tags kind title given container) (is_rising-with_texts own held rises)
+    (sorted_rises (map lowered (names kind title given container)))
+    (λ q.
+    has_text-with_texts own held q
+    ∙ ap (λ b. b || has_text held q) (of_own q ∙ names_hold kind title given [] q)
+    ∙ ap (λ b. (has_text (map lowered (with_segments kind)) q
+    || (has_text (map lowered (if is_taggable title then with_segments title else [])) q
+    || (has_text (map lowered given) q || false))) || b) (of_held q)
+    ∙ regrouped (has_text (map lowered (with_segments kind)) q)
+    (has_text (map lowered (if is_taggable title then with_segments title else [])) q)
+    (has_text (map lowered given) q) (has_text (map lowered container) q)
+    ∙ sym (names_hold kind title given container q)
+    ∙ sym (sorted_holds (map lowered (names kind title given container)) q))
 
 -- ---- what the tags are
 

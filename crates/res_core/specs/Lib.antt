@@ -15,3 +15,4 @@ pub mod Criteria
 pub mod CriteriaCodes
 pub mod QueryViews
 pub mod QueryFalls
+pub mod TagPlaces

@@ -1,7 +1,7 @@
 //! The attributes that any resource takes.
 ghost use Rattle.std.specs.Prelude.{◌≡◌, map};
 ghost use Rattle.pp_values.specs.Rising.{has_text};
-ghost use Rattle.res_core.specs.Metaparameters.{is_relation_name, is_metaparameter};
+ghost use Rattle.res_core.specs.Metaparameters.{may_relate as begins_so, is_relation_name, is_metaparameter};
 
 use pp_values::Text;
 
@@ -26,11 +26,21 @@ pub fn is_metaparameter(name: &Text) -> bool
 }
 
 /// Whether the metaparameter relates the resource to those that its value names.
-#[tactic(auto, unfolding(crate::specs::Metaparameters::is_relation_name))]
+#[tactic(auto, using(crate::proofs::RelationNames::begins_otherwise), unfolding(crate::specs::Metaparameters::is_relation_name))]
 pub fn is_relation_name(name: &Text) -> bool
     ensures { result ≡ is_relation_name name.now }
 {
-    is_among(name, &RELATIONS)
+    may_relate(name.as_str()) && is_among(name, &RELATIONS)
+}
+
+/// Whether a name begins as one of those does, so that most names are compared with none.
+fn may_relate(name: &str) -> bool
+    ensures { result ≡ begins_so name.now }
+{
+    match name.as_bytes() {
+        [first, ..] => *first == b'b' || *first == b'r' || *first == b'n' || *first == b's',
+        [] => false,
+    }
 }
 
 /// Whether the name is one of these, letter by letter.

@@ -1,13 +1,13 @@
-ghost use Rattle.std.specs.Prelude.{◌≡◌, ◌∷◌, ◌++◌, [], ℕ, List, map, filter, if◌then◌else◌, IfOk, OnOk};
+ghost use Rattle.std.specs.Prelude.{◌≡◌, ◌∷◌, ◌++◌, [], ℕ, List, true, map, filter, if◌then◌else◌, IfOk, OnOk};
 ghost use Rattle.std.specs.List.{list_all};
-ghost use Rattle.pp_values.specs.Rising.{has_text, sorted};
+ghost use Rattle.pp_values.specs.Rising.{has_text, is_rising, sorted, with_texts};
 ghost use Rattle.res_core.specs.TagNames.{is_word_byte as word_byte, is_tag_byte as tag_byte, is_taggable as taggable, is_filled, is_lower_byte as lower_byte, segments, with_segments, lowered, names, tags, AddsTexts, TagsAreTheSet};
 
 use crate::tags::Tags;
 use pp_values::{Memory, Text, Texts};
 use std::alloc::Global;
 
-/// How many tags there is room for from the beginning, besides those of the container.
+/// How many names there is room for from the beginning.
 const OWN_TAGS: usize = 6;
 
 /// The tags of a resource of this kind and title that has these texts in its attribute `tag` and
@@ -23,27 +23,50 @@ pub fn tags_of(
 ) -> Result<Tags, Memory>
     ensures { IfOk result (λ t. t ≡ tags kind.now title.now given.now container.now) }
 {
-    let all = gather(alloc, kind, title, given, container)?;
+    let own = own_names(alloc, kind, title, given)?;
+    let all = lowered_tags(alloc, container, own.len())?;
+    with_names(all, own)
+}
+
+/// The names that it has besides its container's tags, in lower case.
+fn own_names(alloc: Global, kind: &Text, title: &Text, given: &Texts) -> Result<Vec<Text>, Memory>
+    ensures { IfOk result (λ v. (t : List ℕ) → has_text v.items t
+        ≡ has_text (map lowered (names kind.now title.now given.now [])) t) }
+{
+    let mut own = Vec::with_capacity(alloc, OWN_TAGS)?;
+    put_all(alloc, &mut own, given.as_slice())?;
+    put_title(alloc, &mut own, title.as_str())?;
+    put_with_segments(alloc, &mut own, kind.as_str())?;
+    Ok(own)
+}
+
+/// The tags in lower case, with room for so many more. Mostly they are in lower case already, and so stay in order.
+fn lowered_tags(alloc: Global, tags: &Tags, more: usize) -> Result<Tags, Memory>
+    ensures rising { IfOk result (λ t. is_rising t ≡ true) }
+    ensures names { IfOk result (λ t. (q : List ℕ) → has_text t q ≡ has_text (map lowered tags.now) q) }
+{
+    if are_all_lower(tags.as_slice()) {
+        return tags.copy_with_room(alloc, more);
+    }
+    let mut all = Vec::new(alloc);
+    put_all(alloc, &mut all, tags.as_slice())?;
     Ok(in_order(all))
 }
 
-/// All names in lower case. Those of the container come first, since they mostly rise already.
-fn gather(
-    alloc: Global,
-    kind: &Text,
-    title: &Text,
-    given: &Texts,
-    container: &Tags,
-) -> Result<Vec<Text>, Memory>
-    ensures { IfOk result (λ v. (t : List ℕ) → has_text v.items t
-        ≡ has_text (map lowered (names kind.now title.now given.now container.now)) t) }
+fn are_all_lower(texts: &[Text]) -> bool
+    ensures { result ≡ list_all (list_all lower_byte) texts.now }
 {
-    let room = container.len().saturating_add(OWN_TAGS);
-    let mut all = Vec::with_capacity(alloc, room)?;
-    put_all(alloc, &mut all, container.as_slice())?;
-    put_all(alloc, &mut all, given.as_slice())?;
-    put_title(alloc, &mut all, title.as_str())?;
-    put_with_segments(alloc, &mut all, kind.as_str())?;
+    texts.iter().all(|text| are_lower(text.as_str().as_bytes()))
+}
+
+/// The tags with each of these names at its place.
+fn with_names(tags: Tags, names: Vec<Text>) -> Result<Tags, Memory>
+    ensures { IfOk result (λ t. t ≡ with_texts tags names.items) }
+{
+    let mut all = tags;
+    for name in names {
+        all.add(name)?;
+    }
     Ok(all)
 }
 

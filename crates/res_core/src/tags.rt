@@ -1,9 +1,12 @@
-ghost use Rattle.std.specs.Prelude.{◌≡◌, [], ◌↔◌, length, IfOk, IsTrue};
-ghost use Rattle.pp_values.specs.Rising.{is_rising};
+ghost use Rattle.std.specs.Prelude.{◌≡◌, [], ◌↔◌, length, IfOk, IsTrue, OnOk};
+ghost use Rattle.std.specs.BTreeSet.{insert_key};
+ghost use Rattle.pp_values.specs.Rising.{is_rising, text_cmp};
 ghost use Rattle.res_core.specs.TagNames.{is_tagged};
+ghost use Rattle.res_core.specs.TagPlaces.{place_in};
 
 use pp_values::{Memory, Text};
 use std::alloc::Global;
+use std::cmp::Ordering;
 use std::marker::Model;
 
 /// The tags of a resource: texts in rising byte order, each once.
@@ -72,10 +75,51 @@ impl Tags {
     pub fn copy(&self, alloc: Global) -> Result<Tags, Memory>
         ensures { IfOk result (λ t. t ≡ self.now) }
     {
-        let mut items = Vec::with_capacity(alloc, self.items.len())?;
+        self.copy_with_room(alloc, 0)
+    }
+
+    /// A copy, with room for so many more.
+    pub(crate) fn copy_with_room(&self, alloc: Global, more: usize) -> Result<Tags, Memory>
+        ensures { IfOk result (λ t. t ≡ self.now) }
+    {
+        let room = self.items.len().saturating_add(more);
+        let mut items = Vec::with_capacity(alloc, room)?;
         for item in &self.items {
             items.push(item.copy(alloc)?)?;
         }
         Ok(Tags { items })
     }
+
+    /// Puts a text at its place, unless it is there.
+    #[tactic(auto, using(crate::proofs::PlaceLemmas::there, crate::proofs::PlaceLemmas::put_between, crate::proofs::PlaceLemmas::between_within))]
+    pub(crate) fn add(&mut self, text: Text) -> Result<(), Memory>
+        ensures { OnOk result (self.new ≡ insert_key text_cmp self.old text) }
+    {
+        match place_of(&self.items, &text) {
+            Ok(_) => Ok(()),
+            Err(place) => {
+                self.items.insert(place, text)?;
+                Ok(())
+            }
+        }
+    }
+}
+
+/// Where the text stands, or else where it would.
+#[tactic(auto, using(crate::proofs::PlaceLemmas::at_end, crate::proofs::PlaceLemmas::at_less, crate::proofs::PlaceLemmas::at_equal, crate::proofs::PlaceLemmas::at_greater, crate::proofs::PlaceLemmas::further_none))]
+fn place_of(items: &[Text], text: &Text) -> Result<usize, usize>
+    ensures { result ≡ place_in text.now items.now }
+{
+    let mut place = 0;
+    let mut rest = items;
+    while let Some((item, more)) = rest.split_first() {
+        match text.compare(item) {
+            Ordering::Less => return Err(place),
+            Ordering::Equal => return Ok(place),
+            Ordering::Greater => {}
+        }
+        place += 1;
+        rest = more;
+    }
+    Err(place)
 }

@@ -2,3 +2,4 @@ mod Binding
 mod Examples
 mod LookUpExamples
 mod Members
+mod OneVariable

@@ -1,5 +1,5 @@
 -- Calls: `f(1, $a) |$x| { }`, `$a.f(1)` and `notice $a`.
-use Rattle.std.specs.Prelude.{ℕ, if◌then◌else◌, List, [], ◌∷◌, Option, None, Some, option_map, codes}
+use Rattle.std.specs.Prelude.{◌≡◌, ℕ, if◌then◌else◌, List, [], ◌∷◌, Option, None, Some, option_map, codes}
 use Rattle.std.specs.Str.{bytes_eq}
 use Rattle.pp_funcs.specs.Functions.{applied}
 use Rattle.pp_funcs.specs.Names.{needs_evaluator}
@@ -78,6 +78,11 @@ unfoldable pub with_lambda_rule : Inner → List ℕ → Opened → List Datum �
 with_lambda_rule inner f l arguments line here = with_lambda_by inner (lambda_function f) f l arguments line here
 
 -- ---- calls
+
+-- it is the only argument
+abbrev pub IsOnly : Expr → List Expr → Type 0
+IsOnly e (a ∷ []) = a ≡ e
+IsOnly e _ = ⊥
 
 -- the function of these arguments, and the lambda where there is one
 abbrev pub called : Inner → List ℕ → Option Opened → List Datum → ℕ → Here → Step Datum

@@ -1,6 +1,6 @@
 -- The functions that take a lambda.
-use Rattle.std.specs.Prelude.{ℕ, if◌then◌else◌, List, [], ◌∷◌, ◌++◌}
-use Rattle.pp_values.specs.Datum.{Datum, undef}
+use Rattle.std.specs.Prelude.{◌≡◌, ℕ, if◌then◌else◌, List, [], ◌∷◌, ◌++◌}
+use Rattle.pp_values.specs.Datum.{Datum, undef, list, data_of}
 use Rattle.expr_eval.specs.declared.functions.Iteration.{Iteration}
 use Rattle.expr_eval.specs.declared.functions.LambdaFunction.{LambdaFunction}
 use Rattle.expr_eval.specs.declared.functions.LambdaFunction.TheVariants as function
@@ -61,6 +61,15 @@ unfoldable pub reduce_rule : Inner → Opened → List Datum → ℕ → Here �
 reduce_rule inner l arguments line here = do
   ds ← at_line (reduced_over arguments (param_count l)) line here
   reduced inner l ds line here
+
+-- the arguments are one list, or a list and a start value
+abbrev pub IsListAlone : List Datum → List Datum → Type 0
+IsListAlone ds (x ∷ []) = x ≡ list (data_of ds)
+IsListAlone ds _ = ⊥
+
+abbrev pub IsListAndStart : List Datum → Datum → List Datum → Type 0
+IsListAndStart ds start (x ∷ y ∷ []) = (x ≡ list (data_of ds)) × (y ≡ start)
+IsListAndStart ds start _ = ⊥
 
 -- ---- `with`
 

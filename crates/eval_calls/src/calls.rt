@@ -1,12 +1,12 @@
 //! Calls: `f(1, $a) |$x| { }`, `$a.f(1)` and `notice $a`.
-ghost use Rattle.std.specs.Prelude.{◌≡◌, ◌∷◌, IfOk};
+ghost use Rattle.std.specs.Prelude.{◌≡◌, ◌∷◌, IfOk, IfSome};
 ghost use Rattle.eval_calls.specs.Calls as spec;
 ghost use Rattle.eval_calls.specs.Lambdas.{opened};
 ghost use Rattle.eval_world.specs.Nests.{Nests};
 ghost use Rattle.eval_world.specs.Outcomes.{Gives, same};
 
 use crate::iterating::call_with_lambda;
-use crate::plain::{call_plain, refuse_lambda};
+use crate::plain::{call_known, call_plain, refuse_lambda};
 use eval_world::{Evaluated, Forms, Goal, Here, Meaning, World};
 use expr_eval::LambdaFunction;
 use pp_tree::{Call, Lambda, Words};
@@ -25,8 +25,29 @@ pub fn call<F: Fn(&mut World<'_>, Goal<'_>, Here, u32) -> Result<Evaluated, Stop
     requires { Nests (M.within forms.now.left) forms.now.left (F.pre forms.now.inner) (F.post forms.now.inner) }
     ensures { Gives same (spec.call_rule (M.within forms.now.left) call.now line here world.old) result world.new }
 {
+    if let Some(result) = known(forms, world, call, line, here) {
+        return result;
+    }
     let arguments = forms.values(world, &call.args, here)?;
     called(forms, world, call, arguments, line, here)
+}
+
+/// The same without a lambda, where the argument need not be copied.
+#[tactic(auto, unfolding(crate::specs::Calls::call_rule))]
+fn known<F: Fn(&mut World<'_>, Goal<'_>, Here, u32) -> Result<Evaluated, Stop>, M: Meaning>(
+    forms: &Forms<F, M>,
+    world: &World<'_>,
+    call: &Call,
+    line: u32,
+    here: Here,
+) -> Option<Result<Evaluated, Stop>>
+    ensures { IfSome result (λ r. Gives same (spec.call_rule (M.within forms.now.left) call.now line here world.now) r
+        world.now) }
+{
+    match &call.lambda {
+        None => call_known(forms, world, &call.function, &call.args, line, here),
+        Some(_) => None,
+    }
 }
 
 /// `x.f(1)` is `f(x, 1)`, where `x` has its value already.

@@ -1,5 +1,5 @@
 //! The functions that take a lambda.
-ghost use Rattle.std.specs.Prelude.{◌≡◌, [], map, IfOk};
+ghost use Rattle.std.specs.Prelude.{◌≡◌, [], map, IfOk, IfSome};
 ghost use Rattle.expr_eval.specs.Gathering.{gathered};
 ghost use Rattle.expr_eval.specs.Turns.{only};
 ghost use Rattle.eval_calls.specs.Iterating as spec;
@@ -220,8 +220,53 @@ fn take_turns<F: Fn(&mut World<'_>, Goal<'_>, Here, u32) -> Result<Evaluated, St
     Ok(done)
 }
 
-#[tactic(auto, unfolding(crate::specs::Iterating::reduce_rule))]
+/// `reduce`. The members of a list are not copied to go through them.
+#[tactic(auto, using(crate::proofs::Members::reduced_members, crate::proofs::Members::reduced_from))]
 fn reduce<F: Fn(&mut World<'_>, Goal<'_>, Here, u32) -> Result<Evaluated, Stop>, M: Meaning>(
+    forms: &Forms<F, M>,
+    world: &mut World<'_>,
+    lambda: &Lambda,
+    arguments: &Values,
+    line: u32,
+    here: Here,
+) -> Result<Evaluated, Stop>
+    requires { Nests (M.within forms.now.left) forms.now.left (F.pre forms.now.inner) (F.post forms.now.inner) }
+    ensures { Gives same (spec.reduce_rule (M.within forms.now.left) (opened lambda.now) arguments.now line here
+        world.old) result world.new }
+{
+    if param_count(lambda)? != 2 {
+        return reduce_copies(forms, world, lambda, arguments, line, here);
+    }
+    if let Some(members) = list_alone(arguments) {
+        return reduced(forms, world, lambda, members.as_slice(), line, here);
+    }
+    if let Some((members, start)) = list_and_start(arguments) {
+        let memo = Evaluated::copy_of(world.heap.alloc(), start)?;
+        return reduce_rest(forms, world, lambda, memo, members.as_slice(), line, here);
+    }
+    reduce_copies(forms, world, lambda, arguments, line, here)
+}
+
+fn list_alone(arguments: &Values) -> Option<&Values>
+    ensures { IfSome result (λ ds. spec.IsListAlone ds.now arguments.now) }
+{
+    match arguments.as_slice() {
+        [Value::List(members)] => Some(members),
+        _ => None,
+    }
+}
+
+fn list_and_start(arguments: &Values) -> Option<(&Values, &Value)>
+    ensures { IfSome result (λ p. spec.IsListAndStart p.0.now (view p.1.now) arguments.now) }
+{
+    match arguments.as_slice() {
+        [Value::List(members), start] => Some((members, start)),
+        _ => None,
+    }
+}
+
+#[tactic(auto, unfolding(crate::specs::Iterating::reduce_rule))]
+fn reduce_copies<F: Fn(&mut World<'_>, Goal<'_>, Here, u32) -> Result<Evaluated, Stop>, M: Meaning>(
     forms: &Forms<F, M>,
     world: &mut World<'_>,
     lambda: &Lambda,

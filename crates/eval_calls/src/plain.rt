@@ -1,19 +1,24 @@
 //! Calls whose arguments have their values, and stray lambdas.
-ghost use Rattle.std.specs.Prelude.{◌≡◌, false};
+ghost use Rattle.std.specs.Prelude.{◌≡◌, false, None, IfSome};
 ghost use Rattle.eval_calls.specs.Calls as spec;
 ghost use Rattle.eval_calls.specs.Places.{at_line};
+ghost use Rattle.eval_world.specs.Arguments.{is_splat};
 ghost use Rattle.eval_world.specs.Nests.{Nests};
 ghost use Rattle.eval_world.specs.Outcomes.{Gives, same};
 ghost use Rattle.pp_funcs.specs.Functions.{applied};
 ghost use Rattle.pp_funcs.specs.Names.{needs_evaluator};
+ghost use Rattle.pp_values.specs.Views.{views};
 
 use crate::looking_up::look_up;
 use crate::names::{is_function, is_log, unknown, wrong};
 use eval_classes::{Including, include};
 use eval_world::{Evaluated, Forms, Goal, Here, Meaning, World};
 use expr_eval::{LambdaFunction, joined};
-use pp_funcs::{call_pure, needs_evaluator};
+use pp_funcs::{call_pure_of, needs_evaluator};
+use pp_tree::expr::{Args, Expr, Form};
+use pp_tree::operators::PrefixOperator;
 use pp_values::{Stop, Text, Value, Values};
+use std::slice;
 
 /// A call without a lambda.
 #[tactic(auto, unfolding(crate::specs::Calls::plain_rule))]
@@ -35,7 +40,53 @@ pub fn call_plain<
     if needs_evaluator(function) {
         call_evaluated(forms, world, function, arguments, line, here)
     } else {
-        compute(world, function, arguments, line, here)
+        compute(world, function, arguments.as_slice(), line, here)
+    }
+}
+
+/// A function of its arguments alone whose one argument is a variable: it takes the value without a copy. None where
+/// that is not so.
+pub fn call_known<
+    F: Fn(&mut World<'_>, Goal<'_>, Here, u32) -> Result<Evaluated, Stop>,
+    M: Meaning,
+>(
+    forms: &Forms<F, M>,
+    world: &World<'_>,
+    function: &Text,
+    arguments: &Args,
+    line: u32,
+    here: Here,
+) -> Option<Result<Evaluated, Stop>>
+    ensures { IfSome result (λ r. Gives same
+        (spec.invoked (M.within forms.now.left) function.now arguments.now None line here world.now) r world.now) }
+{
+    let argument = only_one(arguments)?;
+    if is_splat(argument) {
+        return None;
+    }
+    let value = forms.known(world, argument, here)?;
+    if needs_evaluator(function) {
+        return None;
+    }
+    Some(compute(world, function, slice::from_ref(value), line, here))
+}
+
+fn only_one(arguments: &Args) -> Option<&Expr>
+    ensures { IfSome result (λ e. spec.IsOnly e.now arguments.now) }
+{
+    match arguments.as_slice() {
+        [only] => Some(only),
+        _ => None,
+    }
+}
+
+/// Whether an argument is written with `*`.
+fn is_splat(argument: &Expr) -> bool
+    ensures { result ≡ is_splat argument.now }
+{
+    match argument.form.get() {
+        Form::Prefix(PrefixOperator::Splat, _) => true,
+        _ => false,
     }
 }
 
@@ -43,15 +94,15 @@ pub fn call_plain<
 fn compute(
     world: &World<'_>,
     function: &Text,
-    arguments: &Values,
+    arguments: &[Value],
     line: u32,
     here: Here,
 ) -> Result<Evaluated, Stop>
     requires { needs_evaluator function.now ≡ false }
-    ensures { Gives same (at_line (applied function.now arguments.now) line here world.now) result world.now }
+    ensures { Gives same (at_line (applied function.now (views arguments.now)) line here world.now) result world.now }
 {
     let at = world.place(here, line)?;
-    Ok(Evaluated::new(call_pure(world.heap.alloc(), function, arguments, &at)?))
+    Ok(Evaluated::new(call_pure_of(world.heap.alloc(), function, arguments, &at)?))
 }
 
 /// A function that needs the log, a lambda or the site.

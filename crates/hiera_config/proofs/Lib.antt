@@ -10,4 +10,6 @@ mod ReadLists
 mod FileLemmas
 mod PathLemmas
 mod PathTexts
+mod FlagLemmas
+mod PlanLemmas
 pub mod Simple

@@ -10,3 +10,5 @@ pub mod Written
 pub mod Seen
 pub mod Keeping
 pub mod Found
+pub mod Flags
+pub mod Planning

@@ -4,6 +4,7 @@
 pub mod config;
 pub mod config_reading;
 mod cutting;
+mod flags;
 mod forms;
 pub mod interpolation;
 mod level_reading;
@@ -11,6 +12,7 @@ mod mapping;
 pub mod modules;
 mod names;
 mod paths;
+mod plan;
 pub mod refused;
 pub mod searching;
 pub mod site_data;

@@ -3,16 +3,20 @@ ghost use Rattle.std.specs.Prelude.{◌≡◌, Some, IfOk, option_map};
 ghost use Rattle.pp_values.specs.Views.{view, views};
 ghost use Rattle.serde_json.specs.View.{view as json_view};
 ghost use Rattle.hiera_config.specs.Documents.{strict};
+ghost use Rattle.hiera_config.specs.Flags.{mark_of};
 ghost use Rattle.hiera_config.specs.Found.{source_views, shown_config, mapped_from, in_mapped_by};
 ghost use Rattle.hiera_config.specs.Meant.{MeetsBy, in_turn};
+ghost use Rattle.hiera_config.specs.Planning.{Skips, Fits, Planned, PlannedAt, slot_at};
 ghost use Rattle.hiera_config.specs.Seen.{seen, names_seen};
 ghost use Rattle.hiera_config.specs.Sources as spec;
 ghost use Rattle.hiera_config.specs.Variables.{variable as variable_of, mapped_values};
 
 use crate::config::{Config, Level, LevelPaths};
+use crate::flags::{mark_of, may_have};
 use crate::mapping::mapped_values;
 use crate::names::Names;
 use crate::paths::write_path;
+use crate::plan::FixedFile;
 use crate::refused::{Refused, bad_data};
 use crate::site_data::SiteData;
 use crate::template::Template;
@@ -81,10 +85,20 @@ pub fn sources(
 {
     let mut found = Vec::new(alloc);
     let mut path = String::with_capacity(alloc, USUAL)?;
-    add_from_layer(
-        alloc, files, variables, "global/", key, &mut path, &mut found,
-    )?;
-    add_from_layer(alloc, files, variables, "", key, &mut path, &mut found)?;
+    let global = Search {
+        files,
+        folder: "global/",
+        key,
+    };
+    let plan = files.global_plan();
+    add_from_layer(alloc, &global, variables, plan, &mut path, &mut found)?;
+    let environment = Search {
+        files,
+        folder: "",
+        key,
+    };
+    let plan = files.environment_plan();
+    add_from_layer(alloc, &environment, variables, plan, &mut path, &mut found)?;
     add_from_module_if(
         alloc,
         files,
@@ -100,19 +114,20 @@ pub fn sources(
 #[tactic(auto, unfolding(crate::specs::Sources::in_layer))]
 fn add_from_layer(
     alloc: Global,
-    files: &SiteData,
+    search: &Search<'_>,
     variables: &Variables<'_>,
-    folder: &str,
-    key: &str,
+    plan: &[Option<FixedFile>],
     path: &mut String,
     found: &mut Vec<Source>,
 ) -> Result<(), Refused>
+    requires { PlannedAt search.now.files.now search.now.folder.now plan.now }
     ensures { MeetsBy (λ u. source_views found.new.items) result
-        (spec.in_layer files.now key.now (seen variables.now) folder.now (source_views found.old.items)) }
+        (spec.in_layer search.now.files.now search.now.key.now (seen variables.now) search.now.folder.now
+        (source_views found.old.items)) }
 {
-    let config = config_in(alloc, files, folder, path)?;
-    let search = Search { files, folder, key };
-    add_from_levels(alloc, &search, variables, levels_of(config), path, found)
+    let config = config_in(alloc, search.files, search.folder, path)?;
+    let levels = levels_of(config);
+    add_from_levels(alloc, search, variables, levels, plan, path, found)
 }
 
 #[tactic(auto, unfolding(crate::specs::Sources::in_module))]
@@ -225,7 +240,8 @@ fn add_from_config(
         (spec.in_module_config search.now.files.now search.now.key.now (seen variables.now) search.now.folder.now
         (source_views found.old.items) (shown_config config.entry)) }
 {
-    add_from_levels(alloc, search, variables, levels_of(config), path, found)?;
+    let levels = levels_of(config);
+    add_from_levels(alloc, search, variables, levels, &[], path, found)?;
     add_default(
         alloc,
         search,
@@ -249,7 +265,7 @@ fn add_default(
         (source_views found.old.items)) }
 {
     if found.is_empty() {
-        add_from_levels(alloc, search, variables, levels, path, found)
+        add_from_levels(alloc, search, variables, levels, &[], path, found)
     } else {
         Ok(())
     }
@@ -260,17 +276,72 @@ fn add_from_levels(
     search: &Search<'_>,
     variables: &Variables<'_>,
     levels: &[Level],
+    plan: &[Option<FixedFile>],
     path: &mut String,
     found: &mut Vec<Source>,
 ) -> Result<(), Refused>
+    requires { Planned search.now.files.now search.now.folder.now levels.now plan.now }
     ensures { MeetsBy (λ u. source_views found.new.items) result
         (spec.in_levels search.now.files.now search.now.key.now search.now.folder.now (seen variables.now)
         (source_views found.old.items) levels.now) }
 {
-    for level in levels {
-        add_from_level(alloc, search, variables, level, path, found)?;
+    let mark = mark_of(search.key);
+    for (i, level) in levels.iter().enumerate() {
+        let fixed = fixed_at(plan, i);
+        add_planned(alloc, search, variables, level, fixed, mark, path, found)?;
     }
     Ok(())
+}
+
+fn fixed_at(plan: &[Option<FixedFile>], place: usize) -> Option<&FixedFile>
+    ensures { option_map (λ f. f.now) result ≡ slot_at plan.now place }
+{
+    match plan.get(place) {
+        Some(slot) => slot.as_ref(),
+        None => None,
+    }
+}
+
+/// What the level's files have for the key of this mark. A fixed one is the level's only file.
+fn add_planned(
+    alloc: Global,
+    search: &Search<'_>,
+    variables: &Variables<'_>,
+    level: &Level,
+    fixed: Option<&FixedFile>,
+    mark: usize,
+    path: &mut String,
+    found: &mut Vec<Source>,
+) -> Result<(), Refused>
+    requires fits { Fits search.now.files.now search.now.folder.now level.now (option_map (λ f. f.now) fixed) }
+    requires mark { mark ≡ mark_of search.now.key.now }
+    ensures { MeetsBy (λ u. source_views found.new.items) result
+        (spec.in_level search.now.files.now search.now.key.now search.now.folder.now (seen variables.now)
+        (source_views found.old.items) level.now) }
+{
+    match fixed {
+        Some(fixed) => add_fixed(alloc, search, fixed, mark, found),
+        None => add_from_level(alloc, search, variables, level, path, found),
+    }
+}
+
+fn add_fixed(
+    alloc: Global,
+    search: &Search<'_>,
+    fixed: &FixedFile,
+    mark: usize,
+    found: &mut Vec<Source>,
+) -> Result<(), Refused>
+    requires skips { Skips search.now.files.now fixed.now.path fixed.now.flags }
+    requires mark { mark ≡ mark_of search.now.key.now }
+    ensures { MeetsBy (λ u. source_views found.new.items) result
+        (spec.in_file search.now.files.now search.now.key.now (source_views found.old.items) fixed.now.path) }
+{
+    if fixed.lacks(mark) {
+        return Ok(());
+    }
+    let path = fixed.path.copy(alloc)?;
+    add_from_file(alloc, search.files, search.key, path, found)
 }
 
 #[tactic(auto, unfolding(crate::specs::Sources::in_level))]
@@ -428,7 +499,13 @@ fn add_from_file(
         (spec.in_file files.now key.now (source_views found.old.items) path) }
 {
     match files.get(&path) {
-        Some(file) => add_from_json(alloc, &file.json, key, path, found),
+        Some(file) => {
+            if may_have(file.flags.as_slice(), mark_of(key)) {
+                add_from_json(alloc, &file.json, key, path, found)
+            } else {
+                Ok(())
+            }
+        }
         None => Ok(()),
     }
 }

@@ -5,10 +5,14 @@ ghost use Rattle.pp_values.specs.Rising.{text_cmp};
 ghost use Rattle.hiera_config.specs.Config.{config_of};
 ghost use Rattle.hiera_config.specs.Documents.{is_of_module, put_in};
 ghost use Rattle.hiera_config.specs.Keeping.{filed, IsKept, AreSimple, lacks_options, are_none, lacks_defaults, simple_file};
+ghost use Rattle.hiera_config.specs.Planning.{PlannedAt};
+ghost use Rattle.hiera_config.specs.Sources.{global_folder};
 ghost use Rattle.serde_json.specs.View.{view as json_view};
 
 use crate::config::{Config, Level};
 use crate::config_reading::{config_of, parsed};
+use crate::flags::flags_of;
+use crate::plan::{FixedFile, Plan, file_at, plan_at};
 use pp_values::{Memory, Text, TextPairs, copy_text_pairs};
 use serde_json::Value as Json;
 use std::alloc::Global;
@@ -20,6 +24,8 @@ pub struct DataFile {
     pub text: Text,
     pub json: Option<Json>,
     pub config: Option<Config>,
+    /// By which keys are told that the file surely lacks.
+    pub flags: Vec<bool>,
 }
 
 // By hand, so that callers drop a file by one call.
@@ -29,6 +35,7 @@ impl Drop for DataFile {
             text: _text,
             json: _json,
             config: _config,
+            flags: _flags,
         } = self;
     }
 }
@@ -39,18 +46,23 @@ pub struct SiteData {
     by_path: BTreeMap<Text, DataFile>,
     // No file has options of look-ups, and none has default levels.
     is_simple: bool,
+    // The data files of the global layer and of the environment that are found ahead.
+    global: Plan,
+    environment: Plan,
 }
 
 impl Model for SiteData {
     ghost use Rattle.std.specs.Prelude.{◌≡◌, true, List};
     ghost use Rattle.hiera_config.specs.Documents.{File};
     ghost use Rattle.hiera_config.specs.Keeping.{filed, AreKept, KeptSimple};
+    ghost use Rattle.hiera_config.specs.Planning.{ArePlanned};
 
     ghost Value = { List File };
 
     ghost view = { λ s. filed s.by_path.entries };
 
-    ghost invariant = { λ s. AreKept s.by_path.entries × (s.is_simple ≡ true → KeptSimple s.by_path.entries) };
+    ghost invariant = { λ s. AreKept s.by_path.entries × (s.is_simple ≡ true → KeptSimple s.by_path.entries)
+        × ArePlanned (filed s.by_path.entries) s.global.items s.environment.items };
 }
 
 impl SiteData {
@@ -60,6 +72,8 @@ impl SiteData {
         SiteData {
             by_path: BTreeMap::new(alloc),
             is_simple: true,
+            global: Vec::new(alloc),
+            environment: Vec::new(alloc),
         }
     }
 
@@ -72,6 +86,8 @@ impl SiteData {
         let is_simple = stays_simple(self.is_simple, &file);
         drop(self.by_path.insert(path, file)?);
         self.is_simple = is_simple;
+        self.global = plan_at(alloc, &self.by_path, "global/");
+        self.environment = plan_at(alloc, &self.by_path, "");
         Ok(())
     }
 
@@ -88,7 +104,21 @@ impl SiteData {
         ensures text { option_map (λ f. f.now.text) result ≡ find text_cmp path.now self.now }
         ensures kept { IfSome result (λ f. IsKept path.now f.now) }
     {
-        self.by_path.get(path)
+        file_at(&self.by_path, path)
+    }
+
+    /// The plan of the global layer.
+    pub fn global_plan(&self) -> &[Option<FixedFile>]
+        ensures { PlannedAt self.now global_folder result.now }
+    {
+        self.global.as_slice()
+    }
+
+    /// The plan of the environment.
+    pub fn environment_plan(&self) -> &[Option<FixedFile>]
+        ensures { PlannedAt self.now [] result.now }
+    {
+        self.environment.as_slice()
     }
 
     /// All files, by path in byte order.
@@ -116,8 +146,14 @@ fn read_file(alloc: Global, path: &str, text: Text) -> Result<DataFile, Memory>
     ensures kept { IfOk result (λ f. IsKept path.now f) }
 {
     let json = parsed(alloc, text.as_str())?;
+    let flags = flags_of(alloc, &json)?;
     let config = config_if(alloc, is_of_module(path), &json)?;
-    Ok(DataFile { text, json, config })
+    Ok(DataFile {
+        text,
+        json,
+        config,
+        flags,
+    })
 }
 
 fn stays_simple(so_far: bool, file: &DataFile) -> bool

@@ -6,9 +6,9 @@ use Rattle.hiera_config.specs.Seen.{seen}
 use Rattle.hiera_config.specs.Sources.{in_level}
 use Rattle.hiera_config.proofs.searching.add_from_levels.Given as goal
 
-abbrev pub invariant-loop-level : goal.invariant-loop-level
-invariant-loop-level l =
+abbrev pub invariant-loop-i : goal.invariant-loop-i
+invariant-loop-i l =
     in_turn (in_level l.search.files.now l.search.key.now l.search.folder.now (seen l.variables))
-    (source_views l.found.items) (drop l.level-index l.levels)
+    (source_views l.found.items) (drop l.i l.levels)
     ≡ in_turn (in_level l.search.files.now l.search.key.now l.search.folder.now (seen l.variables))
     (source_views l.initial.found.items) l.levels

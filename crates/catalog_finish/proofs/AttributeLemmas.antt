@@ -11,8 +11,8 @@ use Rattle.pp_values.specs.Settings.{Setting, setting_names}
 use Rattle.res_core.specs.AttributeViews.{setting, settings}
 use Rattle.res_core.specs.PlainAttributes.{are_plain}
 use Rattle.res_core.specs.declared.attribute.Attribute.{Attribute}
-use Rattle.catalog_finish.proofs.PlainLemmas.{plain_of-plain}
-use Rattle.catalog_finish.specs.Attributes.{has_value, is_kept, plain_setting, in_catalog}
+use Rattle.catalog_finish.proofs.PlainLemmas.{plain_of-plain, plain_stays}
+use Rattle.catalog_finish.specs.Attributes.{has_value, is_kept, plain_setting, in_catalog, stays}
 
 both : (a b : Bool) → (a && b) ≡ true → (a ≡ true) × (b ≡ true)
 both true true e = (refl, refl)
@@ -113,3 +113,13 @@ kept_filtered test (a ∷ rest) =
     elim (test (setting a)) as (λ b. settings (cond b (a ∷ filter (λ x. test (setting x)) rest)
     (filter (λ x. test (setting x)) rest)) ≡ cond b (setting a ∷ filter test (settings rest)) (filter test (settings rest)))
     [ true ↦ ap (λ xs. setting a ∷ xs) (kept_filtered test rest) | false ↦ kept_filtered test rest ]
+
+-- settings that a catalog has as they are
+pub all_stay : (ss : List Setting) → list_all stays ss ≡ true → in_catalog ss ≡ ss
+all_stay [] e = refl
+all_stay (s ∷ ss) e =
+    let parts = both (stays s) (list_all stays ss) e in
+    let first = both (is_kept s) (is_plain_value s.1) parts.0 in
+    ap (λ b. map plain_setting (cond b (s ∷ filter is_kept ss) (filter is_kept ss))) first.0
+    ∙ ap (λ d. (s.0, d) ∷ in_catalog ss) (plain_stays s.1 first.1)
+    ∙ ap (λ ts. s ∷ ts) (all_stay ss parts.1)

@@ -1,7 +1,8 @@
 -- The attributes of resources in the catalog, and of those that are exported.
-use Rattle.std.specs.Prelude.{ℕ, Bool, true, false, not, ◌||◌, if◌then◌else◌, List, [], map, filter, is_some, unwrap_or, codes}
+use Rattle.std.specs.Prelude.{ℕ, Bool, true, false, not, ◌&&◌, ◌||◌, if◌then◌else◌, List, [], map, filter, is_some, unwrap_or, codes}
 use Rattle.std.specs.Str.{bytes_eq}
 use Rattle.pp_values.specs.Datum.{Datum, undef}
+use Rattle.pp_values.specs.Plain.{is_plain_value}
 use Rattle.pp_values.specs.Settings.{Setting}
 use Rattle.res_core.specs.Metaparameters.{is_relation_name}
 use Rattle.res_core.specs.NativeTypes.{native_of}
@@ -37,6 +38,10 @@ plain_setting s = (s.0, plain_of s.1)
 
 abbrev pub in_catalog : List Setting → List Setting
 in_catalog ss = map plain_setting (filter is_kept ss)
+
+-- a catalog has the setting as it is
+abbrev pub stays : Setting → Bool
+stays s = is_kept s && is_plain_value s.1
 
 -- Of a native resource it is what declaration, override lines and default statements set, of a class or an instance
 -- its parameters.

@@ -1,15 +1,16 @@
 //! The attributes of resources in the catalog, and of those that are exported.
 ghost use Rattle.std.specs.Prelude.{◌≡◌, ◌<◌, ◌∷◌, [], ◌++◌, ◌||◌, filter, length, not, option_map, Some, IfOk, IsTrue, OnOk, slice_get, unwrap_or};
+ghost use Rattle.std.specs.List.{list_all};
 ghost use Rattle.pp_values.specs.Views.{view};
 ghost use Rattle.res_core.specs.AttributeViews.{set_in, setting, settings};
 ghost use Rattle.res_core.specs.Metaparameters.{is_relation_name};
 ghost use Rattle.res_core.specs.PlainAttributes.{are_plain};
 ghost use Rattle.override_rules.specs.Names.{attributes_of};
-ghost use Rattle.catalog_finish.specs.Attributes.{bound_parameters, catalog_attributes as catalog_meant, exported_attributes as exported_meant, has_value, in_catalog, is_native as native_meant, is_tag as tag_meant, is_value as value_meant};
+ghost use Rattle.catalog_finish.specs.Attributes.{bound_parameters, catalog_attributes as catalog_meant, exported_attributes as exported_meant, has_value, in_catalog, is_native as native_meant, is_tag as tag_meant, is_value as value_meant, stays as stays_meant};
 
 use crate::plain_values::{plain_copy, plain_value};
 use override_rules::Overrides;
-use pp_values::{Memory, Text, Value};
+use pp_values::{Memory, Text, Value, is_plain_value};
 use res_book::{Book, Row};
 use res_core::{Attribute, Attributes, Declared, is_relation_name, native};
 use std::alloc::Global;
@@ -85,10 +86,34 @@ fn put_set(alloc: Global, attribute: Attribute, items: &mut Vec<Attribute>) -> R
     Ok(())
 }
 
-/// What a catalog has of these attributes.
+/// Whether a catalog has an attribute as it is.
+fn stays(attribute: &Attribute) -> bool
+    ensures { result ≡ stays_meant (setting attribute.now) }
+{
+    !is_taken_out(&attribute.name) && is_plain_value(&attribute.value)
+}
+
+fn all_stay(attributes: &[Attribute]) -> bool
+    ensures { result ≡ list_all stays_meant (settings attributes.now) }
+{
+    let mut left = attributes;
+    while let [attribute, after @ ..] = left {
+        if !stays(attribute) {
+            return false;
+        }
+        left = after;
+    }
+    true
+}
+
+/// What a catalog has of these attributes. Mostly it has them all as they are.
+#[tactic(auto, using(crate::proofs::AttributeLemmas::all_stay))]
 fn kept_of_set(alloc: Global, attributes: Attributes) -> Result<Attributes, Memory>
     ensures { IfOk result (λ a. a ≡ in_catalog attributes) }
 {
+    if all_stay(attributes.as_slice()) {
+        return Ok(attributes);
+    }
     let mut items = Vec::with_capacity(alloc, attributes.len())?;
     for attribute in attributes.into_vec() {
         put_set(alloc, attribute, &mut items)?;

@@ -73,7 +73,7 @@ impl Layout {
 fn indexes(alloc: Global, book: &Book) -> Result<Vec<Option<u32>>, Memory>
     ensures { IfOk result (λ v. v.items ≡ indexes_from 0 book.now) }
 {
-    let mut indexes = Vec::new(alloc);
+    let mut indexes = Vec::with_capacity(alloc, book.count() as usize)?;
     let mut next = 0;
     for number in 0..book.count() {
         if book.live(number) {
@@ -100,7 +100,7 @@ fn outers(alloc: Global, book: &Book, pairs: &[Containment]) -> Result<Vec<Vec<u
 fn no_outers(alloc: Global, book: &Book) -> Result<Vec<Vec<u32>>, Memory>
     ensures { IfOk result (λ v. lists v.items ≡ map (λ r. []) book.now) }
 {
-    let mut outers = Vec::new(alloc);
+    let mut outers = Vec::with_capacity(alloc, book.count() as usize)?;
     for _number in 0..book.count() {
         outers.push(Vec::new(alloc))?;
     }

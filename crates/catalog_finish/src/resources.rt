@@ -70,7 +70,7 @@ pub fn resources(
 ) -> Result<HeldList, Memory>
     ensures { IfOk result (λ l. l ≡ resources_meant lines.now layout.now book.now) }
 {
-    let mut items = Vec::new(alloc);
+    let mut items = Vec::with_capacity(alloc, book.count() as usize)?;
     for number in 0..book.count() {
         if book.live(number) {
             items.push(held(alloc, book, lines, layout, number, book.row(number))?)?;

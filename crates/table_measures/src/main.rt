@@ -1,6 +1,6 @@
 //! Measures, each by a word and a count: `lines COUNT` reads an attribute that so many override lines set, and prints how many
 //! lines there are; `chain`, `star` and `random COUNT` order so many resources with about as many edges, and print how many were
-//! ordered. Several are taken one after another.
+//! ordered.
 #![tactic(auto)]
 
 mod lines;
@@ -20,21 +20,19 @@ fn main(rt: HostRuntime) -> io::Result<ExitCode> {
     for word in env::args(&rt)?.skip(1) {
         words.push(word)?;
     }
-    let mut rest = words.as_slice();
-    while let [measure, count, further @ ..] = rest {
-        let Some(found) = measured(rt.alloc(), measure.as_str(), count.as_str()) else {
-            eprintln!(rt; "usage: table_measures lines|chain|star|random COUNT ..")?;
-            return Ok(ExitCode::from(64));
-        };
-        println!(rt; "{found}")?;
-        rest = further;
+    match measured(rt.alloc(), words.as_slice()) {
+        Some(found) => println!(rt; "{found}")?,
+        None => eprintln!(rt; "usage: table_measures lines|chain|star|random COUNT")?,
     }
     Ok(ExitCode::from(0))
 }
 
-fn measured(alloc: Global, measure: &str, count: &str) -> Option<usize> {
-    let count: u32 = count.parse().ok()?;
-    match measure {
+fn measured(alloc: Global, words: &[String]) -> Option<usize> {
+    let [measure, count] = words else {
+        return None;
+    };
+    let count: u32 = count.as_str().parse().ok()?;
+    match measure.as_str() {
         "lines" => overridden(alloc, count).ok(),
         "chain" => ordered(alloc, Shape::Chain, count),
         "star" => ordered(alloc, Shape::Star, count),

@@ -12,6 +12,7 @@ use Rattle.serde_json.proofs.value.Value.TheLaws.TheKnot as value
 use Rattle.serde_json.specs.contracts.value.Value as json
 use Rattle.pp_values.proofs.text.Text.TheSendSync as text
 use Rattle.hiera_config.proofs.config.Config.TheSendSync as config
+use Rattle.hiera_config.proofs.plan.FixedFile.TheSendSync as fixed_file
 use Rattle.hiera_config.specs.contracts.site_data.DataFile as data_file
 use Rattle.hiera_config.specs.contracts.site_data.SiteData as site_data
 
@@ -49,7 +50,10 @@ data_file_fields_send =
       text.the_send,
       (
         search (sendable, crosses, option.the_field_send, json_send) depth 40 fits 40000,
-        (search (sendable, crosses, option.the_field_send, config.the_send) depth 40 fits 40000, tt),
+        (
+          search (sendable, crosses, option.the_field_send, config.the_send) depth 40 fits 40000,
+          (search (sendable, crosses, vec.the_send, global.the_send) depth 40 fits 40000, tt),
+        ),
       ),
     )
 
@@ -59,7 +63,10 @@ data_file_fields_sync =
       text.the_sync,
       (
         search (sendable, crosses, option.the_field_sync, json_sync) depth 40 fits 40000,
-        (search (sendable, crosses, option.the_field_sync, config.the_sync) depth 40 fits 40000, tt),
+        (
+          search (sendable, crosses, option.the_field_sync, config.the_sync) depth 40 fits 40000,
+          (search (sendable, crosses, vec.the_sync, global.the_sync) depth 40 fits 40000, tt),
+        ),
       ),
     )
 
@@ -70,7 +77,31 @@ data_file_sync : IsSync (declared.row data_file.the_type)
 data_file_sync = search (sendable, data_file_fields_sync) depth 20
 
 pub data_send : IsSend site_data.the_row
-data_send = search (sendable, crosses, map.the_send, text.the_send, data_file_send) depth 40 fits 40000
+data_send =
+    search (
+      sendable,
+      crosses,
+      map.the_send,
+      text.the_send,
+      data_file_send,
+      vec.the_send,
+      option.the_field_send,
+      global.the_send,
+      fixed_file.the_send,
+    )
+    depth 40 fits 40000
 
 pub data_sync : IsSync site_data.the_row
-data_sync = search (sendable, crosses, map.the_sync, text.the_sync, data_file_sync) depth 40 fits 40000
+data_sync =
+    search (
+      sendable,
+      crosses,
+      map.the_sync,
+      text.the_sync,
+      data_file_sync,
+      vec.the_sync,
+      option.the_field_sync,
+      global.the_sync,
+      fixed_file.the_sync,
+    )
+    depth 40 fits 40000

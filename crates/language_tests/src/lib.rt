@@ -1,6 +1,10 @@
-//! The tests of tokens, and of manifests with their trees.
+//! The tests of what the language is made of: values, tokens, manifests with their trees, resources.
 #![tactic(auto)]
 
+#[cfg(test)]
+mod copies;
+#[cfg(test)]
+mod declarations;
 #[cfg(test)]
 mod definitions;
 #[cfg(test)]
@@ -10,6 +14,20 @@ mod levels;
 #[cfg(test)]
 mod manifests;
 #[cfg(test)]
+mod natives;
+#[cfg(test)]
+mod orders;
+#[cfg(test)]
+mod overriding;
+#[cfg(test)]
+mod queries;
+#[cfg(test)]
 mod reading;
 #[cfg(test)]
+mod resources;
+#[cfg(test)]
 mod tokens;
+#[cfg(test)]
+mod value_forms;
+#[cfg(test)]
+mod value_names;

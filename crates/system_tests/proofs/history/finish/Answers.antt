@@ -2,7 +2,7 @@ use Rattle.std.proofs.Common.{subst}
 use Rattle.pp_values.specs.Views.{view}
 use Rattle.site_core.specs.Meaning.{HasExports}
 use Rattle.site_core.proofs.Meant.{has_exports}
-use Rattle.history_tests.proofs.history.finish.Goals as goal
+use Rattle.system_tests.proofs.history.finish.Goals as goal
 
 pub done-requires : goal.done-requires
 done-requires g c =

@@ -1,4 +1,4 @@
-// The loop of crates/lock_turns with std's Mutex in the place of the lock: THREADS threads take TURNS turns each, every turn counts one up, and the count is printed.
+// The loop of crates/measures with std's Mutex in the place of the lock: THREADS threads take TURNS turns each, every turn counts one up, and the count is printed.
 use std::env;
 use std::process::ExitCode;
 use std::sync::Mutex;

@@ -1,6 +1,6 @@
 use Rattle.std.proofs.Common.{◌≡◌, ◌+◌, [], true, length, All}
 use Rattle.hist_lock.specs.Held.{held}
-use Rattle.lock_turns.proofs.turns.jobs.Given as goal
+use Rattle.measures.proofs.turns.jobs.Given as goal
 
 abbrev pub invariant-loop : goal.invariant-loop
 invariant-loop g l =

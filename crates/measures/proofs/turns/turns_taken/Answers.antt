@@ -1,7 +1,7 @@
 use Rattle.std.proofs.Common.{arith, ◌≡◌, ◌∙◌}
 use Rattle.hist_lock.specs.Held.{IsShare}
-use Rattle.lock_turns.proofs.Zips.{zip_length, zip_all}
-use Rattle.lock_turns.proofs.turns.turns_taken.Goals as goal
+use Rattle.measures.proofs.Zips.{zip_length, zip_all}
+use Rattle.measures.proofs.turns.turns_taken.Goals as goal
 
 pub join_passes-requires-clause-first : goal.join_passes-requires-clause-first
 join_passes-requires-clause-first g c =

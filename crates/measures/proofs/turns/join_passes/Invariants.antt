@@ -1,6 +1,6 @@
 use Rattle.std.proofs.Common.{◌-◌, ◌≤◌, length, All}
 use Rattle.hist_lock.specs.Held.{IsShare}
-use Rattle.lock_turns.proofs.turns.join_passes.Given as goal
+use Rattle.measures.proofs.turns.join_passes.Given as goal
 
 abbrev pub invariant-loop-pass : goal.invariant-loop-pass
 invariant-loop-pass l = (length l.passes.items ≤ 64) × IsShare l.lock (65536 - length l.passes.items) l.first × All (IsShare l.lock 1) l.passes.items

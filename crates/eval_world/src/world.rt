@@ -11,7 +11,7 @@ use crate::heap::Heap;
 use crate::here::Here;
 use crate::owners::Owners;
 use override_rules::Overrides;
-use pp_values::{Fault, Memory, Place, Stop, Text, What};
+use pp_values::{Fault, Kept, Memory, Place, Stop, Text, What};
 use res_book::{Book, Relations};
 use res_core::{LogLine, LogLines};
 use scope_core::{ScopeKind, Scopes};
@@ -109,8 +109,9 @@ impl<'a> World<'a> {
     pub fn fault(&self, here: Here, line: u32, what: What) -> Result<Fault, Memory>
         ensures { IfOk result (λ f. f ≡ fault (spec.place_at self.now here line) what) }
     {
+        let what = Kept::new(what);
         let at = self.place(here, line)?;
-        Fault::new(self.heap.alloc(), at, what)
+        Fault::new(self.heap.alloc(), at, what.into_inner())
     }
 
     /// A form of the language that is read and not evaluated yet.

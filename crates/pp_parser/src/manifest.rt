@@ -15,7 +15,7 @@ use pp_lexer::scan::{end_line, scan};
 use pp_lexer::token::Token;
 use pp_tree::file::File;
 use pp_tree::table::{TableStop, table_of};
-use pp_values::{Fault, MAIN_MANIFEST, Memory, Place, Stop, Text, What};
+use pp_values::{Fault, Kept, MAIN_MANIFEST, Memory, Place, Stop, Text, What};
 use std::alloc::Global;
 
 /// What the file at this path says.
@@ -33,8 +33,9 @@ fn read_file(alloc: Global, file: &Text, tokens: &mut Cursor<'_>) -> Result<Foun
 fn fault_at(alloc: Global, file: &Text, what: What, line: u32) -> Result<Fault, Memory>
     ensures { IfOk result (λ fault. fault ≡ manifest.fault_at file.now what line) }
 {
+    let what = Kept::new(what);
     let file = file.copy(alloc)?;
-    Fault::new(alloc, Place { file, line }, what)
+    Fault::new(alloc, Place { file, line }, what.into_inner())
 }
 
 /// The fault at a line of the file.

@@ -2,7 +2,6 @@ use crate::resource::Resource;
 use pp_values::{Place, Text, Texts};
 
 /// A resource as a manifest declares it, before any override and any default statement.
-#[derive(Drop)]
 pub struct Declared {
     pub item: Resource,
     /// The body that declares it: the line of its title.
@@ -15,4 +14,18 @@ pub struct Declared {
     pub class: Text,
     /// The attributes that its kind takes besides the metaparameters.
     pub known: Texts,
+}
+
+// By hand, so that letting one go is one step for whoever holds it.
+impl Drop for Declared {
+    fn drop(self) {
+        let Declared {
+            item: _item,
+            at: _at,
+            scope: _scope,
+            container: _container,
+            class: _class,
+            known: _known,
+        } = self;
+    }
 }

@@ -1,4 +1,5 @@
 pub mod Keys
 pub mod Places
+mod DeepLemmas
 pub mod OptionLemmas
 mod Examples

@@ -1,3 +1,4 @@
 pub mod Merges
+pub mod DeepSteps
 pub mod Options
 pub mod Digging

@@ -1,14 +1,19 @@
 //! Lists without repeats.
 ghost use Rattle.std.specs.Prelude.{◌≡◌, ◌++◌, [], IfOk, OnOk};
-ghost use Rattle.std.specs.List.{fold};
+ghost use Rattle.std.specs.List.{fold, list_any};
 ghost use Rattle.pp_funcs.specs.Lists.{behind, flat, flat_members, with_new};
+ghost use Rattle.pp_ops.specs.Same.{same};
 ghost use Rattle.pp_values.specs.Datum.{data_of};
 ghost use Rattle.pp_values.specs.Views.{view, views};
 ghost use Rattle.hiera_merge.specs.Merges.{united, joined};
 
 use pp_funcs::seen::{Seen, is_new};
+use pp_ops::sameness::is_same;
 use pp_values::{Memory, Value, Values, copy};
 use std::alloc::Global;
+
+/// Up to how many members each is compared with all before it.
+const FEW: usize = 16;
 
 /// The members of all these values, those of lists within them too, each once.
 pub fn united(alloc: Global, high: &Value, lower: &[&Value]) -> Result<Values, Memory>
@@ -26,7 +31,7 @@ pub fn united(alloc: Global, high: &Value, lower: &[&Value]) -> Result<Values, M
 pub fn joined(alloc: Global, lower: &[Value], higher: &[Value]) -> Result<Values, Memory>
     ensures { IfOk result (λ l. l ≡ joined (views lower.now) (views higher.now)) }
 {
-    let mut members = Vec::new(alloc);
+    let mut members = Vec::with_capacity(alloc, lower.len().saturating_add(higher.len()))?;
     add_each(&mut members, lower)?;
     add_each(&mut members, higher)?;
     without_repeats(alloc, members.as_slice())
@@ -67,6 +72,40 @@ fn add_each<'a>(members: &mut Vec<&'a Value>, items: &'a [Value]) -> Result<(), 
 }
 
 fn without_repeats(alloc: Global, members: &[&Value]) -> Result<Values, Memory>
+    ensures { IfOk result (λ l. l ≡ fold with_new [] (behind members.now)) }
+{
+    if members.len() <= FEW {
+        few_without_repeats(alloc, members)
+    } else {
+        many_without_repeats(alloc, members)
+    }
+}
+
+fn few_without_repeats(alloc: Global, members: &[&Value]) -> Result<Values, Memory>
+    ensures { IfOk result (λ l. l ≡ fold with_new [] (behind members.now)) }
+{
+    let mut kept = Vec::with_capacity(alloc, members.len())?;
+    for member in members {
+        if !has_same(kept.as_slice(), member) {
+            kept.push(copy(alloc, member)?)?;
+        }
+    }
+    Ok(Values::from_vec(kept))
+}
+
+fn has_same(values: &[Value], value: &Value) -> bool
+    ensures { result ≡ list_any (same (view value.now)) (views values.now) }
+{
+    for other in values {
+        if is_same(value, other) {
+            return true;
+        }
+    }
+    false
+}
+
+/// The values that were seen stand under their texts.
+fn many_without_repeats(alloc: Global, members: &[&Value]) -> Result<Values, Memory>
     ensures { IfOk result (λ l. l ≡ fold with_new [] (behind members.now)) }
 {
     let mut kept = Values::new(alloc);

@@ -3,7 +3,7 @@ use Rattle.std.proofs.Common.{◌≡◌, [], drop}
 use Rattle.std.specs.List.{fold}
 use Rattle.pp_funcs.specs.Lists.{behind, with_new}
 use Rattle.pp_funcs.specs.Seen.{Holds}
-use Rattle.hiera_merge.proofs.uniting.without_repeats.Given as goal
+use Rattle.hiera_merge.proofs.uniting.many_without_repeats.Given as goal
 
 abbrev pub invariant-loop-member : goal.invariant-loop-member
 invariant-loop-member l =

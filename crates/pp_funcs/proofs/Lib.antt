@@ -5,3 +5,4 @@ pub mod Backs
 pub mod Characters
 pub mod SameOnes
 pub mod Steps
+mod Ascii

@@ -23,7 +23,7 @@ fn count_of(value: &Value) -> Result<Value, Halt>
     ensures { Gives result (count (view value.now)) }
 {
     match value {
-        Value::Text(text) => natural(characters(text.as_str().as_bytes()) as u64),
+        Value::Text(text) => natural(characters(text.as_str()) as u64),
         Value::List(items) => natural(items.len() as u64),
         Value::Hash(pairs) => natural(pairs.len() as u64),
         _ => Err(Halt::Refused(Refusal::Arguments)),
@@ -51,7 +51,18 @@ fn is_empty_value(value: &Value) -> Result<Value, Halt>
     }
 }
 
-fn characters(text: &[u8]) -> usize
+/// A text of ASCII alone has a character for each byte.
+#[tactic(auto, using(crate::proofs::Ascii::ascii_characters))]
+fn characters(text: &str) -> usize
+    ensures { result ≡ characters text.now }
+{
+    if text.is_ascii() {
+        return text.len();
+    }
+    first_bytes(text.as_bytes())
+}
+
+fn first_bytes(text: &[u8]) -> usize
     ensures { result ≡ characters text.now }
 {
     let mut count = 0;

@@ -1,6 +1,6 @@
 -- Values that are set one after another: the order of different names does not count, and the last value of a name stays.
 use Rattle.std.proofs.Common.{◌≡◌, ◌∙◌, ◌<◌, ℕ, zero, suc, length, arith, List, [], ◌∷◌, ◌++◌, Bool, true, false, true≢false}
-use Rattle.std.proofs.Common.{Option, None, Some, is_some, unwrap_or, option_map, refl, ap, sym, cond, if◌then◌else◌}
+use Rattle.std.proofs.Common.{Option, None, Some, is_some, unwrap_or, refl, ap, sym, cond, if◌then◌else◌}
 use Rattle.std.proofs.Common.{Ordering, Less, Equal, Greater}
 use Rattle.std.proofs.lemmas.Cmp.{nat_list_cmp_total, tied_itself}
 use Rattle.std.proofs.lemmas.Map.Text.{is_eq-slice_cmp}
@@ -10,7 +10,7 @@ use Rattle.std.specs.Prelude.{slice_get, slice_set}
 use Rattle.std.specs.Str.{bytes_eq}
 use Rattle.std.specs.Ordering.{is_eq, match_ordering, ordering_reverse}
 use Rattle.pp_values.specs.Rising.{text_cmp}
-use Rattle.scope_core.specs.Keyed.{held, place_of, replaced}
+use Rattle.scope_core.specs.Keyed.{held, replaced}
 use Rattle.scope_core.specs.Names.{Name, value_of, with_value}
 
 itself : (x : Name) → text_cmp x x ≡ Equal
@@ -31,9 +31,18 @@ reversed Greater = refl
 pub named : (x y : Name) → is_eq (text_cmp x y) ≡ bytes_eq y x
 named x y = sym (ap is_eq (back x y) ∙ reversed (text_cmp x y)) ∙ is_eq-slice_cmp y x
 
-none_of : (o : Option ℕ) → option_map (λ p. suc p) o ≡ None → o ≡ None
-none_of None none = refl
-none_of (Some p) none = absurd (true≢false (ap is_some none))
+none_first : {T : Type 0} (o p : Option T) → option_or o p ≡ None → o ≡ None
+none_first None p none = refl
+none_first (Some v) p none = none
+
+equal_by : (r : Ordering) → is_eq r ≡ true → r ≡ Equal
+equal_by Less is = absurd (true≢false (sym is))
+equal_by Equal is = refl
+equal_by Greater is = absurd (true≢false (sym is))
+
+-- two names that the test takes for one are the same
+pub name_here : (x y : Name) → is_eq (text_cmp x y) ≡ true → x ≡ y
+name_here x y is = same x y (equal_by (text_cmp x y) is)
 
 module _ {T : Type 0} where
   -- ---- a value that is set twice
@@ -140,69 +149,39 @@ module _ {T : Type 0} where
   found_in_both x (e ∷ es) later =
       both_at (text_cmp x e.0) x e es later refl (found_in_both x es later)
 
-  apart_from : (x : Name) (e : Name × T) (es : List (Name × T)) → place_of x (e ∷ es) ≡ None
-      → (is_eq (text_cmp x e.0) ≡ false) × (place_of x es ≡ None)
+  apart_from : (x : Name) (e : Name × T) (es : List (Name × T)) → value_of x (e ∷ es) ≡ None
+      → (is_eq (text_cmp x e.0) ≡ false) × (value_of x es ≡ None)
   apart_from x e es = by (is_eq (text_cmp x e.0))
     where
-      by : (b : Bool) → (if b then Some 0 else option_map (λ p. suc p) (place_of x es)) ≡ None
-          → (b ≡ false) × (place_of x es ≡ None)
+      by : (b : Bool) → (if b then Some e.1 else value_of x es) ≡ None → (b ≡ false) × (value_of x es ≡ None)
       by true none = absurd (true≢false (ap is_some none))
-      by false none = (refl, none_of (place_of x es) none)
+      by false none = (refl, none)
+
+  not_first : (x : Name) (es later : List (Name × T)) → value_of x (held es later) ≡ None → value_of x es ≡ None
+  not_first x es later none = none_first (value_of x es) (value_of x later) (sym (found_in_both x es later) ∙ none)
 
   -- a name that is not in the list goes into the map, or to the end of the list
-  pub into_later : (x : Name) (v : T) (es later : List (Name × T)) → place_of x es ≡ None
+  later_by : (x : Name) (v : T) (es later : List (Name × T)) → value_of x es ≡ None
       → held es (with_value x v later) ≡ with_value x v (held es later)
-  into_later x v [] later none = refl
-  into_later x v (e ∷ es) later none =
+  later_by x v [] later none = refl
+  later_by x v (e ∷ es) later none =
       let apart = apart_from x e es none in
-      ap (with_value e.0 e.1) (into_later x v es later apart.1) ∙ sym (swap x e.0 v e.1 (held es later) apart.0)
+      ap (with_value e.0 e.1) (later_by x v es later apart.1) ∙ sym (swap x e.0 v e.1 (held es later) apart.0)
 
-  pub at_end : (x : Name) (v : T) (es later : List (Name × T)) → place_of x es ≡ None
+  pub into_later : (x : Name) (v : T) (es later : List (Name × T)) → value_of x (held es later) ≡ None
+      → held es (with_value x v later) ≡ with_value x v (held es later)
+  into_later x v es later none = later_by x v es later (not_first x es later none)
+
+  end_by : (x : Name) (v : T) (es later : List (Name × T)) → value_of x es ≡ None
       → held (es ++ (x, v) ∷ []) later ≡ with_value x v (held es later)
-  at_end x v [] later none = refl
-  at_end x v (e ∷ es) later none =
+  end_by x v [] later none = refl
+  end_by x v (e ∷ es) later none =
       let apart = apart_from x e es none in
-      ap (with_value e.0 e.1) (at_end x v es later apart.1) ∙ sym (swap x e.0 v e.1 (held es later) apart.0)
+      ap (with_value e.0 e.1) (end_by x v es later apart.1) ∙ sym (swap x e.0 v e.1 (held es later) apart.0)
 
-  pub set_or_kept : (x : Name) (v : T) (es later old new : List (Name × T)) (went : Bool) → place_of x es ≡ None
-      → held es later ≡ old → new ≡ (if went then with_value x v later else later)
-      → held es new ≡ (if went then with_value x v old else old)
-  set_or_kept x v es later old new true none whole is =
-      ap (held es) is ∙ into_later x v es later none ∙ ap (with_value x v) whole
-  set_or_kept x v es later old new false none whole is = ap (held es) is ∙ whole
-
-  -- a name that is in the list has its value set there
-  abbrev Placed : Name → T → List (Name × T) → List (Name × T) → Type 0
-  Placed x v es later =
-      (p : ℕ) → place_of x es ≡ Some p → held (replaced p v es) later ≡ with_value x v (held es later)
-
-  place_further : (o : Option ℕ) (x : Name) (v : T) (e : Name × T) (es later : List (Name × T)) → place_of x es ≡ o
-      → is_eq (text_cmp x e.0) ≡ false → Placed x v es later
-      → (p : ℕ) → option_map (λ q. suc q) o ≡ Some p
-      → held (replaced p v (e ∷ es)) later ≡ with_value x v (held (e ∷ es) later)
-  place_further None x v e es later is apart rest p at = absurd (true≢false (sym (ap is_some at)))
-  place_further (Some q) x v e es later is apart rest p at =
-      rw (sym (ap (λ o. unwrap_or o 0) at))
-      (ap (with_value e.0 e.1) (rest q is) ∙ sym (swap x e.0 v e.1 (held es later) apart))
-
-  place_here : (r : Ordering) (x : Name) (v : T) (e : Name × T) (es later : List (Name × T)) → text_cmp x e.0 ≡ r
-      → Placed x v es later
-      → (p : ℕ) → (if is_eq r then Some 0 else option_map (λ q. suc q) (place_of x es)) ≡ Some p
-      → held (replaced p v (e ∷ es)) later ≡ with_value x v (held (e ∷ es) later)
-  place_here Less x v e es later is rest p at =
-      place_further (place_of x es) x v e es later refl (ap is_eq is) rest p at
-  place_here Equal x v e es later is rest p at =
-      rw (sym (ap (λ o. unwrap_or o 0) at))
-      (ap (λ y. with_value y v (held es later)) (sym (same x e.0 is))
-      ∙ sym (again x v e.1 (held es later))
-      ∙ ap (λ y. with_value x v (with_value y e.1 (held es later))) (same x e.0 is))
-  place_here Greater x v e es later is rest p at =
-      place_further (place_of x es) x v e es later refl (ap is_eq is) rest p at
-
-  pub at_place : (x : Name) (v : T) (es later : List (Name × T)) → Placed x v es later
-  at_place x v [] later p there = absurd (true≢false (sym (ap is_some there)))
-  at_place x v (e ∷ es) later p there =
-      place_here (text_cmp x e.0) x v e es later refl (at_place x v es later) p there
+  pub at_end : (x : Name) (v : T) (es later : List (Name × T)) → value_of x (held es later) ≡ None
+      → held (es ++ (x, v) ∷ []) later ≡ with_value x v (held es later)
+  at_end x v es later none = end_by x v es later (not_first x es later none)
 
   -- the list when the value of one name in it is put back
   pub put_back : (es : List (Name × T)) (p : ℕ) (e : Name × T) (v : T) → slice_get es p ≡ Some e

@@ -1,5 +1,5 @@
 -- How names and values are held: as the entries of an ordered map, and as a list of the first ones before a map.
-use Rattle.std.specs.Prelude.{ℕ, zero, suc, List, [], ◌∷◌, map, Option, None, Some, option_map, if◌then◌else◌}
+use Rattle.std.specs.Prelude.{ℕ, zero, suc, Bool, false, List, [], ◌∷◌, map, Option, None, Some}
 use Rattle.std.specs.Ordering.{is_eq}
 use Rattle.std.specs.declared.alloc.Global.{Global}
 use Rattle.std.specs.declared.vec.Vec.{Vec}
@@ -15,10 +15,10 @@ abbrev pub held : {T : Type 0} → List (Name × T) → List (Name × T) → Lis
 held [] later = later
 held (e ∷ es) later = with_value e.0 e.1 (held es later)
 
--- where a name stands in the list
-abbrev pub place_of : {T : Type 0} → Name → List (Name × T) → Option ℕ
-place_of x [] = None
-place_of x (e ∷ es) = if is_eq (text_cmp x e.0) then Some 0 else option_map (λ p. suc p) (place_of x es)
+-- it is this name that stands here
+abbrev pub is_named : {T : Type 0} → Name → Option (Name × T) → Bool
+is_named x None = false
+is_named x (Some e) = is_eq (text_cmp x e.0)
 
 -- the list with another value at a place
 abbrev pub replaced : {T : Type 0} → ℕ → T → List (Name × T) → List (Name × T)

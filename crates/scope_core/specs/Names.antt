@@ -26,6 +26,9 @@ with_value x v names = insert_entry text_cmp names x v
 
 -- ---- a name as it is written after `$`: `x`, `::x`, `c::x`
 
+abbrev pub is_colon : ℕ → Bool
+is_colon b = b == 58
+
 -- `::` stands here
 abbrev pub is_cut : Name → Bool
 is_cut (a ∷ b ∷ bs) = (a == 58) && (b == 58)

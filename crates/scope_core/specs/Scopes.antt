@@ -96,9 +96,12 @@ left n s = record s { scopes = scopes_after n (slice_get s.scopes n) s.scopes }
 
 -- ---- reading
 
+abbrev pub own_of : Name → Option Scope → Option Datum
+own_of x = option_and_then (λ scope. value_of x scope.names)
+
 -- the value of a name in this one scope
 abbrev pub own : ℕ → Name → Scopes → Option Datum
-own n x s = option_and_then (λ scope. value_of x scope.names) (slice_get s.scopes n)
+own n x s = own_of x (slice_get s.scopes n)
 
 abbrev pub is_class : Owner → Bool
 is_class o.Class = true

@@ -1,15 +1,14 @@
-ghost use Rattle.std.specs.Prelude.{◌≡◌, is_ok, if◌then◌else◌, option_map, IsTrue};
+ghost use Rattle.std.specs.Prelude.{◌≡◌, [], None, is_ok, if◌then◌else◌, option_map, IfOk};
 ghost use Rattle.pp_values.specs.Views.{view};
 ghost use Rattle.scope_core.specs.Names.{value_of, with_value};
 ghost use Rattle.scope_core.specs.Scopes.{scope_of, ended};
 
 use crate::binding::Binding;
 use crate::owner::Owner;
-use crate::scope_names::{Room, ScopeNames};
+use crate::scope_names::ScopeNames;
 use pp_values::{Memory, Text, Value};
 use std::alloc::Global;
 use std::marker::Model;
-use std::mem;
 
 /// One scope. A contract sees its names by name in byte order, with what their values say.
 #[derive(Drop)]
@@ -17,7 +16,7 @@ pub struct Scope {
     owner: Owner,
     parent: u32,
     /// None where no name was set, or the scope has ended.
-    names: Option<ScopeNames>,
+    names: Option<Box<ScopeNames>>,
 }
 
 impl Model for Scope {
@@ -27,9 +26,9 @@ impl Model for Scope {
 
     ghost coded = { coded_scope };
 
-    ghost use Rattle.std.specs.Prelude.{[], unwrap_or};
+    ghost use Rattle.std.specs.Prelude.{[], option_map, unwrap_or};
 
-    ghost view = { λ s. record { owner = s.owner; parent = s.parent; names = unwrap_or s.names [] } };
+    ghost view = { λ s. record { owner = s.owner; parent = s.parent; names = unwrap_or (option_map (λ b. b.value) s.names) [] } };
 }
 
 impl Scope {
@@ -56,6 +55,7 @@ impl Scope {
         self.parent
     }
 
+    #[inline(always)]
     pub fn value_of(&self, name: &[u8]) -> Option<&Value>
         ensures { option_map (λ v. view v.now) result ≡ value_of name.now self.now.names }
     {
@@ -65,35 +65,53 @@ impl Scope {
         }
     }
 
-    /// Sets a name, the first one in this room. Where there is no memory, the scope stays as it was.
-    pub fn set(
+    /// Sets a name that has no value in it, the first one in this room. Where there is no memory, the scope stays as it
+    /// was.
+    #[inline(always)]
+    pub fn add(
         &mut self,
         alloc: Global,
-        room: &mut Room,
-        name: Text,
+        room: &mut Option<Box<ScopeNames>>,
+        name: &Text,
         value: Binding,
     ) -> Result<(), Memory>
+        requires { value_of name.now self.old.names ≡ None }
         ensures { self.new
-            ≡ (if is_ok result then record self.old { names = with_value name value self.old.names } else self.old) }
+            ≡ (if is_ok result then record self.old { names = with_value name.now value self.old.names } else self.old) }
     {
         if let Some(names) = &mut self.names {
-            return names.set(alloc, name, value);
+            return names.add(alloc, name, value);
         }
-        let room = mem::replace(room, Vec::new(alloc));
-        self.names = Some(ScopeNames::of_one(alloc, room, name, value)?);
+        let mut names = no_names(alloc, room)?;
+        names.add(alloc, name, value)?;
+        self.names = Some(names);
         Ok(())
     }
 
     /// Ends the scope of a lambda's call, whose names give their room.
-    pub fn end(&mut self, room: &mut Room)
+    #[inline(always)]
+    pub fn end(&mut self, room: &mut Option<Box<ScopeNames>>)
         ensures { self.new ≡ ended self.old.owner self.old }
     {
         if self.owner == Owner::Lambda {
             self.owner = Owner::Ended;
             self.parent = 0;
             if let Some(names) = self.names.take() {
-                *room = names.into_room();
+                *room = Some(names);
             }
         }
+    }
+}
+
+/// No names, in this room where there is one.
+fn no_names(alloc: Global, room: &mut Option<Box<ScopeNames>>) -> Result<Box<ScopeNames>, Memory>
+    ensures { IfOk result (λ names. names.value ≡ []) }
+{
+    match room.take() {
+        Some(mut names) => {
+            names.clear(alloc);
+            Ok(names)
+        }
+        None => Ok(Box::new(alloc, ScopeNames::new(alloc))?),
     }
 }

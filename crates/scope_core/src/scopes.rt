@@ -1,4 +1,4 @@
-ghost use Rattle.std.specs.Prelude.{◌≡◌, length, map, option_map, is_ok, if◌then◌else◌, slice_get, IfOk, OnOk};
+ghost use Rattle.std.specs.Prelude.{◌≡◌, None, length, map, option_map, is_ok, if◌then◌else◌, slice_get, IfOk, OnOk};
 ghost use Rattle.std.specs.Char.{to_ascii_lowercase};
 ghost use Rattle.pp_values.specs.Views.{view};
 ghost use Rattle.scope_core.specs.Names.{value_of_class};
@@ -13,7 +13,7 @@ use crate::owner::Owner;
 use crate::scope::Scope;
 use crate::scope_id::ScopeId;
 use crate::scope_kind::ScopeKind;
-use crate::scope_names::Room;
+use crate::scope_names::ScopeNames;
 use pp_values::{Memory, Place, Stop, Text, Value};
 use std::alloc::Global;
 use std::marker::Model;
@@ -27,7 +27,7 @@ pub struct Scopes {
     node: u32,
     classes: Named<u32>,
     /// That of the call of a lambda that ended last: the next call puts its names there.
-    room: Room,
+    room: Option<Box<ScopeNames>>,
 }
 
 impl Model for Scopes {
@@ -51,12 +51,13 @@ impl Scopes {
             scopes,
             node: 0,
             classes: Named::new(alloc),
-            room: Vec::new(alloc),
+            room: None,
         })
     }
 
     /// A new scope without names. `parent` is the scope that a lambda's call is within, and for a class with a parent
     /// class that class's scope; for others it does not count.
+    #[inline(always)]
     pub fn enter(
         &mut self,
         alloc: Global,
@@ -84,6 +85,7 @@ impl Scopes {
         Ok(ScopeId { number })
     }
 
+    #[inline(always)]
     fn add(&mut self, owner: Owner, parent: ScopeId) -> Result<(), Memory>
         ensures { OnOk result (self.new ≡ spec.added owner parent.number self.old) }
     {
@@ -92,6 +94,7 @@ impl Scopes {
     }
 
     /// Ends the scope of a lambda's call. Other scopes stay for the compile.
+    #[inline(always)]
     pub fn leave(&mut self, scope: ScopeId)
         ensures { self.new ≡ spec.left scope.number self.old }
     {
@@ -118,6 +121,7 @@ impl Scopes {
     }
 
     /// The same for whoever tells the fault: false where the name may not be set.
+    #[inline(always)]
     pub fn put(
         &mut self,
         alloc: Global,
@@ -131,6 +135,8 @@ impl Scopes {
         self.put_binding(alloc, scope, name, Binding::new(value))
     }
 
+    #[inline(always)]
+    #[tactic(auto, using(crate::proofs::Sets::not_set))]
     fn put_binding(
         &mut self,
         alloc: Global,
@@ -144,9 +150,8 @@ impl Scopes {
         if self.is_set(scope.number, name) {
             return Ok(false);
         }
-        let name = name.copy(alloc)?;
         let place = scope.number as usize;
-        set_name(alloc, &mut self.scopes, &mut self.room, place, name, value)?;
+        add_name(alloc, &mut self.scopes, &mut self.room, place, name, value)?;
         Ok(true)
     }
 
@@ -179,9 +184,17 @@ impl Scopes {
         ensures { option_map (λ v. view v.now) result ≡ spec.found number name.now self.now }
     {
         match cut(name) {
-            Some((before, name)) => self.seen(self.start(before), name),
+            Some((before, name)) => self.qualified(before, name),
             None => self.seen(Some(number), name),
         }
+    }
+
+    /// The value of a name behind `::`.
+    #[inline(never)]
+    fn qualified(&self, before: &[u8], name: &[u8]) -> Option<&Value>
+        ensures { option_map (λ v. view v.now) result ≡ spec.seen (spec.start before.now self.now) name.now self.now }
+    {
+        self.seen(self.start(before), name)
     }
 
     /// Where a name is looked for that has this before its last `::`.
@@ -205,6 +218,7 @@ impl Scopes {
     }
 
     /// The value of a name in this scope, or in those that are read after it.
+    #[inline(always)]
     #[tactic(auto, using(crate::proofs::Turns::seen_some, crate::proofs::Turns::seen_none, crate::proofs::Turns::seen_end))]
     fn seen(&self, start: Option<u32>, name: &[u8]) -> Option<&Value>
         ensures { option_map (λ v. view v.now) result ≡ spec.seen start name.now self.now }
@@ -224,6 +238,7 @@ impl Scopes {
     }
 
     /// The value of a name in this one scope.
+    #[inline(always)]
     fn own(&self, number: u32, name: &[u8]) -> Option<&Value>
         ensures { option_map (λ v. view v.now) result ≡ spec.own number name.now self.now }
     {
@@ -272,6 +287,7 @@ impl Scopes {
     }
 
     /// Whether a name may not be set.
+    #[inline(always)]
     fn is_set(&self, number: u32, name: &Text) -> bool
         ensures { result ≡ spec.is_set number name.now self.now }
     {
@@ -290,7 +306,8 @@ fn lowered(alloc: Global, name: Text) -> Result<Text, Memory>
     Ok(Text::new(name))
 }
 
-fn end_scope(scopes: &mut Vec<Scope>, room: &mut Room, place: usize)
+#[inline(always)]
+fn end_scope(scopes: &mut Vec<Scope>, room: &mut Option<Box<ScopeNames>>, place: usize)
     ensures { scopes.new.items ≡ spec.scopes_after place (slice_get scopes.old.items place) scopes.old.items }
 {
     if let Some(scope) = scopes.get_mut(place) {
@@ -298,21 +315,23 @@ fn end_scope(scopes: &mut Vec<Scope>, room: &mut Room, place: usize)
     }
 }
 
-fn set_name(
+#[inline(always)]
+fn add_name(
     alloc: Global,
     scopes: &mut Vec<Scope>,
-    room: &mut Room,
+    room: &mut Option<Box<ScopeNames>>,
     place: usize,
-    name: Text,
+    name: &Text,
     value: Binding,
 ) -> Result<(), Memory>
+    requires { spec.own_of name.now (slice_get scopes.old.items place) ≡ None }
     ensures { scopes.new.items
         ≡ (if is_ok result
-        then spec.set_in place name value (slice_get scopes.old.items place) scopes.old.items
+        then spec.set_in place name.now value (slice_get scopes.old.items place) scopes.old.items
         else scopes.old.items) }
 {
     match scopes.get_mut(place) {
-        Some(scope) => scope.set(alloc, room, name, value),
+        Some(scope) => scope.add(alloc, room, name, value),
         None => Ok(()),
     }
 }

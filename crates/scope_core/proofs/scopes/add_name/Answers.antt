@@ -3,12 +3,12 @@ use Rattle.std.proofs.Common.{◌<◌, length, rules, refl}
 use Rattle.std.proofs.lemmas.Option.{slice_get_read}
 use Rattle.std.specs.Prelude.{is_ok}
 use Rattle.scope_core.proofs.Sets.{set_or_back}
-use Rattle.scope_core.proofs.scopes.set_name.Goals as goal
+use Rattle.scope_core.proofs.scopes.add_name.Goals as goal
 
 pub returns-in-Some : goal.returns-in-Some
 returns-in-Some c =
     let below : c.args.place < length c.args.scopes.now.items = search (rules, c.in-Some.ensures.variant.0 refl) in
-    set_or_back c.args.scopes.now.items c.args.place c.in-Some.scope.now c.set.new.self (is_ok c.set.result)
-    c.args.name c.args.value
+    set_or_back c.args.scopes.now.items c.args.place c.in-Some.scope.now c.add.new.self (is_ok c.add.result)
+    c.args.name.now c.args.value
     (slice_get_read c.args.scopes.now.items _ c.args.place c.in-Some.scope.now refl below c.in-Some.ensures.value)
-    c.set.ensures
+    c.add.ensures

@@ -13,8 +13,8 @@ use eval_classes::{
 };
 use eval_world::{Forms, Here, World};
 use pp_tree::definition::Class;
-use pp_values::{Memory, Place, Reference, Stop, Text, Texts};
-use res_core::{Attribute, Attributes, check_known};
+use pp_values::{Memory, Place, Reference, Stop, Text};
+use res_core::{Attribute, Attributes, KnownNames, check_known};
 use std::alloc::Global;
 use std::marker::PhantomData;
 
@@ -78,7 +78,7 @@ fn check_given(alloc: Global, class: &Class, given: &Attributes, at: &Place) -> 
 {
     let name = normal_name(alloc, &class.name.text)?;
     let what = class_reference(alloc, &name)?;
-    let known = param_names(alloc, class.params.as_slice())?;
+    let known = KnownNames::listed(param_names(alloc, class.params.as_slice())?);
     check_names(alloc, &what, &known, given.as_slice(), at)
 }
 
@@ -86,7 +86,7 @@ fn check_given(alloc: Global, class: &Class, given: &Attributes, at: &Place) -> 
 fn check_names(
     alloc: Global,
     what: &Reference,
-    known: &Texts,
+    known: &KnownNames,
     attributes: &[Attribute],
     at: &Place,
 ) -> Result<(), Stop>

@@ -9,7 +9,7 @@ use crate::top_names::put_top_names;
 use eval_world::{Environment, MAIN_SOURCE, World};
 use pp_values::{Kind, MAIN_MANIFEST, Memory, Place, Text, Texts, Value};
 use res_book::{Book, Mode};
-use res_core::{Attributes, Declared, Resource, Tags, tags_of};
+use res_core::{Attributes, Declared, KnownNames, Resource, Tags, tags_of};
 use scope_core::Scopes;
 use std::alloc::Global;
 
@@ -79,7 +79,7 @@ fn main_class(alloc: Global) -> Result<Declared, Memory>
         scope: 0,
         container: None,
         class: Text::from_str(alloc, MAIN_SOURCE)?,
-        known: Texts::new(alloc),
+        known: KnownNames::none(alloc),
     })
 }
 

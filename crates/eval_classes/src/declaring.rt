@@ -11,7 +11,7 @@ use eval_world::{Owner, World};
 use pp_tree::definition::Class;
 use pp_values::{Kind, Memory, Place, Stop, Text};
 use res_book::{Book, Mode};
-use res_core::{Attributes, Declared, Resource, copy_attributes};
+use res_core::{Attributes, Declared, KnownNames, Resource, copy_attributes};
 use std::alloc::Global;
 
 /// The number of the declaration of the class of this name.
@@ -56,7 +56,7 @@ fn item_of(
 ) -> Result<Declared, Memory>
     ensures { IfOk result (λ d. d ≡ spec.class_item owner.now book.now class.now given.now at.now) }
 {
-    let known = param_names(alloc, class.params.as_slice())?;
+    let known = KnownNames::listed(param_names(alloc, class.params.as_slice())?);
     let source = owner.source.copy(alloc)?;
     let at = at.copy(alloc)?;
     Ok(Declared {

@@ -9,11 +9,11 @@ ghost use Rattle.res_core.specs.AttributeViews.{settings};
 use crate::matching::asks;
 use eval_resources::container_in;
 use eval_world::{Owner, World};
-use pp_values::{Fault, Memory, Place, Reference, Stop, Text, Texts, What};
+use pp_values::{Fault, Memory, Place, Reference, Stop, Text, What};
 use res_book::{Book, Collector, Mode};
 use res_core::{
-    Attribute, Declared, Exported, NativeType, Resource, check_known, copy_resource,
-    known_attributes, native,
+    Attribute, Declared, Exported, KnownNames, NativeType, Resource, check_known, copy_resource,
+    native,
 };
 use std::alloc::Global;
 
@@ -153,7 +153,7 @@ fn checked(alloc: Global, exported: &Exported, native: NativeType) -> Result<Nat
     ensures { Answers result (spec.attributes_checked exported.now native) }
 {
     let item = exported.item.as_resource();
-    let known = known_attributes(alloc, native)?;
+    let known = KnownNames::of_native(native);
     let reference = reference_of(alloc, item)?;
     check_names(
         alloc,
@@ -169,7 +169,7 @@ fn checked(alloc: Global, exported: &Exported, native: NativeType) -> Result<Nat
 fn check_names(
     alloc: Global,
     reference: &Reference,
-    known: &Texts,
+    known: &KnownNames,
     at: &Place,
     attributes: &[Attribute],
 ) -> Result<(), Stop>
@@ -221,6 +221,6 @@ fn item_of(
         scope: owner.scope,
         container: container_in(book, owner.resource),
         class: owner.source.copy(alloc)?,
-        known: known_attributes(alloc, native)?,
+        known: KnownNames::of_native(native),
     })
 }

@@ -11,8 +11,8 @@ use crate::kinds::check_kind;
 use crate::known_kind::KnownKind;
 use crate::named::Named;
 use eval_world::Environment;
-use pp_values::{Fault, Memory, Place, Reference, Stop, Subject, Text, Texts, Value, What};
-use res_core::{Body, Line, check_known, is_known};
+use pp_values::{Fault, Memory, Place, Reference, Stop, Subject, Text, Value, What};
+use res_core::{Body, KnownNames, Line, check_known, is_known};
 use std::alloc::Global;
 use std::collections::BTreeSet;
 
@@ -103,14 +103,14 @@ const FEW: usize = 16;
 /// Whether a few lines are known to pass their tests, whatever resource they are for: so that nothing has to be made that
 /// only a fault tells.
 #[tactic(auto, using(crate::proofs::GoodLines::all_taken))]
-pub fn are_taken(known: &Texts, lines: &[Line]) -> bool
+pub fn are_taken(known: &KnownNames, lines: &[Line]) -> bool
     ensures { IsTrue result → good.AreTaken known.now (lines_of lines.now) }
 {
     lines.len() <= FEW && are_known(known, lines) && are_apart(lines)
 }
 
 #[tactic(auto, unfolding(crate::specs::GoodLines::are_known))]
-fn are_known(known: &Texts, lines: &[Line]) -> bool
+fn are_known(known: &KnownNames, lines: &[Line]) -> bool
     ensures { result ≡ good.are_known known.now (lines_of lines.now) }
 {
     let mut rest = lines;
@@ -138,7 +138,6 @@ fn are_apart(lines: &[Line]) -> bool
 }
 
 /// Whether one of these lines has this name.
-/// Whether one of these lines has this name.
 #[tactic(auto, unfolding(crate::specs::GoodLines::is_named))]
 fn is_named(lines: &[Line], name: &Text) -> bool
     ensures { result ≡ good.is_named (lines_of lines.now) name.now }
@@ -157,7 +156,7 @@ fn is_named(lines: &[Line], name: &Text) -> bool
 pub fn check_lines(
     alloc: Global,
     what: &Reference,
-    known: &Texts,
+    known: &KnownNames,
     lines: &[Line],
 ) -> Result<(), Stop>
     ensures { Answers result (spec.lines_checked what.now known.now (lines_of lines.now)) }
@@ -168,7 +167,12 @@ pub fn check_lines(
 
 /// F10 at the first line whose name the resource does not take.
 #[tactic(auto, unfolding(crate::specs::Checks::names_known))]
-fn check_names(alloc: Global, what: &Reference, known: &Texts, lines: &[Line]) -> Result<(), Stop>
+fn check_names(
+    alloc: Global,
+    what: &Reference,
+    known: &KnownNames,
+    lines: &[Line],
+) -> Result<(), Stop>
     ensures { Answers result (spec.names_known what.now known.now (lines_of lines.now)) }
 {
     let mut rest = lines;

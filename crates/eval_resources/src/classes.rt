@@ -11,7 +11,7 @@ use eval_classes::{class_found, class_reference, normal_name, param_names};
 use eval_world::Environment;
 use pp_tree::definition::Class;
 use pp_values::{Fault, Kind, Memory, Place, Stop, Subject, Value, What};
-use res_core::{Body, Form, Line};
+use res_core::{Body, Form, KnownNames, Line};
 use std::alloc::Global;
 
 /// The class of a title, where it passes the tests: F26, F8, F4, F10, F15.
@@ -78,7 +78,7 @@ fn class_titled<'a>(
 fn check_class_lines(alloc: Global, class: &Class, lines: &[Line]) -> Result<(), Stop>
     ensures { Answers result (spec.class_lines class.now (lines_of lines.now)) }
 {
-    let known = param_names(alloc, class.params.as_slice())?;
+    let known = KnownNames::listed(param_names(alloc, class.params.as_slice())?);
     if are_taken(&known, lines) {
         return Ok(());
     }

@@ -11,7 +11,7 @@ use eval_classes::{define_found, param_names};
 use eval_world::Environment;
 use pp_tree::Param;
 use pp_values::{Fault, Kind, Memory, Place, Stop, Text, What};
-use res_core::{NativeType, known_attributes, native};
+use res_core::{KnownNames, NativeType, native};
 use std::alloc::Global;
 
 /// A native type or a define of the site, by its name in lower case without a leading `::`. Else it is F5.
@@ -34,7 +34,7 @@ fn native_kind(alloc: Global, native: NativeType) -> Result<KnownKind, Memory>
     ensures { IfOk result (λ k. k ≡ spec.native_kind native) }
 {
     let kind = kind_of(alloc, native)?;
-    let known = known_attributes(alloc, native)?;
+    let known = KnownNames::of_native(native);
     Ok(KnownKind { kind, known })
 }
 
@@ -62,7 +62,7 @@ fn define_kind(alloc: Global, kind: &Text, at: &Place, params: &[Param]) -> Resu
 fn with_params(alloc: Global, kind: Kind, params: &[Param]) -> Result<KnownKind, Memory>
     ensures { IfOk result (λ k. k ≡ spec.with_params kind params.now) }
 {
-    let known = param_names(alloc, params)?;
+    let known = KnownNames::listed(param_names(alloc, params)?);
     Ok(KnownKind { kind, known })
 }
 

@@ -1,9 +1,10 @@
-use pp_values::{Kind, Texts};
+use pp_values::Kind;
+use res_core::KnownNames;
 
 /// A kind of resource that may be declared.
 #[derive(Drop)]
 pub struct KnownKind {
     pub kind: Kind,
     /// The attributes that it takes besides the metaparameters.
-    pub known: Texts,
+    pub known: KnownNames,
 }

@@ -1,7 +1,7 @@
 //! The declarations of a compile: numbers, marks, and what is still to be evaluated. Which are refused is told by manifests.
-use pp_values::{Kind, Memory, Place, Reference, Stop, Text, Texts};
+use pp_values::{Kind, Memory, Place, Reference, Stop, Text};
 use res_book::{Book, Collector, Containment, Mode, RelationLine, Relations};
-use res_core::{Attributes, Declared, Operands, Query, QueryBox, Resource, Tags};
+use res_core::{Attributes, Declared, KnownNames, Operands, Query, QueryBox, Resource, Tags};
 use std::alloc::Global;
 use std::test::Fail;
 
@@ -106,7 +106,7 @@ fn declare(
         scope: 0,
         container: None,
         class,
-        known: Texts::new(alloc),
+        known: KnownNames::none(alloc),
     };
     book.declare(alloc, item, mode)
 }

@@ -4,7 +4,7 @@ use pp_values::{
     Fault, Kind, Memory, Place, Reference, Stop, Text, Texts, Value, Values, What, text_of,
 };
 use res_book::{Book, Mode};
-use res_core::{Attribute, Attributes, Declared, Resource, Tags};
+use res_core::{Attribute, Attributes, Declared, KnownNames, Resource, Tags};
 use std::alloc::Global;
 use std::test::Fail;
 
@@ -71,10 +71,10 @@ fn resource(alloc: Global, mode: &str) -> Result<Resource, Memory> {
     })
 }
 
-fn known(alloc: Global) -> Result<Texts, Memory> {
+fn known(alloc: Global) -> Result<KnownNames, Memory> {
     let mut known = Texts::new(alloc);
     known.push(Text::from_str(alloc, "mode")?)?;
-    Ok(known)
+    Ok(KnownNames::listed(known))
 }
 
 fn line(

@@ -10,7 +10,7 @@ use pp_values::reference::Reference;
 use pp_values::text::Text;
 use pp_values::value::Value;
 use res_book::{Book, Mode};
-use res_core::{Attributes, Declared, Resource, Tags};
+use res_core::{Attributes, Declared, KnownNames, Resource, Tags};
 use std::alloc::Global;
 
 /// How many lines there are, where the attribute that they set has a value.
@@ -41,7 +41,7 @@ fn declared(alloc: Global) -> Result<Declared, Memory>
         scope: 0,
         container: None,
         class: Text::from_str(alloc, "class main")?,
-        known,
+        known: KnownNames::listed(known),
         item: Resource {
             kind: Kind::from_str(alloc, "file")?,
             title: Text::from_str(alloc, "/x")?,

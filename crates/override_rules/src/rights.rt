@@ -21,7 +21,7 @@ pub fn may(right: &Right, source: &Text, set: bool) -> bool
 pub fn is_known(item: &Declared, name: &Text) -> bool
     ensures { result ≡ is_known_meant item.now name.now }
 {
-    contains(item.known.as_slice(), name) || is_metaparameter(name)
+    item.known.has(name) || is_metaparameter(name)
 }
 
 fn contains(texts: &[Text], text: &Text) -> bool

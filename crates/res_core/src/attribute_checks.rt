@@ -2,14 +2,14 @@
 ghost use Rattle.std.specs.Prelude.{◌≡◌, IfOk};
 ghost use Rattle.pp_values.specs.Answers.{Answers};
 ghost use Rattle.pp_values.specs.Faults.{fault};
-ghost use Rattle.pp_values.specs.Rising.{has_text};
 ghost use Rattle.res_core.specs.AttributeChecks.{attribute_checked, native_checked, known_checked, is_known};
 ghost use Rattle.res_core.specs.NativeTypes.{attributes_of};
 
-use crate::metaparameters::{is_among, is_metaparameter};
+use crate::known_names::KnownNames;
+use crate::metaparameters::is_metaparameter;
 use crate::native_type::NativeType;
 use crate::natives::native;
-use pp_values::{Fault, Memory, Place, Reference, Stop, Text, Texts, What};
+use pp_values::{Fault, Memory, Place, Reference, Stop, Text, What};
 use std::alloc::Global;
 
 /// F5 where the kind is not native, and else F10 where the kind takes no attribute of this name.
@@ -42,7 +42,7 @@ fn check_native(
 pub fn check_known(
     alloc: Global,
     what: &Reference,
-    known: &Texts,
+    known: &KnownNames,
     name: &Text,
     at: &Place,
 ) -> Result<(), Stop>
@@ -56,24 +56,16 @@ pub fn check_known(
 }
 
 /// Whether a resource whose kind has these attributes of its own takes one of this name.
-pub fn is_known(known: &Texts, name: &Text) -> bool
+pub fn is_known(known: &KnownNames, name: &Text) -> bool
     ensures { result ≡ is_known known.now name.now }
 {
-    is_listed(known.as_slice(), name) || is_metaparameter(name)
+    known.has(name) || is_metaparameter(name)
 }
 
-fn is_listed(texts: &[Text], name: &Text) -> bool
-    ensures { result ≡ has_text texts.now name.now }
-{
-    texts.iter().any(|text| name == text)
-}
-
-#[tactic(auto, unfolding(crate::specs::NativeTypes::attributes_of))]
 fn is_native_attribute(native: NativeType, name: &Text) -> bool
     ensures { result ≡ is_known (attributes_of native) name.now }
 {
-    let row = native.row();
-    is_among(name, row.properties) || is_among(name, row.others) || is_metaparameter(name)
+    is_known(&KnownNames::of_native(native), name)
 }
 
 fn unknown_type(alloc: Global, what: &Reference, at: &Place) -> Result<Fault, Memory>

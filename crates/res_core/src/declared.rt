@@ -1,5 +1,6 @@
+use crate::known_names::KnownNames;
 use crate::resource::Resource;
-use pp_values::{Place, Text, Texts};
+use pp_values::{Place, Text};
 
 /// A resource as a manifest declares it, before any override and any default statement.
 pub struct Declared {
@@ -13,7 +14,7 @@ pub struct Declared {
     /// Its source: `class C`, `define D` or `node`, for the class, define or node definition in whose body it stands.
     pub class: Text,
     /// The attributes that its kind takes besides the metaparameters.
-    pub known: Texts,
+    pub known: KnownNames,
 }
 
 // By hand, so that letting one go is one step for whoever holds it.

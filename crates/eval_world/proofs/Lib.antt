@@ -1,3 +1,4 @@
 pub mod Placed
 pub mod Elsewhere
 pub mod AtLeaf
+mod Numbers

@@ -14,7 +14,7 @@ use crate::world::World;
 use expr_eval::splice;
 use pp_tree::expr::{Args, Expr, Form};
 use pp_tree::operators::PrefixOperator;
-use pp_values::{Memory, Stop, Values};
+use pp_values::{Memory, Stop, Value, Values};
 use std::alloc::Global;
 use std::mem;
 
@@ -37,7 +37,7 @@ impl<F: Fn(&mut World<'_>, Goal<'_>, Here, u32) -> Result<Evaluated, Stop>, M: M
         Ok(done)
     }
 
-    #[tactic(auto, unfolding(crate::specs::Arguments::argument_rule))]
+    #[tactic(auto, unfolding(crate::specs::Arguments::argument_rule), using(crate::proofs::Numbers::number_argument))]
     fn add_argument(
         &self,
         world: &mut World<'_>,
@@ -49,6 +49,10 @@ impl<F: Fn(&mut World<'_>, Goal<'_>, Here, u32) -> Result<Evaluated, Stop>, M: M
         ensures { Gives (λ _. done.new) (spec.argument_rule (M.within self.now.left) done.old arg.now here world.old)
             result world.new }
     {
+        if let Some(number) = self.number(arg) {
+            done.push(Value::Int(number))?;
+            return Ok(());
+        }
         let value = self.value(world, arg, here)?;
         if is_splat(arg) {
             add_members(world.heap.alloc(), done, value)?;

@@ -1,7 +1,7 @@
 ghost use Rattle.std.specs.Prelude.{◌≡◌, IfOk};
-ghost use Rattle.pp_values.specs.Views.{view};
+ghost use Rattle.pp_values.specs.Views.{view, views};
 
-use pp_values::{Memory, Value, copy};
+use pp_values::{Memory, Value, Values, copy};
 use std::alloc::Global;
 use std::marker::Model;
 
@@ -43,6 +43,7 @@ impl Evaluated {
     {
         match value {
             Value::Int(number) => Ok(Evaluated::new(Value::Int(*number))),
+            Value::List(items) => Ok(Evaluated::new(Value::List(copied(alloc, items.as_slice())?))),
             _ => Ok(Evaluated::new(copy(alloc, value)?)),
         }
     }
@@ -58,5 +59,25 @@ impl Evaluated {
     {
         let Evaluated { value } = self;
         value
+    }
+}
+
+/// A list of the same values, whose memory is taken once.
+fn copied(alloc: Global, values: &[Value]) -> Result<Values, Memory>
+    ensures { IfOk result (λ l. l ≡ views values.now) }
+{
+    let mut items = Vec::with_capacity(alloc, values.len())?;
+    for value in values {
+        items.push(copied_member(alloc, value)?)?;
+    }
+    Ok(Values::from_vec(items))
+}
+
+fn copied_member(alloc: Global, value: &Value) -> Result<Value, Memory>
+    ensures { IfOk result (λ v. view v ≡ view value.now) }
+{
+    match value {
+        Value::Int(number) => Ok(Value::Int(*number)),
+        _ => copy(alloc, value),
     }
 }

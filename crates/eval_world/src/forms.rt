@@ -50,6 +50,7 @@ impl<F: Fn(&mut World<'_>, Goal<'_>, Here, u32) -> Result<Evaluated, Stop>, M: M
     }
 
     /// The same by the function that this is given: the shorter way for what has parts.
+    #[inline(always)]
     pub fn part(&self, world: &mut World<'_>, expr: &Expr, here: Here) -> Result<Evaluated, Stop>
         requires { Nests (M.within self.now.left) self.now.left (F.pre self.now.inner) (F.post self.now.inner) }
         ensures { Gives same ((M.within self.now.left).value expr.now here world.old) result world.new }
@@ -58,6 +59,7 @@ impl<F: Fn(&mut World<'_>, Goal<'_>, Here, u32) -> Result<Evaluated, Stop>, M: M
     }
 
     /// The value of an expression that is a variable, where that has one and does not stand too deep: without a copy.
+    #[inline(always)]
     pub fn known<'w>(&self, world: &'w World<'_>, expr: &Expr, here: Here) -> Option<&'w Value>
         ensures { IfSome result (λ v. (M.within self.now.left).value expr.now here world.now
             ≡ Ok (view v.now, world.now)) }
@@ -81,6 +83,7 @@ impl<F: Fn(&mut World<'_>, Goal<'_>, Here, u32) -> Result<Evaluated, Stop>, M: M
     }
 
     /// The value of a block that stands one level further in, and belongs to what begins at this line.
+    #[inline(always)]
     pub fn block(
         &self,
         world: &mut World<'_>,

@@ -106,6 +106,8 @@ impl<'a> World<'a> {
     }
 
     /// A fault at a line of the file whose code is evaluated.
+    #[cold]
+    #[inline(never)]
     pub fn fault(&self, here: Here, line: u32, what: What) -> Result<Fault, Memory>
         ensures { IfOk result (λ f. f ≡ fault (spec.place_at self.now here line) what) }
     {
@@ -136,6 +138,7 @@ impl<'a> World<'a> {
     }
 
     /// Sets a variable. F3 is placed at this line, and a place is made only for it.
+    #[inline(always)]
     #[tactic(auto, using(crate::proofs::Elsewhere::set_here, crate::proofs::Elsewhere::refused_here))]
     pub fn assign(
         &mut self,
@@ -154,6 +157,8 @@ impl<'a> World<'a> {
         }
     }
 
+    #[cold]
+    #[inline(never)]
     fn reassigned(&self, here: Here, name: &Text, line: u32) -> Result<Stop, Memory>
         ensures { IfOk result (λ s. s ≡ stop.Fault (fault (spec.place_at self.now here line) (what.Reassigned name.now))) }
     {
@@ -162,6 +167,7 @@ impl<'a> World<'a> {
     }
 
     /// The scope of one call of a lambda that stands here.
+    #[inline(always)]
     #[tactic(auto, unfolding(crate::specs::Worlds::enter_lambda))]
     pub fn enter_lambda(&mut self, here: Here) -> Result<Here, Stop>
         ensures { Gives same (spec.enter_lambda here self.old) result self.new }
@@ -176,6 +182,7 @@ impl<'a> World<'a> {
     }
 
     /// Ends the scope of a call of a lambda.
+    #[inline(always)]
     pub fn leave(&mut self, here: Here)
         ensures { self.new ≡ spec.left here self.old }
     {

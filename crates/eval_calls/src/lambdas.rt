@@ -113,6 +113,7 @@ fn bind(world: &mut World<'_>, params: &[Param], arguments: &[Value], own: Here)
 }
 
 /// Sets the first two parameters.
+#[inline(always)]
 #[tactic(auto, unfolding(crate::specs::Lambdas::bind_from))]
 fn bind_both(
     world: &mut World<'_>,
@@ -134,6 +135,7 @@ fn bind_both(
 }
 
 /// Sets the first parameter. Those behind it have no argument.
+#[inline(always)]
 #[tactic(auto, unfolding(crate::specs::Lambdas::bind_from), using(crate::proofs::Binding::no_arguments))]
 fn bind_last(
     world: &mut World<'_>,
@@ -152,6 +154,7 @@ fn bind_last(
     }
 }
 
+#[inline(always)]
 #[tactic(auto, unfolding(crate::specs::Lambdas::bind_rule))]
 fn bind_one(
     world: &mut World<'_>,

@@ -9,14 +9,14 @@ use std::test::Fail;
 
 // A token in short: its line if it is not the first, what it is, and what it says.
 fn write_token(alloc: Global, out: &mut String, token: &Token<'_>) -> Result<(), Fail> {
-    let line = token.line;
-    let text = token.text.copy(alloc)?;
+    let line = token.line();
+    let text = token.text(alloc)?;
     if line != 1 {
         write!(out, "{line}:")?;
     }
-    match token.kind {
+    match token.kind() {
         Kind::Number => {
-            let number = token.number;
+            let number = token.number();
             write!(out, "{number} ")?;
         }
         Kind::Name => write!(out, "{text} ")?,

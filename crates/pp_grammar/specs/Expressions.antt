@@ -2,7 +2,7 @@
 use Rattle.std.specs.Prelude.{◌≡◌, ℕ, zero, suc, Bool, true, false, not, List, [], ◌∷◌, Option, Some, None}
 use Rattle.pp_lexer.specs.declared.kind.Kind.{Kind}
 use Rattle.pp_lexer.specs.declared.kind.Kind.TheVariants as k
-use Rattle.pp_lexer.specs.declared.token.Token.{Token}
+use Rattle.pp_lexer.specs.Seen.{Token}
 use Rattle.pp_tree.specs.declared.operators.BinaryOperator.{BinaryOperator}
 use Rattle.pp_tree.specs.declared.operators.PrefixOperator.{PrefixOperator}
 use Rattle.pp_tree.specs.declared.operators.PrefixOperator.TheVariants as prefix

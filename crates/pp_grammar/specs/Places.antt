@@ -1,7 +1,7 @@
 -- What stands between two places of a file. A place is what is left to read from it on.
 use Rattle.std.specs.Prelude.{◌≡◌, ℕ, Bool, true, false, List, [], ◌∷◌, Option, Some, None}
 use Rattle.pp_lexer.specs.declared.kind.Kind.{Kind}
-use Rattle.pp_lexer.specs.declared.token.Token.{Token}
+use Rattle.pp_lexer.specs.Seen.{Token}
 use Rattle.pp_parser.specs.declared.goal.Goal.{Goal}
 use Rattle.pp_parser.specs.declared.goal.Part.{Part}
 use Rattle.pp_parser.specs.Input.{Input}

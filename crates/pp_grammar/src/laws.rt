@@ -2,7 +2,7 @@
 
 ghost use Rattle.std.specs.Prelude.{◌≡◌, ◌↔◌, ◌++◌, ℕ, List, Option, Ok, Err};
 ghost use Rattle.pp_values.specs.declared.fault.Fault.{Fault};
-ghost use Rattle.pp_lexer.specs.declared.token.Token.{Token};
+ghost use Rattle.pp_lexer.specs.Seen.{Token};
 ghost use Rattle.pp_tree.specs.declared.file.File.{File};
 ghost use Rattle.pp_parser.specs.declared.found.Found.{Found};
 ghost use Rattle.pp_parser.specs.Manifest.{file_of};

@@ -5,13 +5,14 @@ use Rattle.std.specs.Char.{encode_utf8}
 use Rattle.pp_lexer.specs.Bytes.{blank_len}
 use Rattle.pp_lexer.specs.Escapes.{braced, four_digits, double, said}
 use Rattle.pp_lexer.specs.Marks.{punctuation}
-use Rattle.pp_lexer.specs.Numbers.{number_value, number}
+use Rattle.pp_lexer.specs.Digits.{number_value}
+use Rattle.pp_lexer.specs.Numbers.{number}
 use Rattle.pp_lexer.specs.Texts.{quoted, in_text}
 use Rattle.pp_lexer.specs.Tokens.{token, number_token as number_of, token_front, in_code, tokens, syntax_fault, lexed}
 use Rattle.pp_lexer.specs.Words.{name_kind, name, type_name, variable}
 use Rattle.pp_lexer.specs.declared.kind.Kind.{Kind}
 use Rattle.pp_lexer.specs.declared.kind.Kind.TheVariants as k
-use Rattle.pp_lexer.specs.declared.token.Token.{Token}
+use Rattle.pp_lexer.specs.Seen.{Token}
 
 -- a token that says nothing
 abbrev mark : Kind → ℕ → Token

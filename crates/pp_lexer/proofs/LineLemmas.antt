@@ -7,7 +7,8 @@ use Rattle.std.proofs.lemmas.Bool.Decides.{nat_tests}
 use Rattle.pp_lexer.specs.Bytes.{blank_len, is_word, line_after, line_at, line_end, opens_comment}
 use Rattle.pp_lexer.specs.Fronts.{front, bad, mark, is_on_line, HasLines}
 use Rattle.pp_lexer.specs.Marks.{first_mark, punctuation}
-use Rattle.pp_lexer.specs.Numbers.{number, number_value, is_fraction}
+use Rattle.pp_lexer.specs.Digits.{number_value, is_fraction}
+use Rattle.pp_lexer.specs.Numbers.{number}
 use Rattle.pp_lexer.specs.Texts.{quoted, quoted_end, in_text, opens_interpolation, opens_variable, variable_in_text, run_len}
 use Rattle.pp_lexer.specs.Tokens.{token_front, in_code, found_in_place, front_at}
 use Rattle.pp_lexer.specs.Words.{begins_word, continues_word, word_end, word_len, name, type_name, variable, variable_kind}

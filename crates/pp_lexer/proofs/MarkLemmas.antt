@@ -26,7 +26,7 @@ mark_is_piece z m k begins within ends =
       moves = some;
       within = within;
       last = λ _. subst (λ (b : ℕ). b < 128) (ap (λ x. get_or x (length m - 1) 0) same ∙ there) last;
-      ends = record { quotes = λ is. absurd (cc); dollar = λ k is. absurd (cc) };
+      ends = record { quotes = λ is. absurd (cc); dollar = λ k is. absurd (cc); number = λ n is. absurd (cc) };
     }
 
 pub pair_is : (z : List ℕ) (k : Kind) (len : ℕ) → 1 < length z → ((y : List ℕ) → punctuation (get_or z 0 0 ∷ get_or z 1 0 ∷ y) ≡ mark k len) → mark k len ≡ punctuation z

@@ -4,7 +4,7 @@ use Rattle.std.proofs.lemmas.Bool.Decides.{nat_tests}
 use Rattle.std.proofs.Math.Nat.{le-mul_of_pos_right}
 use Rattle.std.specs.Char.{digit_value}
 use Rattle.std.specs.List.{list_all}
-use Rattle.pp_lexer.specs.Numbers.{greatest, value_from}
+use Rattle.pp_lexer.specs.Digits.{greatest, value_from}
 
 -- the number that digits say behind a number, without a bound
 abbrev pub whole_from : ℕ → ℕ → List ℕ → ℕ

@@ -22,12 +22,12 @@ pub run_is_part : (z : List ℕ) (len : ℕ) → 0 < len → len ≤ length z �
 run_is_part z len moves within next = record {
   moves = moves;
   boundary = (within, λ more high. (IsCharBoundary-before_ascii z len more (next more)).1 more high);
-  ends = record { quotes = λ is. absurd (cc); dollar = λ k is. absurd (cc) };
+  ends = record { quotes = λ is. absurd (cc); dollar = λ k is. absurd (cc); number = λ n is. absurd (cc) };
 }
 
 -- What stands round a place changes marks alone, which have no ends to leave out.
 ends_in_place : (mode : Mode) (nest : List Open) (behind z : List ℕ) (f : Found) (len : ℕ) → HasEnds z f len → HasEnds z (found_in_place mode nest behind f) len
-ends_in_place mode nest behind z (found.Mark k) len ends = record { quotes = λ is. absurd (cc); dollar = λ k is. absurd (cc) }
+ends_in_place mode nest behind z (found.Mark k) len ends = record { quotes = λ is. absurd (cc); dollar = λ k is. absurd (cc); number = λ n is. absurd (cc) }
 ends_in_place mode nest behind z found.Blank len ends = ends
 ends_in_place mode nest behind z found.CutOff len ends = ends
 ends_in_place mode nest behind z (found.Word k) len ends = ends

@@ -1,15 +1,18 @@
 -- The tokens of a text, piece by piece.
-use Rattle.std.proofs.Common.{◌≡◌, ℕ, zero, suc, ◌-◌, ◌<◌, ◌≤◌, false, ◌==◌, List, [], ◌∷◌, ◌++◌, length, take, drop, refl, sym, ap, ◌∙◌, subst, append_assoc, length-take-le, get_or, get_or-take, arith}
-use Rattle.std.proofs.lemmas.Bool.Decides.{nat_tests}
-use Rattle.pp_lexer.specs.Bytes.{blank_len, line_after, line_at}
+use Rattle.std.proofs.Math.Seq.{take-length}
+use Rattle.std.proofs.lemmas.List.{take_all}
+use Rattle.std.proofs.Common.{◌≡◌, ℕ, ℤ, zero, suc, ◌-◌, ◌<◌, ◌≤◌, List, [], ◌∷◌, ◌++◌, length, take, drop, refl, sym, ap, ◌∙◌, subst, append_assoc, length-take-le, get_or-take, arith}
+use Rattle.pp_lexer.specs.Bytes.{line_after, line_at}
+use Rattle.pp_lexer.specs.Digits.{number_said}
 use Rattle.pp_lexer.specs.Fronts.{HasEnds, IsPart}
 use Rattle.pp_lexer.specs.Modes.{mode_after, open_after}
-use Rattle.pp_lexer.specs.Tokens.{in_code, token_front, front_at, emitted, tokens_from, token, piece}
+use Rattle.pp_lexer.specs.Tokens.{front_at, emitted, tokens_from, token, number_token, piece}
+use Rattle.pp_lexer.specs.declared.front.Found.TheVariants as found
 use Rattle.pp_lexer.specs.declared.kind.Kind.TheVariants as kinds
 use Rattle.pp_lexer.specs.declared.front.Front.{Front}
 use Rattle.pp_lexer.specs.declared.mode.Mode.{Mode}
 use Rattle.pp_lexer.specs.declared.mode.Open.{Open}
-use Rattle.pp_lexer.specs.declared.token.Token.{Token}
+use Rattle.pp_lexer.specs.Seen.{Token}
 
 -- past the bytes that are left of what stands before
 tokens_pass : (n line : ℕ) (mode : Mode) (nest : List Open) (z : List ℕ) → tokens_from line mode nest n z ≡ tokens_from (line_at line (take n z)) mode nest 0 (drop n z)
@@ -43,10 +46,15 @@ ends_cut z spelling f part here =
     rw (len, here) (record {
       quotes = λ is. let q = part.ends.quotes is in record { two = q.two; opening = get_or-take f.len z 0 0 (omega (arith, q.two)) ∙ q.opening; closing = get_or-take f.len z (f.len - 1) 0 (omega (arith, q.two)) ∙ q.closing };
       dollar = λ k is. get_or-take f.len z 0 0 part.moves ∙ part.ends.dollar k is;
+      number = λ n is. ap number_said (take_all f.len (take f.len z) (omega (arith, length-take-le f.len z within))) ∙ part.ends.number n is;
     })
 
 pub some_cut : (z spelling : List ℕ) (f : Front) → IsPart z f → spelling ≡ take f.len z → 0 < length spelling
 some_cut z spelling f part here = omega (arith, ap length here ∙ length-take-le f.len z part.boundary.0, part.moves)
+
+-- a number that was found is the one that its spelling says
+pub number_put : (n : ℤ) (line : ℕ) (z : List ℕ) → HasEnds z (found.Number n) (length z) → number_token (number_said z) line ≡ number_token n line
+number_put n line z ends = ap (λ m. number_token m line) (ap number_said (sym (take-length z)) ∙ ends.number n refl)
 
 -- a run of a text is a token where it says something
 pub piece_none : (text : List ℕ) (line : ℕ) → length text ≡ 0 → piece text line ≡ []
@@ -56,16 +64,3 @@ piece_none (b ∷ z) line none = absurd (omega arith)
 pub piece_some : (text : List ℕ) (line : ℕ) → 0 < length text → piece text line ≡ token kinds.Piece text line ∷ []
 piece_some [] line some = absurd (omega arith)
 piece_some (b ∷ z) line some = refl
-
--- white space and comments begin with a byte up to `#`, or with `/`
-above : (b n : ℕ) → n < b → (b == n) ≡ false
-above b n h = grind (arith, nat_tests, h)
-
-other : (b n : ℕ) → (b ≡ n → ⊥) → (b == n) ≡ false
-other b n h = grind (arith, nat_tests, h)
-
-pub no_blank : (z : List ℕ) → 35 < get_or z 0 0 → (get_or z 0 0 ≡ 47 → ⊥) → in_code z ≡ token_front z
-unfolding in_code blank_len
-no_blank z high isnt =
-    let b = get_or z 0 0 in
-    rw (above b 32 (omega (arith, high)), above b 9 (omega (arith, high)), above b 13 (omega (arith, high)), above b 10 (omega (arith, high)), above b 35 high, other b 47 isnt) refl

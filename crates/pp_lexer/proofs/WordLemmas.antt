@@ -1,8 +1,9 @@
 -- How the definition of a word goes on by one byte.
-use Rattle.std.proofs.Common.{◌≡◌, ℕ, ◌+◌, ◌<◌, Bool, true, false, not, ◌&&◌, ◌==◌, List, [], ◌∷◌, length, drop, map, get_or, refl, ap, ◌∙◌, subst, add-one, arith, nat_le}
+use Rattle.std.proofs.Common.{◌≡◌, ℕ, ◌+◌, ◌<◌, Bool, true, false, not, ◌&&◌, ◌||◌, ◌==◌, List, [], ◌∷◌, length, drop, map, get_or, refl, ap, ◌∙◌, subst, add-one, arith, nat_le}
 use Rattle.std.proofs.Math.Seq.{drop-cons}
 use Rattle.std.proofs.lemmas.Bool.Decides.{nat_tests}
 use Rattle.std.proofs.lemmas.Slice.Eq.{bytes_eq-Decides}
+use Rattle.std.specs.Char.{is_ascii_digit, is_ascii_lowercase, is_ascii_uppercase}
 use Rattle.std.specs.Str.{bytes_eq}
 use Rattle.pp_lexer.specs.Bytes.{is_word}
 use Rattle.pp_lexer.specs.Words.{continues_word, word_end, named, name_kind}
@@ -42,6 +43,14 @@ step_plain sort false at b z word = rw (plain_continues sort b z word, no_colon 
 
 pub plain_goes : (sort : WordSort) (second : Bool) (at : ℕ) (z : List ℕ) → at < length z → is_word (get_or z at 0) ≡ true → word_end sort second at (drop at z) ≡ word_end sort false (at + 1) (drop (at + 1) z)
 plain_goes sort second at z h word = ap (λ x. word_end sort second at x) (drop_at z at h) ∙ step_plain sort second at (get_or z at 0) (drop (at + 1) z) word
+
+or_true : (p r s : Bool) → r ≡ true → ((p || r) || s) ≡ true
+or_true true r s is = refl
+or_true false r s is = rw is refl
+
+-- a small letter is a byte of a word
+pub lower_goes : (sort : WordSort) (second : Bool) (at : ℕ) (z : List ℕ) → at < length z → is_ascii_lowercase (get_or z at 0) ≡ true → word_end sort second at (drop at z) ≡ word_end sort false (at + 1) (drop (at + 1) z)
+lower_goes sort second at z h lower = plain_goes sort second at z h (or_true (is_ascii_digit (get_or z at 0) || is_ascii_uppercase (get_or z at 0)) (is_ascii_lowercase (get_or z at 0)) (get_or z at 0 == 95) lower)
 
 pub second_goes : (sort : WordSort) (second : Bool) (at : ℕ) (z : List ℕ) → at < length z → second ≡ true → word_end sort second at (drop at z) ≡ word_end sort false (at + 1) (drop (at + 1) z)
 second_goes sort true at z h is = ap (λ x. word_end sort true at x) (drop_at z at h)

@@ -4,7 +4,7 @@ use Rattle.std.specs.Char.{encode_utf8, is_ascii_hexdigit}
 use Rattle.std.specs.List.{prefix_len}
 use lib.Utf8.{scalar}
 use denote.Ref.{Bor}
-use Rattle.pp_lexer.specs.Numbers.{digits_value}
+use Rattle.pp_lexer.specs.Digits.{digits_value}
 use Rattle.pp_lexer.specs.declared.escapes.Escape.{Escape}
 use Rattle.pp_lexer.specs.declared.escapes.Quotes.{Quotes}
 use Rattle.pp_lexer.specs.declared.escapes.Quotes.TheVariants as quotes
@@ -87,11 +87,6 @@ unfoldable pub said : Quotes → ℕ → List ℕ → List ℕ
 said q left [] = []
 said q (suc left) (b ∷ z) = said q left z
 said q zero (b ∷ z) = says_at q b z ++ said q (taken_at q b z) z
-
--- what stands between quotes, or without quotes what is written
-abbrev pub says : Option Quotes → List ℕ → List ℕ
-says None z = z
-says (Some q) z = said q 0 z
 
 -- ---- what the reader of a text relies on
 

@@ -1,7 +1,8 @@
 -- What stands at the front of a text. A text is the list of its bytes.
-use Rattle.std.specs.Prelude.{◌≡◌, ℕ, ◌-◌, ◌<◌, ◌≤◌, Bool, true, false, List, length, slice_index}
+use Rattle.std.specs.Prelude.{◌≡◌, ℕ, ℤ, ◌-◌, ◌<◌, ◌≤◌, Bool, true, false, List, length, take, slice_index}
 use Rattle.std.specs.Str.{IsCharBoundary}
 use Rattle.pp_lexer.specs.Bytes.{line_after, line_at}
+use Rattle.pp_lexer.specs.Digits.{number_said}
 use Rattle.pp_lexer.specs.declared.front.Found.{Found}
 use Rattle.pp_lexer.specs.declared.front.Found.TheVariants as found
 use Rattle.pp_lexer.specs.declared.front.Front.{Front}
@@ -27,10 +28,11 @@ pub record IsBetweenQuotes (text : List ℕ) (len : ℕ) : Type 0 where
   pub opening : slice_index text 0 ≡ 39
   pub closing : slice_index text (len - 1) ≡ 39
 
--- a token of which a text leaves out the ends has them
+-- a token of which a text leaves out the ends has them, and a number is what its digits say
 pub record HasEnds (text : List ℕ) (f : Found) (len : ℕ) : Type 0 where
   pub quotes : f ≡ found.Quoted → IsBetweenQuotes text len
   pub dollar : (k : Kind) → f ≡ found.Dollar k → slice_index text 0 ≡ 36
+  pub number : (n : ℤ) → f ≡ found.Number n → number_said (take len text) ≡ n
 
 -- it is not empty and no longer than the text, and where more follows its last byte is ASCII
 pub record IsPiece (text : List ℕ) (f : Front) : Type 0 where

@@ -1,9 +1,11 @@
 pub mod Bytes
+pub mod Digits
 pub mod Escapes
 pub mod Fronts
 pub mod Marks
 pub mod Modes
 pub mod Numbers
+pub mod Seen
 pub mod Texts
 pub mod Tokens
 pub mod Words

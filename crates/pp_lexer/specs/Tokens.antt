@@ -4,6 +4,7 @@ use Rattle.std.specs.Char.{is_ascii_digit}
 use Rattle.pp_values.specs.declared.fault.Fault.{Fault}
 use Rattle.pp_values.specs.declared.fault.What.TheVariants.{Syntax}
 use Rattle.pp_lexer.specs.Bytes.{blank_len, opens_comment, meets_brace, line_after}
+use Rattle.pp_lexer.specs.Digits.{number_said}
 use Rattle.pp_lexer.specs.Escapes.{said}
 use Rattle.pp_lexer.specs.Fronts.{front}
 use Rattle.pp_lexer.specs.Marks.{punctuation}
@@ -20,7 +21,9 @@ use Rattle.pp_lexer.specs.declared.kind.Kind.TheVariants as kinds
 use Rattle.pp_lexer.specs.declared.mode.Mode.{Mode}
 use Rattle.pp_lexer.specs.declared.mode.Mode.TheVariants as modes
 use Rattle.pp_lexer.specs.declared.mode.Open.{Open}
-use Rattle.pp_lexer.specs.declared.token.Token.{Token}
+use Rattle.pp_lexer.specs.Seen.{Token}
+use Rattle.pp_lexer.specs.declared.token.Manner.{Manner}
+use Rattle.pp_lexer.specs.declared.token.Manner.TheVariants as manners
 use Rattle.pp_lexer.specs.declared.words.WordSort.TheVariants as sorts
 
 -- ---- what stands at a place
@@ -66,6 +69,20 @@ token kind text line = record { kind = kind; text = text; line = line; number = 
 
 abbrev pub number_token : ℤ → ℕ → Token
 number_token n line = record { kind = kinds.Number; text = []; line = line; number = n }
+
+-- what a token says and its number, from its spelling
+abbrev pub text_of : Manner → List ℕ → List ℕ
+text_of manners.Nothing z = []
+text_of manners.Written z = z
+text_of (manners.Quoted q) z = said q 0 z
+text_of manners.Number z = []
+
+abbrev pub number_of : Manner → List ℕ → ℤ
+number_of manners.Number z = number_said z
+number_of _ z = pos 0
+
+abbrev pub seen : Manner → Kind → List ℕ → ℕ → Token
+seen m kind z line = record { kind = kind; text = text_of m z; line = line; number = number_of m z }
 
 -- a run that says something
 abbrev pub piece : List ℕ → ℕ → List Token

@@ -28,7 +28,7 @@ fn early_end(tokens: &[Token<'_>]) -> Option<u32>
     ensures { result ≡ spec.early_end tokens.now }
 {
     match tokens.last() {
-        Some(last) if ends_early(last.kind) => Some(last.line),
+        Some(last) if ends_early(last.kind()) => Some(last.line()),
         _ => None,
     }
 }

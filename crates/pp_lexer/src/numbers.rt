@@ -6,7 +6,8 @@ ghost use Rattle.std.specs.Char as chars;
 ghost use Rattle.std.specs.List.{prefix_len};
 ghost use Rattle.pp_lexer.specs.Bytes as words;
 ghost use Rattle.pp_lexer.specs.Fronts.{IsPiece};
-ghost use Rattle.pp_lexer.specs.Numbers as spec;
+ghost use Rattle.pp_lexer.specs.Digits as spec;
+ghost use Rattle.pp_lexer.specs.Numbers as numbers;
 
 use crate::bytes::{byte, is_word};
 use crate::front::{Found, Front, bad};
@@ -58,7 +59,7 @@ pub fn digits_value(base: u64, digits: &[u8]) -> Option<u64>
 }
 
 /// The number that is spelled so.
-#[tactic(auto, unfolding(crate::specs::Numbers::number_value))]
+#[tactic(auto, unfolding(crate::specs::Digits::number_value))]
 fn number_value(spelling: &[u8]) -> Option<u64>
     ensures value { result ≡ spec.number_value spelling.now }
     ensures fits { IfSome result (λ n. n < 2 ^ 63) }
@@ -67,6 +68,16 @@ fn number_value(spelling: &[u8]) -> Option<u64>
         [b'0', b'x', digits @ ..] => digits_value(16, digits),
         [b'0', _, ..] => digits_value(8, &spelling[1..]),
         _ => digits_value(10, spelling),
+    }
+}
+
+/// The number that is spelled so, or 0 where none is.
+pub fn number_said(spelling: &[u8]) -> i64
+    ensures { result ≡ spec.number_said spelling.now }
+{
+    match number_value(spelling) {
+        None => 0,
+        Some(value) => value as i64,
     }
 }
 
@@ -104,10 +115,10 @@ fn found_value(bytes: &[u8], len: usize) -> Option<u64>
 }
 
 /// A number.
-#[tactic(auto, unfolding(crate::specs::Numbers::number))]
+#[tactic(auto, unfolding(crate::specs::Numbers::number), using(crate::proofs::NumberLemmas::number_piece))]
 pub fn number(bytes: &[u8]) -> Front
     requires { is_ascii_digit (slice_index bytes.now 0) ≡ true }
-    ensures value { result ≡ spec.number bytes.now }
+    ensures value { result ≡ numbers.number bytes.now }
     ensures piece { IsPiece bytes.now result }
 {
     let len = spelling_len(bytes);

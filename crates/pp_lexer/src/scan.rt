@@ -15,7 +15,6 @@ use crate::lines::line_behind;
 use crate::marks::punctuation;
 use crate::mode::{Mode, Nest, mode_after};
 use crate::numbers::number;
-use crate::spelled::Spelled;
 use crate::texts::{in_text, quoted};
 use crate::token::Token;
 use crate::tokens::Tokens;
@@ -47,16 +46,12 @@ fn token_front(bytes: &[u8]) -> Front
 }
 
 /// What stands at a place outside of texts.
-#[tactic(auto, unfolding(crate::specs::Tokens::in_code), using(crate::proofs::ScanLemmas::no_blank))]
+#[tactic(auto, unfolding(crate::specs::Tokens::in_code))]
 fn in_code(bytes: &[u8]) -> Front
     requires { 0 < length bytes.now }
     ensures value { result ≡ spec.in_code bytes.now }
     ensures piece { IsPiece bytes.now result }
 {
-    let first = bytes[0];
-    if b'#' < first && first != b'/' {
-        return token_front(bytes);
-    }
     let blank = blank_len(bytes);
     if blank != 0 {
         Front::new(Found::Blank, blank)
@@ -112,44 +107,22 @@ fn front_at(mode: Mode, nest: &Nest, text: &str) -> Front
     }
 }
 
-/// What a text in single quotes says.
-fn quoted_text(spelling: &str) -> Spelled<'_>
+/// A text in single quotes, from its spelling.
+fn quoted_token(spelling: &str, line: u32) -> Token<'_>
     requires { IsBetweenQuotes spelling.now (length spelling.now) }
-    ensures { result ≡ spec.quoted_text spelling.now }
+    ensures { result ≡ spec.token Kind.Text (spec.quoted_text spelling.now) line }
 {
     let end = spelling.len() - 1;
-    Spelled::quoted(Quotes::Single, &spelling[1..end])
+    Token::text_in(Kind::Text, Quotes::Single, &spelling[1..end], line)
 }
 
-/// What a variable says.
-fn dollar_text(spelling: &str) -> Spelled<'_>
+/// A variable, from its spelling.
+fn dollar_token(kind: Kind, spelling: &str, line: u32) -> Token<'_>
     requires some { 0 < length spelling.now }
     requires dollar { slice_index spelling.now 0 ≡ 36 }
-    ensures { result ≡ drop 1 spelling.now }
+    ensures { result ≡ spec.token kind (drop 1 spelling.now) line }
 {
-    Spelled::plain(&spelling[1..])
-}
-
-fn put<'a>(found: &mut Tokens<'a>, kind: Kind, text: Spelled<'a>, line: u32) -> Result<(), Memory>
-    ensures { OnOk result (found.new ≡ found.old ++ spec.token kind text.entry line ∷ []) }
-{
-    found.push(Token {
-        kind,
-        text,
-        line,
-        number: 0,
-    })
-}
-
-fn put_number(found: &mut Tokens<'_>, number: i64, line: u32) -> Result<(), Memory>
-    ensures { OnOk result (found.new ≡ found.old ++ spec.number_token number line ∷ []) }
-{
-    found.push(Token {
-        kind: Kind::Number,
-        text: Spelled::nothing(),
-        line,
-        number,
-    })
+    Token::word(kind, &spelling[1..], line)
 }
 
 /// Appends a run of a text in double quotes, if it says something.
@@ -166,15 +139,11 @@ fn put_run<'a>(
     if says_nothing(alloc, Quotes::Double, spelling)? {
         return Ok(());
     }
-    put(
-        found,
-        Kind::Piece,
-        Spelled::quoted(Quotes::Double, spelling),
-        line,
-    )
+    found.push(Token::text_in(Kind::Piece, Quotes::Double, spelling, line))
 }
 
 /// Appends the tokens of what stands at a place, from its spelling.
+#[tactic(auto, using(crate::proofs::ScanLemmas::number_put))]
 fn emit<'a>(
     alloc: Global,
     tokens: &mut Tokens<'a>,
@@ -188,11 +157,11 @@ fn emit<'a>(
 {
     match found {
         Found::Blank | Found::CutOff => Ok(()),
-        Found::Mark(kind) => put(tokens, kind, Spelled::nothing(), line),
-        Found::Word(kind) => put(tokens, kind, Spelled::plain(spelling), line),
-        Found::Dollar(kind) => put(tokens, kind, dollar_text(spelling), line),
-        Found::Number(number) => put_number(tokens, number, line),
-        Found::Quoted => put(tokens, Kind::Text, quoted_text(spelling), line),
+        Found::Mark(kind) => tokens.push(Token::mark(kind, line)),
+        Found::Word(kind) => tokens.push(Token::word(kind, spelling, line)),
+        Found::Dollar(kind) => tokens.push(dollar_token(kind, spelling, line)),
+        Found::Number(_) => tokens.push(Token::digits(spelling, line)),
+        Found::Quoted => tokens.push(quoted_token(spelling, line)),
         Found::Run => put_run(alloc, tokens, spelling, line),
     }
 }
@@ -202,7 +171,7 @@ fn finish(tokens: &mut Tokens<'_>, mode: Mode, line: u32) -> Result<(), Memory>
     ensures { OnOk result (tokens.new ≡ tokens.old ++ spec.at_end mode line) }
 {
     match mode {
-        Mode::Inside => put(tokens, Kind::Unclosed, Spelled::nothing(), line),
+        Mode::Inside => tokens.push(Token::mark(Kind::Unclosed, line)),
         _ => Ok(()),
     }
 }

@@ -15,9 +15,13 @@ pub struct Tokens<'a> {
 
 impl<'a> Model for Tokens<'a> {
     ghost use Rattle.std.specs.Prelude.{List};
-    ghost use Rattle.pp_lexer.specs.declared.token.Token.{Token};
+    ghost use Rattle.std.specs.Coded.{coded_list};
+    ghost use Rattle.pp_lexer.specs.Seen.{Token, token_code};
+    ghost use Rattle.pp_lexer.specs.contracts.kind.Kind as kinds;
 
     ghost Value = { List Token };
+
+    ghost coded = { coded_list (token_code kinds.the_row.coded) };
 
     ghost view = { λ l. l.items.items };
 }

@@ -87,7 +87,7 @@ fn continues_word(sort: WordSort, bytes: &[u8], at: usize) -> bool
 
 /// Whether a word goes on with the byte at this place: whether the next byte is then the second of `::`, and none where
 /// the word ends. The flag says that this byte is one.
-#[tactic(auto, using(crate::proofs::WordLemmas::plain_goes, crate::proofs::WordLemmas::second_goes, crate::proofs::WordLemmas::other_goes, crate::proofs::WordLemmas::word_stops))]
+#[tactic(auto, using(crate::proofs::WordLemmas::lower_goes, crate::proofs::WordLemmas::plain_goes, crate::proofs::WordLemmas::second_goes, crate::proofs::WordLemmas::other_goes, crate::proofs::WordLemmas::word_stops))]
 fn goes_on(sort: WordSort, bytes: &[u8], at: usize, is_second: bool) -> Option<bool>
     requires { at < length bytes.now }
     ensures goes { IfSome result (λ next. spec.word_end sort is_second at (drop at bytes.now) ≡ spec.word_end sort next (at + 1) (drop (at + 1) bytes.now)) }
@@ -96,6 +96,9 @@ fn goes_on(sort: WordSort, bytes: &[u8], at: usize, is_second: bool) -> Option<b
     ensures second { IfSome result (λ next. next ≡ true → slice_index bytes.now (at + 1) ≡ 58) }
 {
     // Most bytes of a word are such, and tell this alone.
+    if bytes[at].is_ascii_lowercase() {
+        return Some(false);
+    }
     if is_word(bytes[at]) || is_second {
         return Some(false);
     }

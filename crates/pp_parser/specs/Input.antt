@@ -5,7 +5,7 @@ use denote.Ref as Ref
 use Rattle.pp_lexer.specs.declared.kind.Kind.{Kind}
 use Rattle.std.specs.Coded.{Coded, code_by, coded×, coded_ℕ, coded_ℤ, coded_list, coded_option}
 use Rattle.pp_lexer.specs.contracts.kind.Kind as kinds
-use Rattle.pp_lexer.specs.declared.token.Token.{Token}
+use Rattle.pp_lexer.specs.Seen.{Token}
 use Rattle.pp_parser.specs.declared.refusal.Refusal.{Refusal}
 use Rattle.pp_parser.specs.declared.refusal.Refusal.TheVariants as refusals
 use Rattle.pp_parser.specs.Kinds.{is_kind}

@@ -3,7 +3,7 @@
 use Rattle.std.specs.Prelude.{ℕ, zero, suc, Bool, true, false, if◌then◌else◌, List, [], ◌∷◌, ◌++◌, Option, Some, None}
 use Rattle.pp_lexer.specs.declared.kind.Kind.{Kind}
 use Rattle.pp_lexer.specs.declared.kind.Kind.TheVariants as k
-use Rattle.pp_lexer.specs.declared.token.Token.{Token}
+use Rattle.pp_lexer.specs.Seen.{Token}
 use Rattle.pp_tree.specs.declared.expr.Expr.{Expr}
 use Rattle.pp_tree.specs.declared.expr.Form.TheVariants as form
 use Rattle.pp_tree.specs.declared.expr.Postfix.TheVariants as postfix

@@ -9,6 +9,7 @@ ghost use Rattle.pp_parser.specs.Statements as spec;
 
 use crate::cursor::Cursor;
 use crate::goal::{Goal, Part};
+use crate::lists::put;
 use crate::refusal::Refusal;
 use crate::rules::Rules;
 use pp_lexer::kind::Kind;
@@ -45,10 +46,10 @@ impl<F: Fn(Global, &mut Cursor<'_>, usize, Goal) -> Result<Part, Refusal>> Rules
         let append = self.assigns(tokens, may_append)?;
         let value = self.whole_in(tokens, false)?;
         Ok(Attribute::Set(Setting {
-            name: word.text.copy(self.alloc)?,
+            name: word.text(self.alloc)?,
             append,
             value,
-            at: word.line,
+            at: word.line(),
         }))
     }
 
@@ -63,7 +64,7 @@ impl<F: Fn(Global, &mut Cursor<'_>, usize, Goal) -> Result<Part, Refusal>> Rules
         let value = self.whole_in(tokens, false)?;
         Ok(Attribute::Splat(Splat {
             value,
-            at: star.line,
+            at: star.line(),
         }))
     }
 
@@ -109,7 +110,8 @@ impl<F: Fn(Global, &mut Cursor<'_>, usize, Goal) -> Result<Part, Refusal>> Rules
             if tokens.sees(Kind::CloseBrace) {
                 return Ok(found);
             }
-            found.push(self.attribute(tokens, may_append)?)?;
+            let attribute = self.attribute(tokens, may_append)?;
+            put(self.alloc, &mut found, attribute, tokens.sees(Kind::Comma))?;
             if !tokens.eat(Kind::Comma)? {
                 return Ok(found);
             }

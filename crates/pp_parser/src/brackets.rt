@@ -14,6 +14,7 @@ use crate::cursor::Cursor;
 use crate::goal::{Goal, Part};
 use crate::keys::doubled_key;
 use crate::kinds::is_bar;
+use crate::lists::put;
 use crate::refusal::Refusal;
 use crate::rules::Rules;
 use pp_lexer::kind::Kind;
@@ -51,7 +52,8 @@ impl<F: Fn(Global, &mut Cursor<'_>, usize, Goal) -> Result<Part, Refusal>> Rules
             if tokens.sees(close) {
                 return Ok(found);
             }
-            found.push(self.whole_in(tokens, false)?)?;
+            let x = self.whole_in(tokens, false)?;
+            put(self.alloc, &mut found, x, tokens.sees(Kind::Comma))?;
             if !tokens.eat(Kind::Comma)? {
                 return Ok(found);
             }
@@ -66,7 +68,8 @@ impl<F: Fn(Global, &mut Cursor<'_>, usize, Goal) -> Result<Part, Refusal>> Rules
         ensures { Reads (separated_some (is_at close) k.Comma (whole_in (within self.now.levels) false) tokens.old) result tokens.new }
     {
         let mut found = Items::new(self.alloc);
-        found.push(self.whole_in(tokens, false)?)?;
+        let x = self.whole_in(tokens, false)?;
+        put(self.alloc, &mut found, x, tokens.sees(Kind::Comma))?;
         if !tokens.eat(Kind::Comma)? {
             return Ok(found);
         }
@@ -147,7 +150,8 @@ impl<F: Fn(Global, &mut Cursor<'_>, usize, Goal) -> Result<Part, Refusal>> Rules
             if tokens.sees(Kind::CloseBrace) {
                 return Ok(found);
             }
-            found.push(self.pair(tokens)?)?;
+            let pair = self.pair(tokens)?;
+            put(self.alloc, &mut found, pair, tokens.sees(Kind::Comma))?;
             if !tokens.eat(Kind::Comma)? {
                 return Ok(found);
             }
@@ -162,7 +166,8 @@ impl<F: Fn(Global, &mut Cursor<'_>, usize, Goal) -> Result<Part, Refusal>> Rules
         ensures { Reads (separated_some (is_at k.CloseBrace) k.Comma (spec.pair_rule (within self.now.levels)) tokens.old) result tokens.new }
     {
         let mut found = Items::new(self.alloc);
-        found.push(self.pair(tokens)?)?;
+        let pair = self.pair(tokens)?;
+        put(self.alloc, &mut found, pair, tokens.sees(Kind::Comma))?;
         if !tokens.eat(Kind::Comma)? {
             return Ok(found);
         }
@@ -208,7 +213,8 @@ impl<F: Fn(Global, &mut Cursor<'_>, usize, Goal) -> Result<Part, Refusal>> Rules
             if is_bar(tokens.peek()) {
                 return Ok(found);
             }
-            found.push(self.param_in(tokens, true)?)?;
+            let param = self.param_in(tokens, true)?;
+            put(self.alloc, &mut found, param, tokens.sees(Kind::Comma))?;
             if !tokens.eat(Kind::Comma)? {
                 return Ok(found);
             }

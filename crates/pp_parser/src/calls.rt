@@ -48,7 +48,7 @@ impl<F: Fn(Global, &mut Cursor<'_>, usize, Goal) -> Result<Part, Refusal>> Rules
         requires { Nests self.now.levels (F.pre self.now.inner) (F.post self.now.inner) }
         ensures { Reads (spec.named (within self.now.levels) bars tokens.old) result tokens.new }
     {
-        let name = tokens.take()?.text.copy(self.alloc)?;
+        let name = tokens.take()?.text(self.alloc)?;
         self.call_or_name(tokens, bars, name)
     }
 }

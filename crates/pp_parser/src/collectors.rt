@@ -47,10 +47,10 @@ impl<F: Fn(Global, &mut Cursor<'_>, usize, Goal) -> Result<Part, Refusal>> Rules
         let equal = self.compares(tokens)?;
         let value = self.value(tokens, false)?;
         Ok(Test::Compare(Comparison {
-            word: word.text.copy(self.alloc)?,
+            word: word.text(self.alloc)?,
             equal,
             value,
-            at: word.line,
+            at: word.line(),
         }))
     }
 

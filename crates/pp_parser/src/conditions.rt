@@ -10,6 +10,7 @@ ghost use Rattle.pp_parser.specs.Nests.{Nests};
 
 use crate::cursor::Cursor;
 use crate::goal::{Goal, Part};
+use crate::lists::put;
 use crate::refusal::Refusal;
 use crate::rules::Rules;
 use pp_lexer::kind::Kind;
@@ -72,7 +73,7 @@ impl<F: Fn(Global, &mut Cursor<'_>, usize, Goal) -> Result<Part, Refusal>> Rules
         for _turn in 0..tokens.turns() {
             match self.elsif(tokens)? {
                 None => return Ok(found),
-                Some(elsif) => found.push(elsif)?,
+                Some(elsif) => put(self.alloc, &mut found, elsif, tokens.sees(Kind::Elsif))?,
             }
         }
         Err(tokens.refusal())
@@ -168,7 +169,8 @@ impl<F: Fn(Global, &mut Cursor<'_>, usize, Goal) -> Result<Part, Refusal>> Rules
             if tokens.sees(Kind::Colon) {
                 return Ok(found);
             }
-            found.push(self.whole(tokens, false, false)?)?;
+            let x = self.whole(tokens, false, false)?;
+            put(self.alloc, &mut found, x, tokens.sees(Kind::Comma))?;
             if !tokens.eat(Kind::Comma)? {
                 return Ok(found);
             }
@@ -183,7 +185,8 @@ impl<F: Fn(Global, &mut Cursor<'_>, usize, Goal) -> Result<Part, Refusal>> Rules
         ensures { Reads (separated_some (is_at k.Colon) k.Comma (spec.whole (within self.now.levels) false false) tokens.old) result tokens.new }
     {
         let mut found = Items::new(self.alloc);
-        found.push(self.whole(tokens, false, false)?)?;
+        let x = self.whole(tokens, false, false)?;
+        put(self.alloc, &mut found, x, tokens.sees(Kind::Comma))?;
         if !tokens.eat(Kind::Comma)? {
             return Ok(found);
         }

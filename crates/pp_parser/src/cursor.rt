@@ -53,7 +53,7 @@ impl<'a> Cursor<'a> {
     {
         match self.left {
             [] => None,
-            [token, ..] => Some(token.kind),
+            [token, ..] => Some(token.kind()),
         }
     }
 
@@ -64,7 +64,7 @@ impl<'a> Cursor<'a> {
     {
         match self.left {
             [] => 0,
-            [token, ..] => token.line,
+            [token, ..] => token.line(),
         }
     }
 

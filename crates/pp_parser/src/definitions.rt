@@ -11,6 +11,7 @@ ghost use Rattle.std.specs.Prelude.{◌≡◌, false};
 
 use crate::cursor::Cursor;
 use crate::goal::{Goal, Part};
+use crate::lists::put;
 use crate::operands::{name_of, taken_name};
 use crate::refusal::Refusal;
 use crate::rules::Rules;
@@ -48,7 +49,8 @@ impl<F: Fn(Global, &mut Cursor<'_>, usize, Goal) -> Result<Part, Refusal>> Rules
             if tokens.sees(Kind::CloseParen) {
                 return Ok(found);
             }
-            found.push(self.param_in(tokens, false)?)?;
+            let param = self.param_in(tokens, false)?;
+            put(self.alloc, &mut found, param, tokens.sees(Kind::Comma))?;
             if !tokens.eat(Kind::Comma)? {
                 return Ok(found);
             }
@@ -140,7 +142,7 @@ impl<F: Fn(Global, &mut Cursor<'_>, usize, Goal) -> Result<Part, Refusal>> Rules
             Some(Kind::Piece) => {
                 let piece = tokens.take()?;
                 tokens.expect(Kind::TextEnd)?;
-                Ok(piece.text.copy(self.alloc)?)
+                Ok(piece.text(self.alloc)?)
             }
             _ => {
                 tokens.expect(Kind::TextEnd)?;
@@ -154,7 +156,7 @@ impl<F: Fn(Global, &mut Cursor<'_>, usize, Goal) -> Result<Part, Refusal>> Rules
         ensures { Reads (spec.taken_text tokens.old) result tokens.new }
     {
         let token = tokens.take()?;
-        Ok(token.text.copy(self.alloc)?)
+        Ok(token.text(self.alloc)?)
     }
 
     /// What a node definition names.

@@ -77,11 +77,11 @@ impl<F: Fn(Global, &mut Cursor<'_>, usize, Goal) -> Result<Part, Refusal>> Rules
             }
             Some(Kind::Define) => {
                 let word = tokens.take()?;
-                Ok(Item::Definition(self.define(tokens, word.line)?))
+                Ok(Item::Definition(self.define(tokens, word.line())?))
             }
             Some(Kind::Node) => {
                 let word = tokens.take()?;
-                Ok(Item::Definition(self.node(tokens, word.line)?))
+                Ok(Item::Definition(self.node(tokens, word.line())?))
             }
             _ => self.statement_item(tokens, None),
         }
@@ -127,11 +127,11 @@ impl<F: Fn(Global, &mut Cursor<'_>, usize, Goal) -> Result<Part, Refusal>> Rules
         match tokens.peek() {
             Some(Kind::Class) => {
                 let word = tokens.take()?;
-                self.class(tokens, word.line)
+                self.class(tokens, word.line())
             }
             Some(Kind::Define) => {
                 let word = tokens.take()?;
-                self.define(tokens, word.line)
+                self.define(tokens, word.line())
             }
             _ => Err(tokens.refusal()),
         }

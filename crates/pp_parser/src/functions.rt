@@ -10,6 +10,7 @@ use crate::argument::WordArgument;
 use crate::cursor::Cursor;
 use crate::goal::{Goal, Part};
 use crate::kinds::{begins_expression, is_name};
+use crate::lists::put;
 use crate::operands::{Read, taken_name};
 use crate::operators::LOOSEST;
 use crate::refusal::Refusal;
@@ -79,7 +80,9 @@ impl<F: Fn(Global, &mut Cursor<'_>, usize, Goal) -> Result<Part, Refusal>> Rules
             }
             match self.argument(tokens)? {
                 WordArgument::Pending(name) => return Ok((found, Some(name))),
-                WordArgument::Argument(x) => found.push(x)?,
+                WordArgument::Argument(x) => {
+                    put(self.alloc, &mut found, x, tokens.sees(Kind::Comma))?;
+                }
             }
             if !tokens.eat(Kind::Comma)? {
                 return Ok((found, None));

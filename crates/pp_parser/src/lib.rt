@@ -17,6 +17,7 @@ pub mod item;
 pub mod keys;
 pub mod kinds;
 pub mod levels;
+pub mod lists;
 pub mod manifest;
 pub mod operands;
 pub mod operators;

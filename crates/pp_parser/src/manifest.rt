@@ -18,6 +18,12 @@ use pp_tree::table::{TableStop, table_of};
 use pp_values::{Fault, Kept, MAIN_MANIFEST, Memory, Place, Stop, Text, What};
 use std::alloc::Global;
 
+/// From this length on room is made for the tree of a text.
+const LONG: usize = 65_536;
+
+/// How many bytes of memory a tree takes for a byte of its text, where people wrote that.
+const ROOM: usize = 4;
+
 /// What the file at this path says.
 #[tactic(auto, unfolding(crate::specs::Manifest::read_file))]
 fn read_file(alloc: Global, file: &Text, tokens: &mut Cursor<'_>) -> Result<Found, Refusal>
@@ -55,7 +61,7 @@ fn line_from(end: u32, tokens: &[Token<'_>]) -> u32
 {
     match tokens {
         [] => end,
-        [token, ..] => token.line,
+        [token, ..] => token.line(),
     }
 }
 
@@ -111,6 +117,17 @@ fn file_with(alloc: Global, file: &Text, found: Found, key: Option<u32>) -> Resu
     }
 }
 
+/// Lets the heap grow once by what the tree of a long text takes: it grows by a page each time else, and asks the kernel each
+/// time. No memory is held, and where none is given the tree tells.
+fn make_room(alloc: Global, len: usize) {
+    if len < LONG {
+        return;
+    }
+    // The first block is none of the heap's own, but tells it to hold blocks of this size. The second becomes its own.
+    drop(Vec::<u8>::with_capacity(alloc, len.saturating_mul(ROOM)));
+    drop(Vec::<u8>::with_capacity(alloc, len.saturating_mul(ROOM)));
+}
+
 /// Reads the manifest at the path `file`: its tree, or its first fault.
 ///
 /// The fault is the language's fault of syntax at the first token with which no text of the grammar goes on (at the end of
@@ -124,6 +141,7 @@ pub fn parse(alloc: Global, file: &Text, text: &Text) -> Result<File, Stop>
     ensures answer { Answers result (manifest.file_of file.now text.now) }
 {
     let tokens = scan(alloc, text.as_str())?;
+    make_room(alloc, text.as_str().len());
     let mut left = Cursor::new(tokens.as_slice());
     match read_file(alloc, file, &mut left) {
         Ok(found) => file_with(alloc, file, found, left.doubled()),

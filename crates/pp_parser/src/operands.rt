@@ -43,8 +43,8 @@ pub fn name_of(alloc: Global, token: &Token<'_>) -> Result<Name, Memory>
     ensures { IfOk result (λ name. name ≡ spec.name_of token.now) }
 {
     Ok(Name {
-        text: token.text.copy(alloc)?,
-        at: token.line,
+        text: token.text(alloc)?,
+        at: token.line(),
     })
 }
 
@@ -131,8 +131,8 @@ impl<F: Fn(Global, &mut Cursor<'_>, usize, Goal) -> Result<Part, Refusal>> Rules
         ensures { Reads (spec.class_resource (within self.now.levels) tokens.old) result tokens.new }
     {
         let word = tokens.take()?;
-        let kind = word.text.copy(self.alloc)?;
-        self.resource(tokens, ResourceForm::Plain, kind, word.line)
+        let kind = word.text(self.alloc)?;
+        self.resource(tokens, ResourceForm::Plain, kind, word.line())
     }
 
     /// An operand of a chain.

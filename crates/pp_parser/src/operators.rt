@@ -8,6 +8,7 @@ ghost use Rattle.pp_parser.specs.Nests.{Nests};
 
 use crate::cursor::Cursor;
 use crate::goal::{Goal, Part};
+use crate::lists::put;
 use crate::refusal::Refusal;
 use crate::rules::Rules;
 use crate::started::Started;
@@ -144,7 +145,8 @@ impl<F: Fn(Global, &mut Cursor<'_>, usize, Goal) -> Result<Part, Refusal>> Rules
             tokens.take()?;
             let first = self.operand(tokens, bars)?;
             let right = self.climb(tokens, bars, strength - 1, first)?;
-            found.push(Operation { operator, right })?;
+            let more = binds(tokens.peek()) == strength;
+            put(self.alloc, &mut found, Operation { operator, right }, more)?;
         }
         Err(tokens.refusal())
     }
@@ -236,8 +238,8 @@ impl<F: Fn(Global, &mut Cursor<'_>, usize, Goal) -> Result<Part, Refusal>> Rules
         match tokens.peek() {
             Some(Kind::Variable) => {
                 let token = tokens.take()?;
-                let name = token.text.copy(self.alloc)?;
-                self.assigned(tokens, bars, behind, token.line, name)
+                let name = token.text(self.alloc)?;
+                self.assigned(tokens, bars, behind, token.line(), name)
             }
             _ => self.chain(tokens, bars, LOOSEST, None),
         }

@@ -85,9 +85,9 @@ impl<F: Fn(Global, &mut Cursor<'_>, usize, Goal) -> Result<Part, Refusal>> Rules
         let default = self.default(tokens, bars)?;
         Ok(Param {
             kind: Some(kind),
-            name: token.text.copy(self.alloc)?,
+            name: token.text(self.alloc)?,
             default,
-            at: token.line,
+            at: token.line(),
         })
     }
 

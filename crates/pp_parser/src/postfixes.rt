@@ -9,6 +9,7 @@ ghost use Rattle.pp_parser.specs.Nests.{Nests};
 use crate::cursor::Cursor;
 use crate::goal::{Goal, Part};
 use crate::kinds::begins_postfix;
+use crate::lists::put;
 use crate::refusal::Refusal;
 use crate::rules::Rules;
 use crate::started::Started;
@@ -38,12 +39,12 @@ impl<F: Fn(Global, &mut Cursor<'_>, usize, Goal) -> Result<Part, Refusal>> Rules
     {
         match tokens.peek() {
             Some(Kind::Name | Kind::StatementFunction) => self.named(tokens, bars),
-            Some(Kind::Type) => Ok(Form::Type(tokens.take()?.text.copy(self.alloc)?)),
+            Some(Kind::Type) => Ok(Form::Type(tokens.take()?.text(self.alloc)?)),
             Some(Kind::Variable | Kind::QualifiedVariable) => {
-                Ok(Form::Variable(tokens.take()?.text.copy(self.alloc)?))
+                Ok(Form::Variable(tokens.take()?.text(self.alloc)?))
             }
-            Some(Kind::Number) => Ok(Form::Number(tokens.take()?.number)),
-            Some(Kind::Text) => Ok(Form::Text(tokens.take()?.text.copy(self.alloc)?)),
+            Some(Kind::Number) => Ok(Form::Number(tokens.take()?.number())),
+            Some(Kind::Text) => Ok(Form::Text(tokens.take()?.text(self.alloc)?)),
             Some(Kind::TextBegin) => self.quoted(tokens),
             Some(Kind::True) => {
                 tokens.take()?;
@@ -83,7 +84,7 @@ impl<F: Fn(Global, &mut Cursor<'_>, usize, Goal) -> Result<Part, Refusal>> Rules
         let args = self.optional_arguments(tokens)?;
         let lambda = self.optional_lambda(tokens, bars)?;
         let call = Call {
-            function: name.text.copy(self.alloc)?,
+            function: name.text(self.alloc)?,
             args,
             lambda,
         };
@@ -134,7 +135,10 @@ impl<F: Fn(Global, &mut Cursor<'_>, usize, Goal) -> Result<Part, Refusal>> Rules
         for _turn in 0..tokens.turns() {
             match self.postfix(tokens, bars)? {
                 None => return Ok(found),
-                Some(postfix) => found.push(postfix)?,
+                Some(postfix) => {
+                    let more = begins_postfix(tokens.peek());
+                    put(self.alloc, &mut found, postfix, more)?;
+                }
             }
         }
         Err(tokens.refusal())

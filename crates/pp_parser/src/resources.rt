@@ -12,6 +12,7 @@ ghost use Rattle.std.specs.Prelude.{◌≡◌, false};
 use crate::cursor::Cursor;
 use crate::goal::{Goal, Part};
 use crate::kinds::ends_body;
+use crate::lists::put;
 use crate::refusal::Refusal;
 use crate::rules::Rules;
 use pp_lexer::kind::Kind;
@@ -59,7 +60,8 @@ impl<F: Fn(Global, &mut Cursor<'_>, usize, Goal) -> Result<Part, Refusal>> Rules
             if ends_body(tokens.peek()) {
                 return Ok(found);
             }
-            found.push(self.attribute(tokens, false)?)?;
+            let attribute = self.attribute(tokens, false)?;
+            put(self.alloc, &mut found, attribute, tokens.sees(Kind::Comma))?;
             if !tokens.eat(Kind::Comma)? {
                 return Ok(found);
             }
@@ -98,7 +100,8 @@ impl<F: Fn(Global, &mut Cursor<'_>, usize, Goal) -> Result<Part, Refusal>> Rules
             if tokens.sees(Kind::CloseBrace) {
                 return Ok(found);
             }
-            found.push(self.body(tokens)?)?;
+            let body = self.body(tokens)?;
+            put(self.alloc, &mut found, body, tokens.sees(Kind::Semicolon))?;
             if !tokens.eat(Kind::Semicolon)? {
                 return Ok(found);
             }
@@ -113,7 +116,8 @@ impl<F: Fn(Global, &mut Cursor<'_>, usize, Goal) -> Result<Part, Refusal>> Rules
         ensures { Reads (separated_some (is_at k.CloseBrace) k.Semicolon (spec.body (within self.now.levels)) tokens.old) result tokens.new }
     {
         let mut found = Items::new(self.alloc);
-        found.push(self.body(tokens)?)?;
+        let body = self.body(tokens)?;
+        put(self.alloc, &mut found, body, tokens.sees(Kind::Semicolon))?;
         if !tokens.eat(Kind::Semicolon)? {
             return Ok(found);
         }
@@ -152,7 +156,7 @@ impl<F: Fn(Global, &mut Cursor<'_>, usize, Goal) -> Result<Part, Refusal>> Rules
     {
         let mark = tokens.take()?;
         let word = resource_name(tokens)?;
-        let kind = word.text.copy(self.alloc)?;
-        self.resource(tokens, form, kind, mark.line)
+        let kind = word.text(self.alloc)?;
+        self.resource(tokens, form, kind, mark.line())
     }
 }

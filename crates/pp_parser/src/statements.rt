@@ -8,6 +8,7 @@ ghost use Rattle.std.specs.Prelude.{◌≡◌, None};
 
 use crate::cursor::Cursor;
 use crate::goal::{Goal, Part};
+use crate::lists::put;
 use crate::operands::{Read, taken_name};
 use crate::refusal::Refusal;
 use crate::rules::Rules;
@@ -200,7 +201,12 @@ impl<F: Fn(Global, &mut Cursor<'_>, usize, Goal) -> Result<Part, Refusal>> Rules
                 return Ok(found);
             }
             let (statement, next) = self.statement(tokens, pending)?;
-            found.push(statement)?;
+            put(
+                self.alloc,
+                &mut found,
+                statement,
+                !tokens.sees(Kind::CloseBrace),
+            )?;
             pending = next;
             tokens.eat(Kind::Semicolon)?;
         }

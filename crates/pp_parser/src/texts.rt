@@ -52,13 +52,13 @@ impl<F: Fn(Global, &mut Cursor<'_>, usize, Goal) -> Result<Part, Refusal>> Rules
     {
         match tokens.peek() {
             Some(Kind::Piece) => {
-                let said = tokens.take()?.text.copy(self.alloc)?;
+                let said = tokens.take()?.text(self.alloc)?;
                 Ok(Some(Piece::Text(said)))
             }
             Some(Kind::VariableInText) => {
                 let token = tokens.take()?;
-                let form = Form::Variable(token.text.copy(self.alloc)?);
-                Ok(Some(Piece::Value(Expr::new(self.alloc, token.line, form)?)))
+                let form = Form::Variable(token.text(self.alloc)?);
+                Ok(Some(Piece::Value(Expr::new(self.alloc, token.line(), form)?)))
             }
             Some(Kind::InterpolationBegin) => {
                 let x = self.interpolation(tokens)?;
@@ -116,7 +116,7 @@ impl<F: Fn(Global, &mut Cursor<'_>, usize, Goal) -> Result<Part, Refusal>> Rules
         tokens.expect(Kind::TextBegin)?;
         match tokens.peek() {
             Some(Kind::Piece) => {
-                let said = tokens.take()?.text.copy(self.alloc)?;
+                let said = tokens.take()?.text(self.alloc)?;
                 self.text_after(tokens, said)
             }
             _ => {
@@ -147,9 +147,9 @@ impl<F: Fn(Global, &mut Cursor<'_>, usize, Goal) -> Result<Part, Refusal>> Rules
         ensures { Reads (spec.begun_by_name (within self.now.levels) tokens.old) result tokens.new }
     {
         let token = tokens.take()?;
-        let form = self.variable_or_call(tokens, token.text.copy(self.alloc)?)?;
+        let form = self.variable_or_call(tokens, token.text(self.alloc)?)?;
         let start = Started {
-            base: Expr::new(self.alloc, token.line, form)?,
+            base: Expr::new(self.alloc, token.line(), form)?,
             postfixes: Items::new(self.alloc),
         };
         self.chain(tokens, false, LOOSEST, Some(start))

@@ -3,7 +3,7 @@ use Rattle.std.proofs.Common.{◌≡◌, suc, Bool, true, false, length, Option,
 use denote.Enum.Bare.{same_true, true_same}
 use Rattle.pp_lexer.specs.declared.kind.Kind.{Kind}
 use Rattle.pp_lexer.specs.contracts.kind.Kind.{the_type}
-use Rattle.pp_lexer.specs.declared.token.Token.{Token}
+use Rattle.pp_lexer.specs.Seen.{Token}
 use Rattle.pp_grammar.proofs.Reader.Input.{Input, kind, kind_at, line_at, take, sees, expect, expect_any, eat, open_level}
 use Rattle.pp_grammar.proofs.Reader.Inner.{Inner, opening}
 use Rattle.pp_grammar.specs.Kinds.{is_kind, same_kind}

@@ -1,6 +1,6 @@
 -- Two readers of the same text, of which the second one may open more levels from some place on, or everywhere.
 use Rattle.std.proofs.Common.{◌≡◌, ℕ, ◌+◌, ◌<◌, ◌≤◌, ltb, Bool, true, false, not, if◌then◌else◌, [], length, Ok, Err, refl, sym, ap, subst, ◌∙◌, arith}
-use Rattle.pp_lexer.specs.declared.token.Token.{Token}
+use Rattle.pp_lexer.specs.Seen.{Token}
 use Rattle.pp_parser.specs.declared.refusal.Refusal.TheVariants as refusals
 use Rattle.pp_grammar.proofs.Reader.Input.{Input, Outcome}
 use Rattle.pp_grammar.proofs.Reader.Manifest.{start}

@@ -1,7 +1,7 @@
 -- What a rule asks of the readers one level further in.
 use Rattle.std.specs.Prelude.{ℕ, Bool, List, Option}
 use Rattle.pp_lexer.specs.declared.kind.Kind.{Kind}
-use Rattle.pp_lexer.specs.declared.token.Token.{Token}
+use Rattle.pp_lexer.specs.Seen.{Token}
 use Rattle.pp_tree.specs.declared.expr.Expr.{Expr}
 use Rattle.pp_tree.specs.declared.expr.Pair.{Pair}
 use Rattle.pp_tree.specs.declared.param.Param.{Param}

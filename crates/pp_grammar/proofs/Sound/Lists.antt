@@ -1,7 +1,7 @@
 -- Lists, by induction on their turns: what was found so far is a front part, and what is found from here on stands here.
 use Rattle.std.proofs.Common.{◌≡◌, ℕ, zero, suc, Bool, true, false, if◌then◌else◌, List, [], ◌∷◌, ◌++◌, Option, Some, None, sym, subst, append_assoc, append-nil}
 use Rattle.pp_lexer.specs.declared.kind.Kind.{Kind}
-use Rattle.pp_lexer.specs.declared.token.Token.{Token}
+use Rattle.pp_lexer.specs.Seen.{Token}
 use Rattle.pp_grammar.proofs.Reader.Input.{Input, Parser, kind, pure, more_or_done, turns, repeat, repeat_from, separated, separated_from, separated_some}
 use Rattle.pp_grammar.specs.Kinds.{is_kind}
 use Rattle.pp_grammar.specs.Places.{Phrase, Stands, Many, Separated, SeparatedSome, Maybe}

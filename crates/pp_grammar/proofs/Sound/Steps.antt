@@ -4,7 +4,7 @@ use denote.Enum.Bare.{same_true}
 use Rattle.pp_lexer.specs.declared.kind.Kind.{Kind}
 use Rattle.pp_lexer.specs.declared.kind.Kind.TheVariants as k
 use Rattle.pp_lexer.specs.contracts.kind.Kind.{the_type}
-use Rattle.pp_lexer.specs.declared.token.Token.{Token}
+use Rattle.pp_lexer.specs.Seen.{Token}
 use Rattle.pp_parser.specs.declared.refusal.Refusal.{Refusal}
 use Rattle.pp_grammar.proofs.Reader.Input.{Input, Outcome, Parser, and_then, pure, kind, kind_at, line_at, taken, take, sees, expect, expect_any, eat, open_level}
 use Rattle.pp_grammar.specs.Kinds.{is_kind, is_name, same_kind}

@@ -1,6 +1,6 @@
 -- What it is that some text goes on where a text is refused. A reader of files is one for each number of levels.
 use Rattle.std.specs.Prelude.{◌≡◌, ℕ, ◌≤◌, List, [], ◌++◌, length, Ok}
-use Rattle.pp_lexer.specs.declared.token.Token.{Token}
+use Rattle.pp_lexer.specs.Seen.{Token}
 use Rattle.pp_grammar.proofs.Reader.Input.{Input, Parser}
 use Rattle.pp_grammar.proofs.Reader.Manifest.{start}
 

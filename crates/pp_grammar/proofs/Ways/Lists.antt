@@ -1,7 +1,7 @@
 -- Lists: behind what was read of one there is a way.
 use Rattle.std.proofs.Common.{◌≡◌, ℕ, zero, suc, ◌+◌, ◌≤◌, Bool, true, false, not, if◌then◌else◌, List, [], ◌∷◌, ◌++◌, length, Option, Some, None, Ok, Err, refl, sym, ap, subst, ◌∙◌, add-one, arith}
 use Rattle.pp_lexer.specs.declared.kind.Kind.{Kind}
-use Rattle.pp_lexer.specs.declared.token.Token.{Token}
+use Rattle.pp_lexer.specs.Seen.{Token}
 use Rattle.pp_grammar.proofs.Reader.Input.{Input, Outcome, Parser, and_then, ◌>>=◌, pure, kind, kind_at, peek, eat, turns, more_or_done, repeat_from, repeat, separated_from, separated, separated_some}
 use Rattle.pp_grammar.specs.Kinds.{is_kind}
 use Rattle.pp_grammar.proofs.Local.Steps.{Falls, any, if_given}

@@ -1,7 +1,7 @@
 -- In how many ways a list of tokens is cut into two.
 use Rattle.std.proofs.Common.{◌≡◌, ℕ, List, [], ◌∷◌, ◌++◌, length, take, refl, sym, ap, ◌∙◌, arith}
 use Rattle.std.proofs.lemmas.List.{length-append}
-use Rattle.pp_lexer.specs.declared.token.Token.{Token}
+use Rattle.pp_lexer.specs.Seen.{Token}
 
 take_front : (front rest : List Token) → take (length front) (front ++ rest) ≡ front
 take_front [] rest = refl

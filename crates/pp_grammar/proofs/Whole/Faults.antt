@@ -5,7 +5,7 @@ use Rattle.std.proofs.lemmas.Bool.{lt-ltb}
 use Rattle.std.proofs.lemmas.List.{length-append}
 use Rattle.pp_values.specs.declared.fault.Fault.{Fault}
 use Rattle.pp_values.specs.declared.fault.What.TheVariants.{Syntax, DepthLimit}
-use Rattle.pp_lexer.specs.declared.token.Token.{Token}
+use Rattle.pp_lexer.specs.Seen.{Token}
 use Rattle.pp_lexer.specs.Bytes.{end_line}
 use Rattle.pp_lexer.specs.Tokens.{tokens}
 use Rattle.pp_tree.specs.declared.definition.Definition.{Definition}

@@ -1,7 +1,7 @@
 -- The parser's function reads what the reader of this grammar reads, whose limit of levels holds everywhere then.
 use Rattle.std.proofs.Common.{◌≡◌, ℕ, zero, suc, Bool, true, false, if◌then◌else◌, List, refl, ap, ◌∙◌}
 use Rattle.std.specs.Str.{bytes_eq}
-use Rattle.pp_lexer.specs.declared.token.Token.{Token}
+use Rattle.pp_lexer.specs.Seen.{Token}
 use Rattle.pp_lexer.specs.Bytes.{end_line}
 use Rattle.pp_lexer.specs.Tokens.{tokens}
 use Rattle.pp_parser.specs.declared.found.Found.{Found}

@@ -1,7 +1,7 @@
 -- A text leaves the grammar at one place at most, and passes the limit of levels at one, and not both.
 use Rattle.std.proofs.Common.{◌≡◌, ℕ, suc, ◌+◌, ◌≤◌, List, [], ◌∷◌, ◌++◌, length, Option, refl, sym, ap, subst, ◌∙◌, arith}
 use Rattle.std.proofs.lemmas.List.{length-append}
-use Rattle.pp_lexer.specs.declared.token.Token.{Token}
+use Rattle.pp_lexer.specs.Seen.{Token}
 use Rattle.pp_parser.specs.declared.found.Found.{Found}
 use Rattle.pp_grammar.specs.Laws.{first_token, max_levels, everywhere, up_to, IsFile, GoesOn, IsRefused, IsTooDeep}
 use Rattle.pp_grammar.proofs.Whole.Cuts.{grouped, Cuts, cuts}

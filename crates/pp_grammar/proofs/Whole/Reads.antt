@@ -2,7 +2,7 @@
 use Rattle.std.proofs.Common.{◌≡◌, ◌≢◌, ℕ, Bool, true, false, if◌then◌else◌, List, [], ◌∷◌, Option, None, Ok, refl, sym, ap, subst, ◌∙◌}
 use Rattle.std.specs.Str.{bytes_eq}
 use Rattle.std.proofs.lemmas.Slice.Eq.{bytes_eq-Decides}
-use Rattle.pp_lexer.specs.declared.token.Token.{Token}
+use Rattle.pp_lexer.specs.Seen.{Token}
 use Rattle.pp_tree.specs.declared.statement.Statement.{Statement}
 use Rattle.pp_tree.specs.declared.definition.Definition.{Definition}
 use Rattle.pp_grammar.proofs.Reader.Input.{Input, Parser, kind, kind_at}

@@ -1,6 +1,6 @@
 -- A text has a tree exactly where what stands there is one, and tokens have one at most.
 use Rattle.std.proofs.Common.{◌≡◌, ℕ, List, Option, Some, None, Result, Ok, Err, refl, sym, ap, subst, ◌∙◌}
-use Rattle.pp_lexer.specs.declared.token.Token.{Token}
+use Rattle.pp_lexer.specs.Seen.{Token}
 use Rattle.pp_lexer.specs.Bytes.{end_line}
 use Rattle.pp_lexer.specs.Tokens.{tokens}
 use Rattle.pp_tree.specs.declared.statement.Statement.{Statement}

@@ -1,5 +1,5 @@
 use Rattle.std.proofs.Common.{◌≡◌, ◌<◌, ◌^◌, drop}
-use Rattle.pp_lexer.specs.Numbers.{value_from}
+use Rattle.pp_lexer.specs.Digits.{value_from}
 use Rattle.pp_lexer.proofs.numbers.digits_value.Given as goal
 
 abbrev pub invariant-loop-b : goal.invariant-loop-b

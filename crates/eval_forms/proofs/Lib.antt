@@ -3,4 +3,3 @@ mod Examples
 mod Elsewhere
 mod Numbers
 mod Operations
-mod Integers

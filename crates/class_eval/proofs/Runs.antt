@@ -72,8 +72,9 @@ module _ (inner : Inner) (x : List ℕ) (e : Expr) (line : ℕ) (here : Here) (w
 module _ (inner : Inner) (here : Here) where
   step_alike : (p : Outcome (Option Datum)) (d : Datum) (ss : List Statement)
       → ((e : Datum) (w : World) → forget (statements_from inner e ss here w) ≡ run_from inner ss here w)
-      → forget (go_on p (λ given. statements_from inner (or_before given d) ss here)) ≡ go_on (forget p) (λ _. run_from inner ss here)
-  step_alike (Ok p) d ss rest = rest (or_before p.0 d) p.1
+      → forget (go_on p (λ given. statements_from inner (or_before given d) ss here))
+      ≡ go_on (forget p) (λ _. run_from inner ss here)
+    step_alike (Ok p) d ss rest = rest (or_before p.0 d) p.1
   step_alike (Err f) d ss rest = refl
 
   run_alike : (ss : List Statement) (d : Datum) (w : World)
@@ -95,18 +96,18 @@ main_by main x w =
     ∙ ap (λ p. go_on p (λ _. nodes_rule main.definitions x)) (run_alike (at_depth 1) top main.statements undef w)
 
 module _ (left : ℕ) (main : File) (x : List ℕ) (w : World) (is : within left ≡ at_depth 1) where
-  first_part : run_from (within left) main.statements top w ≡ run_from (at_depth 1) main.statements top w
-  first_part = ap (λ inner. run_from inner main.statements top w) is
-
-  main_from : main_rule main x w ≡ go_on (run_from (within left) main.statements top w) (λ _. nodes_rule main.definitions x)
-  main_from = rw first_part (main_by main x w)
-
   pub main_ran : (after : World) (r : Result (Unit {0}) Stop) (new : World)
       → run_from (within left) main.statements top w ≡ Ok (tt, after)
       → Gives nothing (nodes_rule main.definitions x after) r new → Gives nothing (main_rule main x w) r new
-  main_ran after r new ran gives = rw (main_from, ran) gives
+  main_ran after r new ran gives =
+      let first : run_from (at_depth 1) main.statements top w ≡ Ok (tt, after) =
+      subst (λ inner. run_from inner main.statements top w ≡ Ok (tt, after)) is ran in
+      rw (main_by main x w, first) gives
 
   pub main_refused : (f : Stop) → IsRefused (fault_told f) (run_from (within left) main.statements top w)
       → IsRefused (fault_told f) (main_rule main x w)
-  main_refused (stop.Fault f) refused = rw (main_from, refused) refl
+  main_refused (stop.Fault f) refused =
+      let first : run_from (at_depth 1) main.statements top w ≡ Err f =
+      subst (λ inner. run_from inner main.statements top w ≡ Err f) is refused in
+      rw (main_by main x w, first) refl
   main_refused stop.Memory refused = tt

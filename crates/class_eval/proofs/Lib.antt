@@ -3,4 +3,3 @@ mod Levels
 mod NodeLines
 mod Pairs
 mod Single
-pub mod Runs

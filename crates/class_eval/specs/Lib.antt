@@ -6,4 +6,3 @@ pub mod Postfixes
 pub mod Single
 pub mod Starting
 pub mod Statements
-pub mod Running

@@ -1,13 +1,13 @@
 -- What flags say of a document's keys.
-use Rattle.std.proofs.Common.{◌≡◌, ℕ, zero, suc, ◌%◌, Bool, true, false, List, [], ◌∷◌, length, Option, Some, None, refl, ap, sym, ◌∙◌}
-use Rattle.std.specs.Prelude.{slice_get, slice_set, is_some}
+use Rattle.std.proofs.Common.{◌≡◌, ℕ, zero, suc, ◌%◌, Bool, true, false, List, [], ◌∷◌, length, Some, None, refl, ap, sym, ◌∙◌}
+use Rattle.std.specs.Prelude.{slice_get, slice_set}
 use Rattle.std.specs.Ordering.{nat_cmp, match_ordering}
 use Rattle.std.specs.Cmp.Lexicographic.{slice_cmp}
 use Rattle.std.specs.FinMap.{slice_cmp-IsAntisymmetric, nat_cmp-IsAntisymmetric}
 use Rattle.std.specs.declared.cmp.Ordering.TheVariants.{Less, Equal, Greater}
-use Rattle.serde_json.specs.Data.{Data, object, Members, no_members, member}
-use Rattle.serde_json.specs.Find.{get, get_member}
-use Rattle.hiera_config.specs.Flags.{mark_of, or_true, may_have, with_flag, flagged, HasNo, Knows}
+use Rattle.serde_json.specs.Data.{object, Members, no_members, member}
+use Rattle.serde_json.specs.Find.{get_member}
+use Rattle.hiera_config.specs.Flags.{mark_of, or_true, may_have, with_flag, flagged, Knows}
 
 same_length : (flags : List Bool) (place : ℕ) → length (slice_set flags place true) ≡ length flags
 same_length [] place = refl

@@ -13,3 +13,4 @@ mod PathTexts
 mod FlagLemmas
 mod PlanLemmas
 pub mod Simple
+mod SoundLemmas

@@ -1,20 +1,16 @@
 -- Files that are found ahead.
 use Rattle.std.proofs.Common.{◌≡◌, Bor, ℕ, zero, suc, ◌+◌, ◌<◌, Bool, true, false, cond, not, Vec, Global, None, Some, Option, List, [], ◌∷◌, ◌++◌, length, get_or, Ok, Err, codes, arith, length-append, refl, sym, ap, subst, ◌∙◌}
 use Rattle.std.specs.Prelude.{IfSome, option_map}
-use Rattle.std.specs.FinMap.{find}
 use Rattle.pp_values.specs.declared.fault.What.TheVariants as what
-use Rattle.pp_values.specs.Rising.{text_cmp}
 use Rattle.serde_json.specs.Data.{Data}
 use Rattle.serde_json.specs.Find.{get}
 use Rattle.serde_json.specs.Read.{read}
-use Rattle.serde_json.specs.View.{view as json_view}
 use Rattle.hiera_config.specs.declared.config.Config.{Config}
 use Rattle.hiera_config.specs.declared.config.Level.{Level}
 use Rattle.hiera_config.specs.declared.plan.FixedFile.{FixedFile}
 use Rattle.hiera_config.specs.declared.site_data.DataFile.{DataFile}
-use Rattle.hiera_config.specs.Config.{config_read}
 use Rattle.hiera_config.specs.Cuts.{cut_at}
-use Rattle.hiera_config.specs.Documents.{File, text_at, is_of_module, is_document}
+use Rattle.hiera_config.specs.Documents.{File, text_at}
 use Rattle.hiera_config.specs.Flags.{mark_of, may_have, HasNo}
 use Rattle.hiera_config.specs.Keeping.{IsKept}
 use Rattle.hiera_config.specs.Meant.{Meant, go_on, in_turn}

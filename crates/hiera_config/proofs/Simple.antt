@@ -1,13 +1,11 @@
 -- Where no file has options of look-ups, `lookup_options` has no sources wherever another key's are told.
-use Rattle.std.proofs.Common.{◌≡◌, ℕ, Bool, true, false, ◌&&◌, cond, None, Some, Option, List, [], ◌∷◌, ◌++◌, Result, Ok, Err, refl, sym, ap, subst, ◌∙◌}
+use Rattle.std.proofs.Common.{◌≡◌, ℕ, Bool, true, false, ◌&&◌, cond, None, Some, Option, List, [], ◌∷◌, Ok, Err, refl, sym, ap, subst, ◌∙◌}
 use Rattle.std.specs.Prelude.{IfSome, is_none}
-use Rattle.std.specs.List.{All}
 use Rattle.std.specs.Ordering.{eq_by_cmp}
 use Rattle.std.proofs.lemmas.List.Elements.{All-head, All-tail}
 use Rattle.std.specs.FinMap.{find}
 use Rattle.pp_values.specs.Datum.{Datum}
 use Rattle.pp_values.specs.Rising.{text_cmp}
-use Rattle.pp_values.specs.declared.fault.What.{What}
 use Rattle.pp_values.specs.declared.fault.What.TheVariants as what
 use Rattle.serde_json.specs.Data.{Data}
 use Rattle.serde_json.specs.Find.{get}

@@ -8,7 +8,9 @@ pub mod Sources
 pub mod FormView
 pub mod Written
 pub mod Seen
+pub mod SoundData
 pub mod Keeping
 pub mod Found
 pub mod Flags
 pub mod Planning
+pub mod Sound

@@ -9,6 +9,7 @@ use Rattle.hiera_config.specs.Config.{one_template}
 use Rattle.hiera_config.specs.Cuts.{cut_at}
 use Rattle.hiera_config.specs.Documents.{File, text_at}
 use Rattle.hiera_config.specs.Flags.{mark_of, may_have, HasNo}
+use Rattle.hiera_config.specs.SoundData.{is_sound_text}
 use Rattle.hiera_config.specs.Sources.{joined_path, config_in, global_folder}
 
 -- of flags, or of no file
@@ -28,6 +29,10 @@ HasNoneAt key (Some text) = HasNo key (read text)
 abbrev pub Skips : List File → List ℕ → Option (Vec Bool Global) → Type 0
 Skips files path flags = (key : List ℕ) → lacks_by flags (mark_of key) ≡ true → HasNoneAt key (text_at path files)
 
+-- no key's value is faulty in the file at this path, where the flag says so
+abbrev pub Sounds : List File → List ℕ → Bool → Type 0
+Sounds files path flag = flag ≡ true → is_sound_text (text_at path files) ≡ true
+
 -- the level has this path alone, and no variables in it
 pub record PathIs (folder : List ℕ) (level : Level) (path : List ℕ) : Type 0 where
   pub template : List ℕ
@@ -38,7 +43,8 @@ pub record PathIs (folder : List ℕ) (level : Level) (path : List ℕ) : Type 0
 
 abbrev pub Fits : List File → List ℕ → Level → Option FixedFile → Type 0
 Fits files folder level None = ⊤
-Fits files folder level (Some f) = PathIs folder level f.path × Skips files f.path f.flags
+Fits files folder level (Some f) =
+    PathIs folder level f.path × Skips files f.path f.flags × Sounds files f.path f.is_sound
 
 -- level by level, as far as both go
 abbrev pub Planned : List File → List ℕ → List Level → List (Option FixedFile) → Type 0

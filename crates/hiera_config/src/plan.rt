@@ -5,7 +5,8 @@ ghost use Rattle.pp_values.specs.Rising.{text_cmp};
 ghost use Rattle.hiera_config.specs.Config.{one_template};
 ghost use Rattle.hiera_config.specs.Cuts.{cut_at};
 ghost use Rattle.hiera_config.specs.Keeping.{filed, IsKept, AreKept};
-ghost use Rattle.hiera_config.specs.Planning.{lacks, PathIs, Skips, Fits, Planned, PlannedIf, PlannedAt};
+ghost use Rattle.hiera_config.specs.Planning.{lacks, PathIs, Skips, Sounds, Fits, Planned, PlannedIf, PlannedAt};
+ghost use Rattle.hiera_config.specs.Sound.{is_sound_if};
 ghost use Rattle.hiera_config.specs.Sources.{joined_path, config_path};
 
 use crate::config::{Config, Level, LevelPaths};
@@ -19,6 +20,8 @@ use std::collections::BTreeMap;
 pub struct FixedFile {
     pub path: Text,
     pub flags: Option<Vec<bool>>,
+    /// No key's value is faulty in the file.
+    pub is_sound: bool,
 }
 
 // By hand, so that callers drop it by one call.
@@ -27,6 +30,7 @@ impl Drop for FixedFile {
         let FixedFile {
             path: _path,
             flags: _flags,
+            is_sound: _is_sound,
         } = self;
     }
 }
@@ -68,7 +72,7 @@ fn try_plan(alloc: Global, files: &BTreeMap<Text, DataFile>, folder: &str) -> Re
     }
 }
 
-fn config_path(alloc: Global, folder: &str) -> Result<Text, Memory>
+pub fn config_path(alloc: Global, folder: &str) -> Result<Text, Memory>
     ensures { IfOk result (λ t. t ≡ config_path folder.now) }
 {
     let mut path = String::from_str(alloc, folder)?;
@@ -173,9 +177,25 @@ fn fixed_file(
     requires { AreKept files.now.entries }
     ensures path { IfOk result (λ f. f.path ≡ path) }
     ensures skips { IfOk result (λ f. Skips (filed files.now.entries) path f.flags) }
+    ensures sounds { IfOk result (λ f. Sounds (filed files.now.entries) path f.is_sound) }
 {
+    let is_sound = is_sound_if(file_at(files, &path));
     let flags = flags_at(alloc, file_at(files, &path))?;
-    Ok(FixedFile { path, flags })
+    Ok(FixedFile {
+        path,
+        flags,
+        is_sound,
+    })
+}
+
+/// Whether there is no file, or no key's value is faulty in it.
+fn is_sound_if(file: Option<&DataFile>) -> bool
+    ensures { result ≡ is_sound_if (option_map (λ f. f.now) file.entry) }
+{
+    match file {
+        Some(file) => file.is_sound,
+        None => true,
+    }
 }
 
 fn flags_at(alloc: Global, file: Option<&DataFile>) -> Result<Option<Vec<bool>>, Memory>

@@ -6,6 +6,7 @@ ghost use Rattle.hiera_config.specs.Config.{config_of};
 ghost use Rattle.hiera_config.specs.Documents.{is_of_module, put_in};
 ghost use Rattle.hiera_config.specs.Keeping.{filed, IsKept, AreSimple, lacks_options, are_none, lacks_defaults, simple_file};
 ghost use Rattle.hiera_config.specs.Planning.{PlannedAt};
+ghost use Rattle.hiera_config.specs.Sound.{SoundLayers};
 ghost use Rattle.hiera_config.specs.Sources.{global_folder};
 ghost use Rattle.serde_json.specs.View.{view as json_view};
 
@@ -13,6 +14,7 @@ use crate::config::{Config, Level};
 use crate::config_reading::{config_of, parsed};
 use crate::flags::flags_of;
 use crate::plan::{FixedFile, Plan, file_at, plan_at};
+use crate::soundness::{are_sound_layers, is_sound_document};
 use pp_values::{Memory, Text, TextPairs, copy_text_pairs};
 use serde_json::Value as Json;
 use std::alloc::Global;
@@ -26,6 +28,8 @@ pub struct DataFile {
     pub config: Option<Config>,
     /// By which keys are told that the file surely lacks.
     pub flags: Vec<bool>,
+    /// No key's value is faulty in it.
+    pub is_sound: bool,
 }
 
 // By hand, so that callers drop a file by one call.
@@ -36,6 +40,7 @@ impl Drop for DataFile {
             json: _json,
             config: _config,
             flags: _flags,
+            is_sound: _is_sound,
         } = self;
     }
 }
@@ -49,6 +54,8 @@ pub struct SiteData {
     // The data files of the global layer and of the environment that are found ahead.
     global: Plan,
     environment: Plan,
+    // Both layers have a sound file for each of their levels.
+    is_sound: bool,
 }
 
 impl Model for SiteData {
@@ -56,13 +63,15 @@ impl Model for SiteData {
     ghost use Rattle.hiera_config.specs.Documents.{File};
     ghost use Rattle.hiera_config.specs.Keeping.{filed, AreKept, KeptSimple};
     ghost use Rattle.hiera_config.specs.Planning.{ArePlanned};
+    ghost use Rattle.hiera_config.specs.Sound.{SoundLayers};
 
     ghost Value = { List File };
 
     ghost view = { λ s. filed s.by_path.entries };
 
     ghost invariant = { λ s. AreKept s.by_path.entries × (s.is_simple ≡ true → KeptSimple s.by_path.entries)
-        × ArePlanned (filed s.by_path.entries) s.global.items s.environment.items };
+        × ArePlanned (filed s.by_path.entries) s.global.items s.environment.items
+        × (s.is_sound ≡ true → SoundLayers (filed s.by_path.entries) s.global.items s.environment.items) };
 }
 
 impl SiteData {
@@ -74,6 +83,7 @@ impl SiteData {
             is_simple: true,
             global: Vec::new(alloc),
             environment: Vec::new(alloc),
+            is_sound: false,
         }
     }
 
@@ -86,8 +96,11 @@ impl SiteData {
         let is_simple = stays_simple(self.is_simple, &file);
         drop(self.by_path.insert(path, file)?);
         self.is_simple = is_simple;
-        self.global = plan_at(alloc, &self.by_path, "global/");
-        self.environment = plan_at(alloc, &self.by_path, "");
+        let global = plan_at(alloc, &self.by_path, "global/");
+        let environment = plan_at(alloc, &self.by_path, "");
+        self.is_sound = are_sound_layers(alloc, &self.by_path, &global, &environment);
+        self.global = global;
+        self.environment = environment;
         Ok(())
     }
 
@@ -121,6 +134,18 @@ impl SiteData {
         self.environment.as_slice()
     }
 
+    /// The plans of the global layer and of the environment, where each of their levels has a file in them, and no key's
+    /// value is faulty in any.
+    pub fn sound_plans(&self) -> Option<(&[Option<FixedFile>], &[Option<FixedFile>])>
+        ensures { IfSome result (λ p. SoundLayers self.now p.0.now p.1.now) }
+    {
+        if self.is_sound {
+            Some((self.global.as_slice(), self.environment.as_slice()))
+        } else {
+            None
+        }
+    }
+
     /// All files, by path in byte order.
     pub fn as_map(&self) -> &BTreeMap<Text, DataFile>
         ensures { filed result.now.entries ≡ self.now }
@@ -147,12 +172,14 @@ fn read_file(alloc: Global, path: &str, text: Text) -> Result<DataFile, Memory>
 {
     let json = parsed(alloc, text.as_str())?;
     let flags = flags_of(alloc, &json)?;
+    let is_sound = is_sound_document(&json);
     let config = config_if(alloc, is_of_module(path), &json)?;
     Ok(DataFile {
         text,
         json,
         config,
         flags,
+        is_sound,
     })
 }
 

@@ -1,5 +1,5 @@
 -- Where no file has options, a key is merged by `first`.
-use Rattle.std.proofs.Common.{◌≡◌, ◌≢◌, ℕ, ◌-◌, false, List, [], ◌∷◌, ◌++◌, Option, None, Some, Ok, Err, refl, sym, ap, ◌∙◌}
+use Rattle.std.proofs.Common.{◌≡◌, ℕ, ◌-◌, false, List, [], ◌∷◌, ◌++◌, Option, None, Some, Ok, Err, refl, ap, ◌∙◌}
 use Rattle.std.specs.Prelude.{is_some}
 use Rattle.pp_values.specs.Datum.{Datum}
 use Rattle.hiera_config.specs.Documents.{File}
@@ -12,7 +12,6 @@ use Rattle.hiera_merge.specs.declared.merge.Merge.{Merge}
 use Rattle.hiera_merge.specs.declared.merge.Merge.TheVariants as by
 use Rattle.hiera_lookup.specs.Found.{found, found_in, root_of}
 use Rattle.hiera_lookup.specs.Look.{Looks, look, look_within, merge_for, interpolated}
-use Rattle.hiera_lookup.specs.Looked.{Found}
 use Rattle.hiera_lookup.specs.Options.{options_key, option_in}
 use Rattle.hiera_lookup.specs.Plain.{IsFirst, LacksOptions}
 use Rattle.hiera_lookup.specs.World.{World, world_of}

@@ -5,3 +5,4 @@ mod PlainTexts
 pub mod Sources
 pub mod Steps
 pub mod Firsts
+pub mod LiteralValues

@@ -1,10 +1,11 @@
 -- Sources as the code holds them.
-use denote.Ref.{Bor}
-use Rattle.std.proofs.Common.{◌≡◌, ℕ, zero, suc, ◌+◌, ◌-◌, ◌<◌, ◌≤◌, true, false, List, [], ◌∷◌, length, drop, take, get_or, Option, None, Some, option_map, map, Ok, refl, sym, ap, ◌∙◌, arith}
-use Rattle.std.specs.Prelude.{option_copied, slice_get}
+use Rattle.std.proofs.Common.{◌≡◌, ℕ, zero, suc, ◌+◌, ◌-◌, ◌<◌, ◌≤◌, true, false, List, [], ◌∷◌, length, drop, take, get_or, Option, None, Some, map, Ok, refl, sym, ap, ◌∙◌, arith}
+use Rattle.std.specs.Prelude.{option_and_then, slice_get}
 use Rattle.pp_values.specs.Views.{view}
-use Rattle.pp_values.specs.declared.value.Value.{Value}
 use Rattle.hiera_config.specs.Found.{source_views}
+use Rattle.hiera_config.specs.Meant.{go_on}
+use Rattle.hiera_config.specs.Sound.{first_value}
+use Rattle.hiera_config.specs.Sources as s
 use Rattle.hiera_config.specs.declared.searching.Source.{Source}
 use Rattle.hiera_merge.specs.declared.merge.Merge.{Merge}
 use Rattle.hiera_merge.specs.declared.merge.Merge.TheVariants as by
@@ -12,14 +13,10 @@ use Rattle.hiera_merge.specs.Digging.{dug}
 use Rattle.pp_values.specs.Datum.{Datum}
 use Rattle.hiera_merge.specs.Merges.{merged}
 use Rattle.hiera_lookup.specs.Filled.{Answer}
-use Rattle.hiera_lookup.specs.Found.{found_in, dug_or_refused, steps_of}
+use Rattle.hiera_lookup.specs.Found.{found, found_in, dug_or_refused, root_of, steps_of}
 use Rattle.hiera_lookup.specs.Options.{has_options, highest_path}
+use Rattle.hiera_lookup.specs.Plain.{IsFound}
 use Rattle.hiera_lookup.specs.World.{World}
-
-pub option_seen : (o : Option (Bor Value)) (p : Option Value) → option_copied o ≡ p
-    → option_map (λ v. view v.now) o ≡ option_map view p
-option_seen None p e = ap (option_map view) e
-option_seen (Some v) p e = ap (option_map view) e
 
 pub found_none : (key : List ℕ) (merge : Merge) (xs : List Source) → length xs < 1
     → found_in key merge (source_views xs) ≡ Ok None
@@ -60,6 +57,22 @@ found_first key merge [] steps d found first at same is = absurd (cc at)
 found_first key merge (x ∷ xs) steps d found first at same is =
     let high : view x.value ≡ d = cc at in
     rw (first, is, same, sym high) refl
+
+by_first : (key : List ℕ) (merge : Merge) (ss : List s.Source) (v : Option Datum) → merge ≡ by.First
+    → first_value ss ≡ v → found_in key merge ss ≡ Ok (option_and_then (dug (steps_of key)) v)
+unfolding found_in
+by_first key merge [] v first is = ap (λ o. Ok (option_and_then (dug (steps_of key)) o)) is
+by_first key merge (x ∷ xs) v first is =
+    ap (λ m. dug_or_refused key (merged m x.0 (map (λ (y : s.Source). y.0) xs))) first
+    ∙ ap (λ o. Ok (option_and_then (dug (steps_of key)) o)) is
+
+-- what the highest has, where that is known without the others
+pub found_highest : (w : World) (m : Option (List ℕ)) (key : List ℕ) (merge : Merge) (v o : Option Datum)
+    → IsFound w m (root_of key) merge v → o ≡ option_and_then (dug (steps_of key)) v → found w m key merge ≡ Ok o
+unfolding found go_on
+found_highest w m key merge v o known is =
+    ap (λ x. go_on x (found_in key merge)) known.highest.told
+    ∙ by_first key merge known.highest.sources v known.first known.highest.highest ∙ ap Ok (sym is)
 
 -- ---- the file of options that are none
 

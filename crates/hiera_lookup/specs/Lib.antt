@@ -7,3 +7,4 @@ pub mod Options
 pub mod Look
 pub mod Finds
 pub mod Plain
+pub mod Literals

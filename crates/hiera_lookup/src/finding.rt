@@ -1,5 +1,5 @@
 //! What the sources have for a key.
-ghost use Rattle.std.specs.Prelude.{◌≡◌, ◌<◌, IfOk, Some, length, map, option_map, slice_get};
+ghost use Rattle.std.specs.Prelude.{◌≡◌, ◌<◌, IfOk, IfSome, Some, length, map, option_map, option_and_then, slice_get};
 ghost use Rattle.pp_values.specs.Views.{view};
 ghost use Rattle.hiera_config.specs.Meant.{MeetsBy};
 ghost use Rattle.hiera_config.specs.Found.{source_views};
@@ -7,11 +7,12 @@ ghost use Rattle.hiera_merge.specs.Digging.{dug};
 ghost use Rattle.hiera_merge.specs.Merges.{merged};
 ghost use Rattle.pp_funcs.specs.Lists.{behind};
 ghost use Rattle.hiera_lookup.specs.Found.{found, found_in, dug_or_refused, root_of, steps_of};
+ghost use Rattle.hiera_lookup.specs.Plain.{IsFound};
 ghost use Rattle.hiera_lookup.specs.World.{seen};
 
 use crate::refusals::mismatch_at;
 use crate::world::World;
-use hiera_config::{Refused, Source, sources};
+use hiera_config::{Refused, Source, highest_value, sources};
 use hiera_merge::{Merge, dig, merged, parts, root, steps};
 use pp_values::{Memory, Value, copy};
 use std::alloc::Global;
@@ -29,8 +30,29 @@ pub fn found(
         (found (seen world.now) (option_map (λ t. t.now) of_module.entry) key.now merge) }
 {
     let parts = parts(alloc, key)?;
-    let sources = sources(alloc, world.data, &world.variables, of_module, root(&parts))?;
+    let root_key = root(&parts);
+    if let Some(value) = highest_if(alloc, world, of_module, root_key, merge) {
+        return Ok(part_if(alloc, value, steps(&parts))?);
+    }
+    let sources = sources(alloc, world.data, &world.variables, of_module, root_key)?;
     found_in(alloc, key, steps(&parts), merge, sources)
+}
+
+/// By `first`, what the highest source has, where it is plain without a look at the others.
+fn highest_if(
+    alloc: Global,
+    world: &World<'_>,
+    of_module: Option<&str>,
+    root: &str,
+    merge: Merge,
+) -> Option<Option<Value>>
+    ensures { IfSome result (λ v. IsFound (seen world.now) (option_map (λ t. t.now) of_module.entry) root.now merge
+        (option_map view v)) }
+{
+    match merge {
+        Merge::First => highest_value(alloc, world.data, of_module, root),
+        _ => None,
+    }
 }
 
 fn found_in(
@@ -111,6 +133,16 @@ fn part(alloc: Global, value: Value, steps: &[&str]) -> Result<Option<Value>, Me
         return Ok(Some(value));
     }
     copied(alloc, dig(&value, steps))
+}
+
+fn part_if(alloc: Global, value: Option<Value>, steps: &[&str]) -> Result<Option<Value>, Memory>
+    ensures { IfOk result (λ o. option_map view o
+        ≡ option_and_then (dug (map (λ x. x.now) steps.now)) (option_map view value)) }
+{
+    match value {
+        Some(value) => part(alloc, value, steps),
+        None => Ok(None),
+    }
 }
 
 fn copied(alloc: Global, value: Option<&Value>) -> Result<Option<Value>, Memory>

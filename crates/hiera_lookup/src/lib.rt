@@ -6,6 +6,7 @@ pub mod asking;
 pub mod calling;
 pub mod filling;
 pub mod finding;
+pub mod literals;
 pub mod looked;
 pub mod looking;
 pub mod option_reading;

@@ -11,6 +11,7 @@ use crate::answer::{Answer, Answers};
 use crate::asking::{Ask, add_asks};
 use crate::filling::fill;
 use crate::finding::{found, root_of};
+use crate::literals::is_literal;
 use crate::looked::Looked;
 use crate::option_reading::{OPTIONS, option_in};
 use crate::refusals::{loop_at, too_deep};
@@ -59,11 +60,11 @@ fn look_within(
         (option_map (λ t. t.now) of_module.entry) key.now merge) }
 {
     if let Some(value) = found_first(alloc, world, busy, of_module, key, merge, left) {
-        return interpolated(alloc, world, busy, value.as_ref(), left);
+        return interpolated(alloc, world, busy, value, left);
     }
     let merge = merge_for(alloc, world, busy, of_module, key, merge, left)?;
     let value = found(alloc, world, of_module, key, merge)?;
-    interpolated(alloc, world, busy, value.as_ref(), left)
+    interpolated(alloc, world, busy, value, left)
 }
 
 #[cycle(look)]
@@ -117,25 +118,37 @@ fn option_for(
     option_in(alloc, world, of_module, root, &options)
 }
 
-/// The value, with what it asks for looked up first, in order, and then filled in.
+/// The value, with what it asks for looked up first, in order, and then filled in. Most values ask for nothing, and are
+/// handed on as they are.
 #[cycle(look)]
 fn interpolated(
     alloc: Global,
     world: &World<'_>,
     busy: &Texts,
-    value: Option<&Value>,
+    value: Option<Value>,
     left: u64,
 ) -> Result<Looked, Refused>
     ensures { MeetsBy looked_view result
-        (interpolated (seen world.now) (look (seen world.now) left) busy.now
-        (option_map (λ v. view v.now) value.entry)) }
+        (interpolated (seen world.now) (look (seen world.now) left) busy.now (option_map view value)) }
 {
     match value {
-        None => Ok(Looked {
-            value: None,
-            answers: Answers::new(alloc),
-        }),
-        Some(value) => interpolated_value(alloc, world, busy, value, left),
+        None => Ok(without_answers(alloc, None)),
+        Some(value) => {
+            if is_literal(&value) {
+                return Ok(without_answers(alloc, Some(value)));
+            }
+            interpolated_value(alloc, world, busy, &value, left)
+        }
+    }
+}
+
+/// What was found where nothing was looked up for it.
+fn without_answers(alloc: Global, value: Option<Value>) -> Looked
+    ensures { looked_view result ≡ (option_map view value, []) }
+{
+    Looked {
+        value,
+        answers: Answers::new(alloc),
     }
 }
 

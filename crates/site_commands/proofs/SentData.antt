@@ -52,7 +52,10 @@ data_file_fields_send =
         search (sendable, crosses, option.the_field_send, json_send) depth 40 fits 40000,
         (
           search (sendable, crosses, option.the_field_send, config.the_send) depth 40 fits 40000,
-          (search (sendable, crosses, vec.the_send, global.the_send) depth 40 fits 40000, tt),
+          (
+            search (sendable, crosses, vec.the_send, global.the_send) depth 40 fits 40000,
+            (search (sendable, crosses) depth 40 fits 40000, tt),
+          ),
         ),
       ),
     )
@@ -65,7 +68,10 @@ data_file_fields_sync =
         search (sendable, crosses, option.the_field_sync, json_sync) depth 40 fits 40000,
         (
           search (sendable, crosses, option.the_field_sync, config.the_sync) depth 40 fits 40000,
-          (search (sendable, crosses, vec.the_sync, global.the_sync) depth 40 fits 40000, tt),
+          (
+            search (sendable, crosses, vec.the_sync, global.the_sync) depth 40 fits 40000,
+            (search (sendable, crosses) depth 40 fits 40000, tt),
+          ),
         ),
       ),
     )

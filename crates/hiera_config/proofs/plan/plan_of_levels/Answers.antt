@@ -1,4 +1,4 @@
-use Rattle.std.proofs.Common.{◌≡◌, ◌++◌, ◌∷◌, [], ◌+◌, length, ap, subst, sym, ◌∙◌}
+use Rattle.std.proofs.Common.{length, ap, subst, sym, ◌∙◌}
 use Rattle.hiera_config.specs.Keeping.{filed}
 use Rattle.hiera_config.specs.Planning.{Planned}
 use Rattle.hiera_config.proofs.PlanLemmas.{planned_more, no_plan, one_longer}

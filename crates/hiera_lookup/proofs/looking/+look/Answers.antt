@@ -1,4 +1,4 @@
-use Rattle.std.proofs.Common.{◌≡◌, ◌++◌, None, Some, Ok, Err, option_map, refl, sym, ap, ◌∙◌}
+use Rattle.std.proofs.Common.{◌≡◌, ◌++◌, Some, Ok, Err, option_map, refl, sym, ap, ◌∙◌}
 use Rattle.std.proofs.Math.ListN.{drop_of_length-le}
 use Rattle.pp_values.specs.declared.fault.What.TheVariants as what
 use Rattle.pp_values.specs.Views.{view}
@@ -7,7 +7,7 @@ use Rattle.hiera_lookup.specs.Asks.{asks}
 use Rattle.hiera_lookup.specs.Look.{answer, interpolated, merge_for, look_within, look}
 use Rattle.hiera_lookup.specs.World.{seen}
 use Rattle.hiera_lookup.proofs.Firsts.{first_within}
-use Rattle.hiera_lookup.proofs.Sources.{option_seen}
+use Rattle.hiera_lookup.proofs.LiteralValues.{literal_whole}
 use Rattle.hiera_lookup.proofs.Steps.{look_busy, look_deep, look_free, answers_at, answers_made, answers_end, interpolated_by, option_hash, option_looked}
 use Rattle.hiera_lookup.proofs.looking.+look.Goals as goal
 
@@ -25,12 +25,12 @@ unfolding look_within
 look_within-returns t c =
     after_ok _ c.in_ok-merge.ensures
     (after_ok _ c.in_ok-value.ensures
-    (rw (option_seen c.as_ref-2.result c.in_ok-value.value c.as_ref-2.ensures.value) at c.interpolated-2.ensures))
+    c.interpolated-2.ensures)
 
 pub look_within-returns-in-Some : goal.look_within-returns-in-Some
 look_within-returns-in-Some t c =
     same_meets (first_within _ _ _ _ _ _ _ c.in-Some.ensures)
-    (rw (option_seen c.as_ref.result c.in-Some.value c.as_ref.ensures.value) at c.interpolated.ensures)
+    c.interpolated.ensures
 
 pub option_for-returns-then-eq : goal.option_for-returns-then-eq
 option_for-returns-then-eq t c = same_meets (option_hash _ _ _ _ _ (sym c.eq.ensures ∙ c.if-eq.true)) (gives refl)
@@ -76,10 +76,15 @@ answers-returns t c =
 
 pub interpolated-returns-in-None : goal.interpolated-returns-in-None
 unfolding interpolated
-interpolated-returns-in-None t c = rw c.in-None.is (gives (ap (λ xs. Ok (None, xs)) (sym c.new.ensures)))
+interpolated-returns-in-None t c = rw c.in-None.is (gives (ap Ok (sym c.without_answers.ensures)))
 
-pub interpolated-returns-in-Some : goal.interpolated-returns-in-Some
-interpolated-returns-in-Some t c = rw c.in-Some.is c.interpolated_value.ensures
+pub interpolated-returns-then-is_literal : goal.interpolated-returns-then-is_literal
+interpolated-returns-then-is_literal t c =
+    same_meets
+    (ap (λ o. interpolated (seen c.args.world.now) (look (seen c.args.world.now) c.args.left) c.args.busy.now
+    (option_map view o)) c.in-Some.is
+    ∙ literal_whole _ _ _ _ (sym c.is_literal.ensures ∙ c.if-is_literal.true))
+    (gives (ap Ok (sym c.without_answers-then-is_literal.ensures)))
 
 pub interpolated_value-returns-in_err-answers : goal.interpolated_value-returns-in_err-answers
 interpolated_value-returns-in_err-answers t c =

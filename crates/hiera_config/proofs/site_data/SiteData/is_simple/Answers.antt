@@ -1,4 +1,4 @@
-use Rattle.std.proofs.Common.{◌≡◌, true, sym, subst, ◌∙◌}
+use Rattle.std.proofs.Common.{subst}
 use Rattle.hiera_config.specs.Keeping.{AreSimple}
 use Rattle.hiera_config.proofs.FileLemmas.{simple_texts}
 use Rattle.hiera_config.proofs.site_data.SiteData.is_simple.Goals as goal

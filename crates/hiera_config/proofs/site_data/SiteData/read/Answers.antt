@@ -6,14 +6,20 @@ use Rattle.hiera_config.proofs.FileLemmas.{filed_insert, kept_insert, simple_ins
 use Rattle.hiera_config.proofs.Simple.{both_left, both_right}
 use Rattle.hiera_config.proofs.site_data.SiteData.read.Goals as goal
 
-pub plan_at-requires : goal.plan_at-requires
-plan_at-requires c =
+pub plan_at-global-requires : goal.plan_at-global-requires
+plan_at-global-requires c =
     subst AreKept (sym c.in_ok-insert.ensures.entries)
     (kept_insert c.self.inside.by_path.entries c.args.path c.in_ok-file.file
     (subst (λ p. IsKept p c.in_ok-file.file) c.as_str.ensures.text c.in_ok-file.ensures.kept) c.self.invariant.0)
 
-pub plan_at-requires-2 : goal.plan_at-requires-2
-plan_at-requires-2 c =
+pub plan_at-environment-requires : goal.plan_at-environment-requires
+plan_at-environment-requires c =
+    subst AreKept (sym c.in_ok-insert.ensures.entries)
+    (kept_insert c.self.inside.by_path.entries c.args.path c.in_ok-file.file
+    (subst (λ p. IsKept p c.in_ok-file.file) c.as_str.ensures.text c.in_ok-file.ensures.kept) c.self.invariant.0)
+
+pub are_sound_layers-self-inside-requires-clause-kept : goal.are_sound_layers-self-inside-requires-clause-kept
+are_sound_layers-self-inside-requires-clause-kept c =
     subst AreKept (sym c.in_ok-insert.ensures.entries)
     (kept_insert c.self.inside.by_path.entries c.args.path c.in_ok-file.file
     (subst (λ p. IsKept p c.in_ok-file.file) c.as_str.ensures.text c.in_ok-file.ensures.kept) c.self.invariant.0)
@@ -28,7 +34,8 @@ invariant_of-self-2 c = (
       subst KeptSimple (sym c.in_ok-insert.ensures.entries)
       (simple_insert c.self.inside.by_path.entries c.args.path c.in_ok-file.file (both_right _ _ simple)
       (c.self.invariant.1 (both_left _ _ simple))),
-  (c.plan_at.ensures, c.plan_at-2.ensures),
+  (c.plan_at-global.ensures, c.plan_at-environment.ensures),
+  λ is. rw (c.deref.ensures.value, c.deref-2.ensures.value) at (c.are_sound_layers-self-inside.ensures is),
 )
 
 pub returns : goal.returns

@@ -1,7 +1,8 @@
 -- Sources as the code holds them.
-use Rattle.std.proofs.Common.{◌≡◌, ℕ, zero, suc, ◌+◌, ◌-◌, ◌<◌, ◌≤◌, true, false, List, [], ◌∷◌, length, drop, take, get_or, Option, None, Some, map, Ok, refl, sym, ap, ◌∙◌, arith}
+use Rattle.std.proofs.Common.{◌≡◌, ℕ, zero, suc, ◌+◌, ◌<◌, true, false, List, [], ◌∷◌, length, drop, get_or, Option, None, Some, map, Ok, refl, sym, ap, ◌∙◌, arith}
 use Rattle.std.specs.Prelude.{option_and_then, slice_get}
-use Rattle.pp_values.specs.Views.{view}
+use Rattle.pp_values.specs.Views.{view, views}
+use Rattle.pp_values.specs.declared.value.Value.{Value}
 use Rattle.hiera_config.specs.Found.{source_views}
 use Rattle.hiera_config.specs.Meant.{go_on}
 use Rattle.hiera_config.specs.Sound.{first_value}
@@ -18,35 +19,30 @@ use Rattle.hiera_lookup.specs.Options.{has_options, highest_path}
 use Rattle.hiera_lookup.specs.Plain.{IsFound}
 use Rattle.hiera_lookup.specs.World.{World}
 
-pub found_none : (key : List ℕ) (merge : Merge) (xs : List Source) → length xs < 1
+pub found_none : (key : List ℕ) (merge : Merge) (xs : List Source) → map (λ s. view s.value) xs ≡ []
     → found_in key merge (source_views xs) ≡ Ok None
 unfolding found_in
-found_none key merge [] h = refl
-found_none key merge (x ∷ xs) h = absurd (omega (arith, h))
+found_none key merge [] is = refl
+found_none key merge (x ∷ xs) is = absurd (cc is)
 
 values_of : (xs : List Source) → map (λ s. s.0) (source_views xs) ≡ map (λ s. view s.value) xs
 values_of [] = refl
 values_of (x ∷ xs) = ap (λ ds. view x.value ∷ ds) (values_of xs)
 
-all_of : (xs : List Source) → take (length xs) xs ≡ xs
-all_of [] = refl
-all_of (x ∷ xs) = ap (λ ys. x ∷ ys) (all_of xs)
-
-behind_first : (x : Source) (xs : List Source) → take (length (x ∷ xs) - 1) (drop 1 (x ∷ xs)) ≡ xs
-behind_first x xs = let is : length (x ∷ xs) - 1 ≡ length xs = omega arith in rw is (all_of xs)
-
-pub found_more : (key : List ℕ) (merge : Merge) (xs : List Source) (high : Source) → 1 ≤ length xs
-    → high ≡ get_or xs 0 high
-    → found_in key merge (source_views xs)
-    ≡ dug_or_refused key (merged merge (view high.value) (map (λ s. view s.value) (take (length xs - 1) (drop 1 xs))))
+pub found_more : (key : List ℕ) (merge : Merge) (xs : List Source) (high : Datum) (lower : List Datum)
+    → map (λ s. view s.value) xs ≡ high ∷ lower
+    → found_in key merge (source_views xs) ≡ dug_or_refused key (merged merge high lower)
 unfolding found_in
-found_more key merge [] high h at = absurd (omega (arith, h))
-found_more key merge (x ∷ xs) high h at =
-    ap (λ ys. dug_or_refused key (merged merge (view x.value) ys))
-    (values_of xs ∙ ap (map (λ (s : Source). view s.value)) (sym (behind_first x xs)))
-    ∙ ap (λ (y : Source). dug_or_refused key
-    (merged merge (view y.value) (map (λ s. view s.value) (take (length (x ∷ xs) - 1) (drop 1 (x ∷ xs))))))
-    (sym at)
+found_more key merge [] high lower is = absurd (cc is)
+found_more key merge (x ∷ xs) high lower is =
+    let first : view x.value ≡ high = cc is in
+    let rest : map (λ (s : Source). view s.value) xs ≡ lower = cc is in
+    ap (λ ds. dug_or_refused key (merged merge (view x.value) ds)) (values_of xs ∙ rest)
+    ∙ ap (λ d. dug_or_refused key (merged merge d lower)) first
+
+pub none_of_length : (vs : List Value) → length vs ≡ 0 → views vs ≡ []
+none_of_length [] is = refl
+none_of_length (v ∷ vs) is = absurd (omega (arith, is))
 
 -- by `first`, the highest alone
 pub found_first : (key : List ℕ) (merge : Merge) (xs : List Source) (steps : List (List ℕ)) (d : Datum)

@@ -1,11 +1,10 @@
 //! What the sources have for a key.
-ghost use Rattle.std.specs.Prelude.{◌≡◌, ◌<◌, IfOk, IfSome, Some, length, map, option_map, option_and_then, slice_get};
-ghost use Rattle.pp_values.specs.Views.{view};
+ghost use Rattle.std.specs.Prelude.{◌≡◌, ◌<◌, ◌∷◌, IfOk, IfSome, Some, length, map, option_map, option_and_then, slice_get, vec_len};
+ghost use Rattle.pp_values.specs.Views.{view, views};
 ghost use Rattle.hiera_config.specs.Meant.{MeetsBy};
 ghost use Rattle.hiera_config.specs.Found.{source_views};
 ghost use Rattle.hiera_merge.specs.Digging.{dug};
 ghost use Rattle.hiera_merge.specs.Merges.{merged};
-ghost use Rattle.pp_funcs.specs.Lists.{behind};
 ghost use Rattle.hiera_lookup.specs.Found.{found, found_in, dug_or_refused, root_of, steps_of};
 ghost use Rattle.hiera_lookup.specs.Plain.{IsFound};
 ghost use Rattle.hiera_lookup.specs.World.{seen};
@@ -67,7 +66,7 @@ fn found_in(
 {
     match merge {
         Merge::First if !sources.is_empty() => Ok(part(alloc, highest(sources), steps)?),
-        _ => found_in_all(alloc, key, steps, merge, &sources),
+        _ => found_in_all(alloc, key, steps, merge, sources),
     }
 }
 
@@ -85,15 +84,17 @@ fn found_in_all(
     key: &str,
     steps: &[&str],
     merge: Merge,
-    sources: &[Source],
+    sources: Vec<Source>,
 ) -> Result<Option<Value>, Refused>
     requires { map (λ x. x.now) steps.now ≡ steps_of key.now }
-    ensures { MeetsBy (option_map view) result (found_in key.now merge (source_views sources.now)) }
+    ensures { MeetsBy (option_map view) result (found_in key.now merge (source_views sources.items)) }
 {
-    match sources {
-        [] => Ok(None),
-        [high, lower @ ..] => found_among(alloc, key, steps, merge, high, lower),
+    let mut values = into_values(alloc, sources)?;
+    if values.is_empty() {
+        return Ok(None);
     }
+    let high = take_first(&mut values);
+    found_among(alloc, key, steps, merge, high, values)
 }
 
 fn found_among(
@@ -101,28 +102,34 @@ fn found_among(
     key: &str,
     steps: &[&str],
     merge: Merge,
-    high: &Source,
-    lower: &[Source],
+    high: Value,
+    lower: Vec<Value>,
 ) -> Result<Option<Value>, Refused>
     requires { map (λ x. x.now) steps.now ≡ steps_of key.now }
-    ensures { MeetsBy (option_map view) result
-        (dug_or_refused key.now (merged merge (view high.now.value) (map (λ s. view s.value) lower.now))) }
+    ensures { MeetsBy (option_map view) result (dug_or_refused key.now (merged merge (view high) (views lower.items))) }
 {
-    let lower = values(alloc, lower)?;
-    match merged(alloc, merge, &high.value, &lower)? {
+    match merged(alloc, merge, high, lower)? {
         Some(value) => Ok(part(alloc, value, steps)?),
         None => Err(mismatch_at(alloc, key)),
     }
 }
 
-fn values<'a>(alloc: Global, sources: &'a [Source]) -> Result<Vec<&'a Value>, Memory>
-    ensures { IfOk result (λ v. behind v.items ≡ map (λ s. view s.value) sources.now) }
+/// The values without their paths.
+fn into_values(alloc: Global, sources: Vec<Source>) -> Result<Vec<Value>, Memory>
+    ensures { IfOk result (λ v. views v.items ≡ map (λ s. view s.value) sources.items) }
 {
-    let mut values = Vec::new(alloc);
+    let mut values = Vec::with_capacity(alloc, sources.len())?;
     for source in sources {
-        values.push(&source.value)?;
+        values.push(source.into_value())?;
     }
     Ok(values)
+}
+
+fn take_first(values: &mut Vec<Value>) -> Value
+    requires { 0 < vec_len values.old }
+    ensures { views values.old.items ≡ view result ∷ views values.new.items }
+{
+    values.remove(0)
 }
 
 /// What the steps lead to. Without steps that is the value itself, and nothing is copied.

@@ -1,6 +1,5 @@
 //! Hashes and lists joined in depth.
 ghost use Rattle.std.specs.Prelude.{◌≡◌, ◌<◌, IfOk, OnOk, IfSome, Some, length, vec_len};
-ghost use Rattle.pp_funcs.specs.Lists.{behind};
 ghost use Rattle.pp_values.specs.Datum.{undef, entries_of};
 ghost use Rattle.pp_values.specs.Places.{place_of, value_of_place, with_value};
 ghost use Rattle.pp_values.specs.Views.{view, views, pair_views};
@@ -8,7 +7,7 @@ ghost use Rattle.hiera_merge.specs.Merges.{pairs_in, deep, deep_pairs, deep_merg
 ghost use Rattle.hiera_merge.specs.DeepSteps.{members_in, with_deep, IsPairing, IsMergedAt};
 
 use crate::uniting::joined;
-use pp_values::{Memory, Pairs, Value, copy, same_key};
+use pp_values::{Memory, Pairs, Value, Values, same_key};
 use std::alloc::Global;
 use std::mem;
 
@@ -21,12 +20,12 @@ pub enum Pairing {
 }
 
 /// The highest value with the lower ones merged into it, one after another from the highest down.
-pub fn deep_merge(alloc: Global, high: &Value, lower: &[&Value]) -> Result<Value, Memory>
-    ensures { IfOk result (λ v. view v ≡ deep_merge (view high.now) (behind lower.now)) }
+pub fn deep_merge(alloc: Global, high: Value, lower: Vec<Value>) -> Result<Value, Memory>
+    ensures { IfOk result (λ v. view v ≡ deep_merge (view high) (views lower.items)) }
 {
-    let mut out = copy(alloc, high)?;
+    let mut out = high;
     for low in lower {
-        out = deep(alloc, out, copy(alloc, low)?)?;
+        out = deep(alloc, out, low)?;
     }
     Ok(out)
 }
@@ -42,7 +41,11 @@ fn deep(alloc: Global, high: Value, low: Value) -> Result<Value, Memory>
             let low = pairs_of(alloc, low);
             Ok(Value::Hash(deep_pairs(alloc, high, low)?))
         }
-        Pairing::Lists => Ok(Value::List(joined(alloc, members(&low), members(&high))?)),
+        Pairing::Lists => {
+            let high = members_of(alloc, high);
+            let low = members_of(alloc, low);
+            Ok(Value::List(joined(alloc, low, high)?))
+        }
         Pairing::Higher => Ok(high),
     }
 }
@@ -69,12 +72,13 @@ fn pairs_of(alloc: Global, value: Value) -> Pairs
 }
 
 /// The members of a list. Another value has none.
-fn members(value: &Value) -> &[Value]
-    ensures { views result.now ≡ members_in (view value.now) }
+fn members_of(alloc: Global, value: Value) -> Values
+    ensures { result ≡ members_in (view value) }
 {
-    match value {
-        Value::List(items) => items.as_slice(),
-        _ => &[],
+    let mut value = value;
+    match &mut value {
+        Value::List(items) => mem::replace(items, Values::new(alloc)),
+        _ => Values::new(alloc),
     }
 }
 

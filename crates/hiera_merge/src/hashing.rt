@@ -1,29 +1,28 @@
 //! Hashes joined one level deep.
 ghost use Rattle.std.specs.Prelude.{◌≡◌, ◌∷◌, IfOk, OnOk};
-ghost use Rattle.pp_funcs.specs.Lists.{behind};
-ghost use Rattle.pp_values.specs.Views.{view};
+ghost use Rattle.pp_values.specs.Views.{view, views};
 ghost use Rattle.hiera_merge.specs.Merges.{pairs_in, with_pairs, hash_merge};
 
 use pp_values::{Memory, Pairs, Value, copy};
 use std::alloc::Global;
 
 /// The pairs of these hashes. The lower's keys stand first, in their places, and the higher's values win.
-pub fn hash_merge(alloc: Global, high: &Value, lower: &[&Value]) -> Result<Pairs, Memory>
-    ensures { IfOk result (λ ps. ps ≡ hash_merge (view high.now ∷ behind lower.now)) }
+pub fn hash_merge(alloc: Global, high: &Value, lower: &[Value]) -> Result<Pairs, Memory>
+    ensures { IfOk result (λ ps. ps ≡ hash_merge (view high.now ∷ views lower.now)) }
 {
     let mut out = merged_lower(alloc, lower)?;
     put_over(alloc, &mut out, high)?;
     Ok(out)
 }
 
-fn merged_lower(alloc: Global, lower: &[&Value]) -> Result<Pairs, Memory>
-    ensures { IfOk result (λ ps. ps ≡ hash_merge (behind lower.now)) }
+fn merged_lower(alloc: Global, lower: &[Value]) -> Result<Pairs, Memory>
+    ensures { IfOk result (λ ps. ps ≡ hash_merge (views lower.now)) }
 {
     let mut out = Pairs::new(alloc);
     let mut count = lower.len();
     while count > 0 {
         count -= 1;
-        put_over(alloc, &mut out, lower[count])?;
+        put_over(alloc, &mut out, &lower[count])?;
     }
     Ok(out)
 }

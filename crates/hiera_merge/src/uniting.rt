@@ -16,19 +16,42 @@ use std::alloc::Global;
 const FEW: usize = 16;
 
 /// The members of all these values, those of lists within them too, each once.
-pub fn united(alloc: Global, high: &Value, lower: &[&Value]) -> Result<Values, Memory>
-    ensures { IfOk result (λ l. l ≡ united (view high.now) (behind lower.now)) }
+pub fn united(alloc: Global, high: &Value, lower: &[Value]) -> Result<Values, Memory>
+    ensures { IfOk result (λ l. l ≡ united (view high.now) (views lower.now)) }
 {
     let mut members = Vec::new(alloc);
     add_flat(&mut members, high)?;
-    for value in lower {
-        add_flat(&mut members, value)?;
-    }
+    add_flats(&mut members, lower)?;
     without_repeats(alloc, members.as_slice())
 }
 
-/// The members of both lists, each once.
-pub fn joined(alloc: Global, lower: &[Value], higher: &[Value]) -> Result<Values, Memory>
+/// The members of both lists, each once. Few members move.
+pub fn joined(alloc: Global, lower: Values, higher: Values) -> Result<Values, Memory>
+    ensures { IfOk result (λ l. l ≡ joined lower higher) }
+{
+    let count = lower.len().saturating_add(higher.len());
+    if count > FEW {
+        return many_joined(alloc, lower.as_slice(), higher.as_slice());
+    }
+    let mut kept = Vec::with_capacity(alloc, count)?;
+    add_new(&mut kept, lower)?;
+    add_new(&mut kept, higher)?;
+    Ok(Values::from_vec(kept))
+}
+
+/// Appends the members that are not there yet, each once.
+fn add_new(kept: &mut Vec<Value>, members: Values) -> Result<(), Memory>
+    ensures { OnOk result (views kept.new.items ≡ fold with_new (views kept.old.items) members) }
+{
+    for member in members.into_vec() {
+        if !has_same(kept.as_slice(), &member) {
+            kept.push(member)?;
+        }
+    }
+    Ok(())
+}
+
+fn many_joined(alloc: Global, lower: &[Value], higher: &[Value]) -> Result<Values, Memory>
     ensures { IfOk result (λ l. l ≡ joined (views lower.now) (views higher.now)) }
 {
     let mut members = Vec::with_capacity(alloc, lower.len().saturating_add(higher.len()))?;

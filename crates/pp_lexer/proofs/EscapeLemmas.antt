@@ -1,10 +1,10 @@
 -- What a text says, by its backslashes.
-use Rattle.std.proofs.Common.{◌≡◌, ◌≢◌, ℕ, zero, suc, ◌+◌, ◌-◌, ◌<◌, ◌≤◌, Bool, true, false, ◌==◌, List, [], ◌∷◌, ◌++◌, length, drop, get_or, refl, ap, sym, subst, append-nil, ◌∙◌, length-drop, IsUtf8, arith}
+use Rattle.std.proofs.Common.{◌≡◌, ◌≢◌, ℕ, zero, suc, ◌+◌, ◌-◌, ◌<◌, ◌≤◌, Bool, true, false, ◌||◌, ◌==◌, List, [], ◌∷◌, ◌++◌, length, drop, get_or, refl, ap, sym, subst, append-nil, ◌∙◌, length-drop, IsUtf8, arith}
 use Rattle.std.proofs.Math.Dec.{eqb-suc-zero}
 use Rattle.std.proofs.Math.Seq.{take-length, drop-length}
 use Rattle.std.proofs.lemmas.Bool.{eqb-true}
 use Rattle.std.proofs.lemmas.Str.{IsCharBoundary-after_ascii, IsCharBoundary-start}
-use Rattle.std.specs.List.{position_or_len, before_first, after_first}
+use Rattle.std.specs.List.{list_any, position_or_len, before_first, after_first}
 use Rattle.std.specs.Str.{IsCharBoundary}
 use Rattle.pp_lexer.specs.Escapes.{said, escape, bytes_of, IsEscape, IsSplit}
 use Rattle.pp_lexer.specs.declared.escapes.Escape.{Escape}
@@ -86,3 +86,13 @@ says_first q false b z is other = rw is (eqb-suc-zero (length (said q 0 z)))
 pub plain_says : (q : Quotes) (z : List ℕ) → 0 < length z → get_or z 0 0 ≢ 92 → (length (said q 0 z) == 0) ≡ false
 plain_says q [] some other = absurd (omega arith)
 plain_says q (b ∷ z) some other = says_first q (b == 92) b z refl other
+
+itself_step : (q : Quotes) (t : Bool) (b : ℕ) (z : List ℕ) → (b == 92) ≡ t → (t || list_any (λ b. b == 92) z) ≡ false → (list_any (λ b. b == 92) z ≡ false → said q 0 z ≡ z) → said q 0 (b ∷ z) ≡ b ∷ z
+unfolding said
+itself_step q true b z is none further = absurd (cc)
+itself_step q false b z is none further = rw is (ap (λ s. b ∷ s) (further none))
+
+-- a text in which no backslash stands says itself
+pub says_itself : (q : Quotes) (z : List ℕ) → list_any (λ b. b == 92) z ≡ false → said q 0 z ≡ z
+says_itself q [] none = unfold said in refl
+says_itself q (b ∷ z) none = itself_step q (b == 92) b z refl none (says_itself q z)

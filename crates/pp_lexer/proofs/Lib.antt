@@ -1,4 +1,5 @@
 pub mod ByteLemmas
+pub mod CodeLemmas
 mod Examples
 pub mod EscapeLemmas
 pub mod LineLemmas

@@ -9,18 +9,19 @@ use Rattle.pp_lexer.specs.declared.words.TheConstants.{WORDS}
 abbrev Table : Type 0
 Table = List (List ℕ × Kind)
 
--- the keywords, and the functions that may be called without parentheses
+-- the keywords, and the functions that may be called without parentheses, the shorter first
 abbrev all_words : Table
 all_words =
-    (codes "and", k.And) ∷ (codes "case", k.Case) ∷ (codes "class", k.Class) ∷ (codes "default", k.Default) ∷
-    (codes "define", k.Define) ∷ (codes "else", k.Else) ∷ (codes "elsif", k.Elsif) ∷ (codes "false", k.False) ∷
-    (codes "function", k.Function) ∷ (codes "if", k.If) ∷ (codes "in", k.In) ∷ (codes "inherits", k.Inherits) ∷
-    (codes "node", k.Node) ∷ (codes "or", k.Or) ∷ (codes "true", k.True) ∷ (codes "undef", k.Undef) ∷
-    (codes "unless", k.Unless) ∷ (codes "include", k.StatementFunction) ∷ (codes "contain", k.StatementFunction) ∷
-    (codes "require", k.StatementFunction) ∷ (codes "realize", k.StatementFunction) ∷
-    (codes "notice", k.StatementFunction) ∷ (codes "warning", k.StatementFunction) ∷
-    (codes "info", k.StatementFunction) ∷ (codes "debug", k.StatementFunction) ∷
-    (codes "err", k.StatementFunction) ∷ (codes "fail", k.StatementFunction) ∷ []
+    (codes "if", k.If) ∷ (codes "in", k.In) ∷ (codes "or", k.Or) ∷ (codes "and", k.And) ∷
+    (codes "err", k.StatementFunction) ∷ (codes "case", k.Case) ∷ (codes "else", k.Else) ∷
+    (codes "node", k.Node) ∷ (codes "true", k.True) ∷ (codes "info", k.StatementFunction) ∷
+    (codes "fail", k.StatementFunction) ∷ (codes "class", k.Class) ∷ (codes "elsif", k.Elsif) ∷
+    (codes "false", k.False) ∷ (codes "undef", k.Undef) ∷ (codes "debug", k.StatementFunction) ∷
+    (codes "define", k.Define) ∷ (codes "unless", k.Unless) ∷ (codes "notice", k.StatementFunction) ∷
+    (codes "default", k.Default) ∷ (codes "include", k.StatementFunction) ∷
+    (codes "contain", k.StatementFunction) ∷ (codes "require", k.StatementFunction) ∷
+    (codes "realize", k.StatementFunction) ∷ (codes "warning", k.StatementFunction) ∷
+    (codes "function", k.Function) ∷ (codes "inherits", k.Inherits) ∷ []
 
 words_are : map (λ w. (w.0.now, w.1)) WORDS ≡ all_words
 words_are = refl

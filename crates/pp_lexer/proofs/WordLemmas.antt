@@ -1,12 +1,12 @@
 -- How the definition of a word goes on by one byte.
-use Rattle.std.proofs.Common.{◌≡◌, ℕ, ◌+◌, ◌<◌, Bool, true, false, not, ◌&&◌, ◌||◌, ◌==◌, List, [], ◌∷◌, length, drop, map, get_or, refl, ap, ◌∙◌, subst, add-one, arith, nat_le}
+use Rattle.std.proofs.Common.{◌≡◌, ℕ, ◌+◌, ◌<◌, Bool, true, false, not, ◌&&◌, ◌||◌, ◌==◌, List, [], ◌∷◌, length, drop, map, get_or, refl, ap, sym, ◌∙◌, subst, add-one, arith}
 use Rattle.std.proofs.Math.Seq.{drop-cons}
 use Rattle.std.proofs.lemmas.Bool.Decides.{nat_tests}
 use Rattle.std.proofs.lemmas.Slice.Eq.{bytes_eq-Decides}
 use Rattle.std.specs.Char.{is_ascii_digit, is_ascii_lowercase, is_ascii_uppercase}
 use Rattle.std.specs.Str.{bytes_eq}
 use Rattle.pp_lexer.specs.Bytes.{is_word}
-use Rattle.pp_lexer.specs.Words.{continues_word, word_end, named, name_kind}
+use Rattle.pp_lexer.specs.Words.{continues_word, word_end, named, name_kind, words_of_length}
 use Rattle.pp_lexer.specs.declared.kind.Kind.{Kind}
 use Rattle.pp_lexer.specs.declared.kind.Kind.TheVariants as kinds
 use Rattle.pp_lexer.specs.declared.words.TheConstants.{WORDS}
@@ -24,7 +24,7 @@ both : (p q : Bool) → (p && q) ≡ true → (p ≡ true) × (q ≡ true)
 both true q h = (refl, h)
 both false q h = absurd (cc)
 
-is_no : (p : Bool) → (p ≡ true → ⊥) → p ≡ false
+pub is_no : (p : Bool) → (p ≡ true → ⊥) → p ≡ false
 is_no true not_so = absurd (not_so refl)
 is_no false not_so = refl
 
@@ -64,25 +64,25 @@ pub word_stops : (sort : WordSort) (second : Bool) (at : ℕ) (z : List ℕ) →
 word_stops sort true at z h off ends = absurd (cc)
 word_stops sort false at z h off ends = rw (drop_at z at h, ends) refl
 
--- ---- names that are longer than all words
+-- ---- the words of one length
 
-abbrev are_short : List (List ℕ × Kind) → Bool
-are_short [] = true
-are_short (w ∷ ws) = nat_le (length w.0) 8 && are_short ws
+other_length : (z w : List ℕ) → (length w == length z) ≡ false → bytes_eq z w ≡ true → ⊥
+other_length z w off same =
+    let e : length w ≡ length z = sym (ap length ((bytes_eq-Decides z w).0 same)) in
+    let on : (length w == length z) ≡ true = grind (arith, nat_tests, e) in
+    cc
 
-differs : (z w : List ℕ) → 8 < length z → nat_le (length w) 8 ≡ true → bytes_eq z w ≡ true → ⊥
-differs z w long short same =
-    let e : length z ≡ length w = ap length ((bytes_eq-Decides z w).0 same) in
-    let low : length w < 9 = grind (arith, nat_tests, short) in
-    omega (arith, e, low)
+-- a word of another length is not the one that is spelled so
+named_step : (c : Bool) (w : List ℕ × Kind) (ws : List (List ℕ × Kind)) (z : List ℕ) → (length w.0 == length z) ≡ c → named ws z ≡ named (words_of_length (length z) ws) z → named (w ∷ ws) z ≡ named (words_of_length (length z) (w ∷ ws)) z
+named_step true w ws z is further = rw (is, further) refl
+named_step false w ws z is further =
+    let no : bytes_eq z w.0 ≡ false = is_no (bytes_eq z w.0) (other_length z w.0 is) in
+    rw (is, no) further
 
-named_long : (ws : List (List ℕ × Kind)) (z : List ℕ) → 8 < length z → are_short ws ≡ true → named ws z ≡ kinds.Name
-named_long [] z long short = refl
-named_long (w ∷ ws) z long short =
-    let parts = both (nat_le (length w.0) 8) (are_short ws) short in
-    let no : bytes_eq z w.0 ≡ false = is_no (bytes_eq z w.0) (differs z w.0 long parts.0) in
-    rw no (named_long ws z long parts.1)
+named_of_length : (ws : List (List ℕ × Kind)) (z : List ℕ) → named ws z ≡ named (words_of_length (length z) ws) z
+named_of_length [] z = refl
+named_of_length (w ∷ ws) z = named_step (length w.0 == length z) w ws z refl (named_of_length ws z)
 
-pub long_name : (z : List ℕ) → 8 < length z → name_kind z ≡ kinds.Name
+pub named_by_length : (ws : List (List ℕ × Kind)) (z : List ℕ) → ws ≡ words_of_length (length z) (map (λ w. (w.0.now, w.1)) WORDS) → named ws z ≡ name_kind z
 unfolding name_kind
-long_name z long = named_long (map (λ w. (w.0.now, w.1)) WORDS) z long refl
+named_by_length ws z is = ap (λ x. named x z) is ∙ sym (named_of_length (map (λ w. (w.0.now, w.1)) WORDS) z)

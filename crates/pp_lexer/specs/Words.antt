@@ -1,5 +1,5 @@
 -- Names, types and variables.
-use Rattle.std.specs.Prelude.{ℕ, ◌+◌, Bool, true, false, ◌&&◌, ◌||◌, if◌then◌else◌, ◌==◌, List, [], ◌∷◌, take, drop, map, slice_index}
+use Rattle.std.specs.Prelude.{ℕ, ◌+◌, Bool, true, false, ◌&&◌, ◌||◌, if◌then◌else◌, ◌==◌, List, [], ◌∷◌, take, drop, length, map, slice_index}
 use Rattle.std.specs.Char.{is_ascii_lowercase, is_ascii_uppercase}
 use Rattle.std.specs.List.{list_any}
 use Rattle.std.specs.Str.{bytes_eq}
@@ -46,6 +46,11 @@ word_len sort z = word_end sort (slice_index z 0 == 58) 1 (drop 1 z)
 abbrev pub named : List (List ℕ × Kind) → List ℕ → Kind
 named [] spelling = kinds.Name
 named (w ∷ ws) spelling = if bytes_eq spelling w.0 then w.1 else named ws spelling
+
+-- the words of one length
+abbrev pub words_of_length : ℕ → List (List ℕ × Kind) → List (List ℕ × Kind)
+words_of_length n [] = []
+words_of_length n (w ∷ ws) = if length w.0 == n then w ∷ words_of_length n ws else words_of_length n ws
 
 -- A keyword or the name of a statement function is a name that is spelled exactly so.
 unfoldable pub name_kind : List ℕ → Kind

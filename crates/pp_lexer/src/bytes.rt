@@ -14,7 +14,7 @@ pub fn byte(bytes: &[u8], at: usize) -> u8
     if at < bytes.len() { bytes[at] } else { 0 }
 }
 
-fn is_white(b: u8) -> bool
+pub fn is_white(b: u8) -> bool
     ensures { result ≡ spec.is_white b }
 {
     b == b' ' || b == b'\t' || b == b'\r' || b == b'\n'
@@ -28,7 +28,7 @@ pub fn is_word(b: u8) -> bool
 }
 
 /// The length of the white space at the front.
-fn white_len(bytes: &[u8]) -> usize
+pub fn white_len(bytes: &[u8]) -> usize
     requires { spec.is_white (slice_index bytes.now 0) ≡ true }
     ensures value { result ≡ prefix_len spec.is_white bytes.now }
     ensures within { (0 < result) × (result ≤ length bytes.now) }
@@ -43,7 +43,7 @@ fn white_len(bytes: &[u8]) -> usize
 }
 
 /// The place behind the line feed that ends the line.
-fn line_end(bytes: &[u8], from: usize) -> usize
+pub fn line_end(bytes: &[u8], from: usize) -> usize
     requires { from ≤ length bytes.now }
     ensures value { result ≡ spec.line_end from (drop from bytes.now) }
     ensures within { (from ≤ result) × (result ≤ length bytes.now) }
@@ -78,7 +78,7 @@ pub fn opens_comment(bytes: &[u8]) -> bool
 }
 
 /// The length of the comment at the front, or 0 where nothing ends it.
-fn comment_len(bytes: &[u8]) -> usize
+pub fn comment_len(bytes: &[u8]) -> usize
     requires { 2 ≤ length bytes.now }
     ensures value { result ≡ spec.some_or_zero (spec.comment_end 2 (drop 2 bytes.now)) }
     ensures within { result ≤ length bytes.now }

@@ -201,12 +201,14 @@ fn unescaped(alloc: Global, quotes: Quotes, spelling: &str) -> Result<Text, Memo
 }
 
 /// What a text says, from what stands between its quotes.
+#[tactic(auto, using(crate::proofs::EscapeLemmas::says_itself))]
 pub fn said(alloc: Global, quotes: Quotes, spelling: &str) -> Result<Text, Memory>
     ensures { IfOk result (λ t. t ≡ spec.said quotes 0 spelling.now) }
 {
-    match split_at_escape(quotes, spelling) {
-        None => Text::from_str(alloc, spelling),
-        Some(_) => unescaped(alloc, quotes, spelling),
+    if spelling.as_bytes().contains(&b'\\') {
+        unescaped(alloc, quotes, spelling)
+    } else {
+        Text::from_str(alloc, spelling)
     }
 }
 

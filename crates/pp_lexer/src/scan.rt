@@ -1,13 +1,15 @@
 //! Cuts a text into its tokens.
 
-ghost use Rattle.std.specs.Prelude.{◌≡◌, ◌+◌, ◌^◌, ◌<◌, ◌++◌, ◌∷◌, [], length, slice_index, IfOk, OnOk, drop};
-ghost use Rattle.pp_lexer.specs.Bytes as bytes;
+ghost use Rattle.std.specs.Prelude.{◌≡◌, ◌+◌, ◌^◌, ◌<◌, ◌++◌, ◌∷◌, [], length, slice_index, IfOk, OnOk, drop, true};
+ghost use Rattle.pp_lexer.specs.Bytes as blanks;
 ghost use Rattle.pp_lexer.specs.Escapes.{said};
 ghost use Rattle.pp_lexer.specs.Fronts.{HasEnds, IsBetweenQuotes, IsPart, IsPiece};
 ghost use Rattle.pp_lexer.specs.Tokens as spec;
 ghost use Rattle.pp_lexer.specs.declared.escapes.Quotes.TheVariants.{Double};
 
-use crate::bytes::{blank_len, line_at, meets_brace, opens_comment};
+use crate::bytes::{
+    comment_len, is_white, line_at, line_end, meets_brace, opens_comment, white_len,
+};
 use crate::escapes::{Quotes, says_nothing};
 use crate::front::{Found, Front};
 use crate::kind::Kind;
@@ -45,18 +47,56 @@ fn token_front(bytes: &[u8]) -> Front
     }
 }
 
+/// White space at a place outside of texts.
+#[tactic(auto, unfolding(crate::specs::Tokens::in_code, crate::specs::Bytes::blank_len))]
+fn white(bytes: &[u8]) -> Front
+    requires { blanks.is_white (slice_index bytes.now 0) ≡ true }
+    ensures value { result ≡ spec.in_code bytes.now }
+    ensures piece { IsPiece bytes.now result }
+{
+    let len = white_len(bytes);
+    Front::new(Found::Blank, len)
+}
+
+/// A comment to the end of its line.
+#[tactic(auto, using(crate::proofs::CodeLemmas::comment_here))]
+fn line_comment(bytes: &[u8]) -> Front
+    requires { slice_index bytes.now 0 ≡ 35 }
+    ensures value { result ≡ spec.in_code bytes.now }
+    ensures piece { IsPiece bytes.now result }
+{
+    let len = line_end(bytes, 1);
+    Front::new(Found::Blank, len)
+}
+
+/// A comment between `/*` and `*/`, which the end of the file may cut off.
+#[tactic(auto, unfolding(crate::specs::Tokens::in_code, crate::specs::Bytes::blank_len))]
+fn long_comment(bytes: &[u8]) -> Front
+    requires { blanks.opens_comment bytes.now ≡ true }
+    ensures value { result ≡ spec.in_code bytes.now }
+    ensures piece { IsPiece bytes.now result }
+{
+    let blank = comment_len(bytes);
+    if blank == 0 {
+        Front::new(Found::CutOff, bytes.len())
+    } else {
+        Front::new(Found::Blank, blank)
+    }
+}
+
 /// What stands at a place outside of texts.
-#[tactic(auto, unfolding(crate::specs::Tokens::in_code))]
+#[tactic(auto, unfolding(crate::specs::Tokens::in_code, crate::specs::Bytes::blank_len))]
 fn in_code(bytes: &[u8]) -> Front
     requires { 0 < length bytes.now }
     ensures value { result ≡ spec.in_code bytes.now }
     ensures piece { IsPiece bytes.now result }
 {
-    let blank = blank_len(bytes);
-    if blank != 0 {
-        Front::new(Found::Blank, blank)
+    if is_white(bytes[0]) {
+        white(bytes)
+    } else if bytes[0] == b'#' {
+        line_comment(bytes)
     } else if opens_comment(bytes) {
-        Front::new(Found::CutOff, bytes.len())
+        long_comment(bytes)
     } else {
         token_front(bytes)
     }
@@ -204,7 +244,7 @@ pub fn scan(alloc: Global, text: &str) -> Result<Tokens<'_>, Memory>
 /// The line of the end of the file: one more than the number of line feeds.
 pub fn end_line(text: &str) -> u32
     requires { length text.now + 1 < 2 ^ 32 }
-    ensures { result ≡ bytes.end_line text.now }
+    ensures { result ≡ blanks.end_line text.now }
 {
     line_at(1, text.as_bytes())
 }

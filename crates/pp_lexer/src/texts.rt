@@ -1,6 +1,6 @@
 //! Texts in quotes: where they and their parts end.
 
-ghost use Rattle.std.specs.Prelude.{◌≡◌, ◌-◌, ◌<◌, ◌≤◌, length, drop, slice_index, IfSome, IsTrue, true, false};
+ghost use Rattle.std.specs.Prelude.{◌≡◌, ◌-◌, ◌<◌, ◌≤◌, length, drop, slice_index, IfSome, IsTrue, Some, true, false};
 ghost use Rattle.pp_lexer.specs.Fronts.{IsPart, IsPiece};
 ghost use Rattle.pp_lexer.specs.Fronts as fronts;
 ghost use Rattle.pp_lexer.specs.Texts as spec;
@@ -9,6 +9,7 @@ use crate::bytes::byte;
 use crate::front::{Found, Front};
 use crate::kind::Kind;
 use crate::words::{WordSort, begins_word, word_len};
+use memchr::memchr2;
 
 /// The place behind the quote that closes a text in single quotes.
 fn quoted_end(bytes: &[u8], from: usize) -> Option<usize>
@@ -27,6 +28,35 @@ fn quoted_end(bytes: &[u8], from: usize) -> Option<usize>
     None
 }
 
+/// The same of the text at the front, where no backslash stands in it.
+#[tactic(auto, using(crate::proofs::TextLemmas::quoted_plain))]
+fn plain_end(bytes: &[u8]) -> Option<usize>
+    requires { 0 < length bytes.now }
+    ensures value { IfSome result (λ end. spec.quoted_end false 1 (drop 1 bytes.now) ≡ Some end) }
+    ensures within { IfSome result (λ end. (1 < end) × (end ≤ length bytes.now)) }
+    ensures ends { IfSome result (λ end. slice_index bytes.now (end - 1) ≡ 39) }
+{
+    let at = memchr2(b'\'', b'\\', &bytes[1..])? + 1;
+    if bytes[at] == b'\'' {
+        Some(at + 1)
+    } else {
+        None
+    }
+}
+
+/// The place behind the quote that closes the text in single quotes at the front.
+fn closing_end(bytes: &[u8]) -> Option<usize>
+    requires { 0 < length bytes.now }
+    ensures value { result ≡ spec.quoted_end false 1 (drop 1 bytes.now) }
+    ensures within { IfSome result (λ end. (1 < end) × (end ≤ length bytes.now)) }
+    ensures ends { IfSome result (λ end. slice_index bytes.now (end - 1) ≡ 39) }
+{
+    match plain_end(bytes) {
+        None => quoted_end(bytes, 1),
+        Some(end) => Some(end),
+    }
+}
+
 /// A text in single quotes.
 #[tactic(auto, unfolding(crate::specs::Texts::quoted))]
 pub fn quoted(bytes: &[u8]) -> Front
@@ -35,7 +65,7 @@ pub fn quoted(bytes: &[u8]) -> Front
     ensures value { result ≡ spec.quoted bytes.now }
     ensures piece { IsPiece bytes.now result }
 {
-    match quoted_end(bytes, 1) {
+    match closing_end(bytes) {
         None => Front::mark(Kind::TextBegin, bytes.len()),
         Some(end) => Front::new(Found::Quoted, end),
     }

@@ -17,39 +17,36 @@ pub enum WordSort {
     Variable,
 }
 
-/// The keywords and the names of the statement functions. Any other name is just a name.
+/// The keywords and the names of the statement functions, the shorter first. Any other name is just a name.
 pub const WORDS: [(&[u8], Kind); 27] = [
-    (b"and", Kind::And),
-    (b"case", Kind::Case),
-    (b"class", Kind::Class),
-    (b"default", Kind::Default),
-    (b"define", Kind::Define),
-    (b"else", Kind::Else),
-    (b"elsif", Kind::Elsif),
-    (b"false", Kind::False),
-    (b"function", Kind::Function),
     (b"if", Kind::If),
     (b"in", Kind::In),
-    (b"inherits", Kind::Inherits),
-    (b"node", Kind::Node),
     (b"or", Kind::Or),
+    (b"and", Kind::And),
+    (b"err", Kind::StatementFunction),
+    (b"case", Kind::Case),
+    (b"else", Kind::Else),
+    (b"node", Kind::Node),
     (b"true", Kind::True),
+    (b"info", Kind::StatementFunction),
+    (b"fail", Kind::StatementFunction),
+    (b"class", Kind::Class),
+    (b"elsif", Kind::Elsif),
+    (b"false", Kind::False),
     (b"undef", Kind::Undef),
+    (b"debug", Kind::StatementFunction),
+    (b"define", Kind::Define),
     (b"unless", Kind::Unless),
+    (b"notice", Kind::StatementFunction),
+    (b"default", Kind::Default),
     (b"include", Kind::StatementFunction),
     (b"contain", Kind::StatementFunction),
     (b"require", Kind::StatementFunction),
     (b"realize", Kind::StatementFunction),
-    (b"notice", Kind::StatementFunction),
     (b"warning", Kind::StatementFunction),
-    (b"info", Kind::StatementFunction),
-    (b"debug", Kind::StatementFunction),
-    (b"err", Kind::StatementFunction),
-    (b"fail", Kind::StatementFunction),
+    (b"function", Kind::Function),
+    (b"inherits", Kind::Inherits),
 ];
-
-/// No keyword and no name of a statement function is longer.
-const LONGEST: usize = 8;
 
 pub fn begins_segment(sort: WordSort, b: u8) -> bool
     ensures { result ≡ spec.begins_segment sort b }
@@ -147,14 +144,27 @@ fn named(mut table: &[(&[u8], Kind)], spelling: &[u8]) -> Kind
     Kind::Name
 }
 
-#[tactic(auto, unfolding(crate::specs::Words::name_kind), using(crate::proofs::WordLemmas::long_name))]
+/// The words of this length.
+fn words_of(len: usize) -> &'static [(&'static [u8], Kind)]
+    ensures { map (λ w. (w.0.now, w.1)) result.now ≡ spec.words_of_length len (map (λ w. (w.0.now, w.1)) WORDS) }
+{
+    match len {
+        2 => &WORDS[..3],
+        3 => &WORDS[3..5],
+        4 => &WORDS[5..11],
+        5 => &WORDS[11..16],
+        6 => &WORDS[16..19],
+        7 => &WORDS[19..25],
+        8 => &WORDS[25..],
+        _ => &[],
+    }
+}
+
+#[tactic(auto, unfolding(crate::specs::Words::name_kind), using(crate::proofs::WordLemmas::named_by_length))]
 fn name_kind(spelling: &[u8]) -> Kind
     ensures { result ≡ spec.name_kind spelling.now }
 {
-    if spelling.len() > LONGEST {
-        return Kind::Name;
-    }
-    named(&WORDS, spelling)
+    named(words_of(spelling.len()), spelling)
 }
 
 /// A name, with its kind.

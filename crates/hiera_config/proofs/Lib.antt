@@ -6,6 +6,7 @@ mod PieceLemmas
 mod PieceExamples
 mod ConfigExamples
 mod SourceExamples
+mod SoundExamples
 mod ReadLists
 mod FileLemmas
 mod PathLemmas

@@ -1,5 +1,5 @@
 -- Look-ups in small worlds: what a value asks for, what is filled in, merges, options, loops and depth.
-use Rattle.std.proofs.Common.{◌≡◌, ℕ, List, [], ◌∷◌, Option, Some, None, Ok, Err, if◌then◌else◌, pos, codes, refl}
+use Rattle.std.proofs.Common.{◌≡◌, ℕ, true, false, List, [], ◌∷◌, Option, Some, None, Ok, Err, if◌then◌else◌, pos, codes, refl}
 use Rattle.std.specs.Fmt.{digits}
 use Rattle.std.specs.Str.{bytes_eq}
 use Rattle.pp_values.specs.Datum as d
@@ -14,6 +14,7 @@ use Rattle.hiera_merge.specs.declared.merge.Merge.TheVariants as by
 use Rattle.hiera_lookup.specs.declared.asking.Ask.TheVariants as ask
 use Rattle.hiera_lookup.specs.Asks.{asks}
 use Rattle.hiera_lookup.specs.Filled.{Gives, filled}
+use Rattle.hiera_lookup.specs.Literals.{is_literal}
 use Rattle.hiera_lookup.specs.Found.{found, found_in}
 use Rattle.hiera_lookup.specs.Look.{answer, answers, interpolated, option_for, merge_for, look_within, look, looked_up}
 use Rattle.hiera_lookup.specs.Options.{options_key, option_in, bad_options}
@@ -72,6 +73,16 @@ asked : (asks (t (codes "a%{lookup('b')}%{v}%{hiera('c')}")) ≡ ask.Key (codes 
     × (asks (t (codes "%{literal('%')}{lookup('a')}")) ≡ [])
 unfolding pieces_from form_of method_of whole_alias cut_at trimmed_start trimmed_end
 asked = (refl, refl, refl, refl, refl, refl)
+
+-- ---- values in which nothing is interpolated, keys and members too
+
+literals : (is_literal (t (codes "100% {v}")) ≡ true) × (is_literal (n 1) ≡ true)
+    × (is_literal (hash (at (codes "a") (list (t [] ∷ n 1 ∷ [])) ∷ at (codes "b") d.undef ∷ [])) ≡ true)
+    × (is_literal (t (codes "a%{v}")) ≡ false) × (is_literal (list (n 1 ∷ t (codes "%{") ∷ [])) ≡ false)
+    × (is_literal (hash (at (codes "%{v}") (n 1) ∷ [])) ≡ false)
+    × (is_literal (hash (at (codes "a") (hash (at (codes "b") (t (codes "%{v}")) ∷ [])) ∷ [])) ≡ false)
+unfolding cut_at
+literals = (refl, refl, refl, refl, refl, refl, refl)
 
 -- ---- what is filled in
 

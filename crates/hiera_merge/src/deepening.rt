@@ -1,5 +1,5 @@
 //! Hashes and lists joined in depth.
-ghost use Rattle.std.specs.Prelude.{◌≡◌, ◌<◌, IfOk, OnOk, IfSome, Some, length, vec_len};
+ghost use Rattle.std.specs.Prelude.{◌≡◌, ◌<◌, ◌≤◌, IfOk, OnOk, IfSome, None, Some, drop, length, vec_len};
 ghost use Rattle.pp_values.specs.Datum.{undef, entries_of};
 ghost use Rattle.pp_values.specs.Places.{place_of, value_of_place, with_value};
 ghost use Rattle.pp_values.specs.Views.{view, views, pair_views};
@@ -86,25 +86,31 @@ fn members_of(alloc: Global, value: Value) -> Values
 fn deep_pairs(alloc: Global, high: Pairs, low: Pairs) -> Result<Pairs, Memory>
     ensures { IfOk result (λ ps. ps ≡ deep_pairs (entries_of high) low) }
 {
+    let count = low.len();
     let mut out = low.into_vec();
     for (key, value) in high.into_vec() {
-        put_deep(alloc, &mut out, key, value)?;
+        put_deep(alloc, &mut out, count, key, value)?;
     }
     Ok(Pairs::from_vec(out))
 }
 
-/// Puts the value over the one that the key has, merged with it, or the pair behind the others.
+/// Puts the value over the one that the key has, merged with it, or the pair behind the others. Only the first `count`
+/// pairs may have the key.
 #[cycle(deep)]
 fn put_deep(
     alloc: Global,
     out: &mut Vec<(Value, Value)>,
+    count: usize,
     key: Value,
     value: Value,
 ) -> Result<(), Memory>
+    requires within { count ≤ length out.old.items }
+    requires free { place_of (view key) (drop count (pair_views out.old.items)) ≡ None }
     ensures { OnOk result (pair_views out.new.items
         ≡ with_deep (view key) (view value) (pair_views out.old.items)) }
 {
-    match place_of(out.as_slice(), &key) {
+    let among = &out.as_slice()[..count];
+    match place_of(among, &key) {
         Some(place) => {
             merge_at(alloc, out, place, value)?;
             Ok(())

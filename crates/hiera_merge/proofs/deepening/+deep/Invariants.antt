@@ -1,11 +1,12 @@
 -- The measure: the size of the higher value. The loop: what is there, with the rest, is what all gives.
-use Rattle.std.proofs.Common.{◌≡◌, ◌+◌, ◌*◌, ◌≤◌, IsTrue}
+use Rattle.std.proofs.Common.{◌≡◌, ◌+◌, ◌*◌, ◌≤◌, IsTrue, length}
 use Rattle.std.specs.Vec.Iter.{into_iter_items}
 use Rattle.pp_values.specs.Datum.{entries_of}
 use Rattle.pp_values.specs.Keys.{are_distinct}
 use Rattle.pp_values.specs.Sizes.{datum_size, pairs_size}
 use Rattle.pp_values.specs.Views.{view, pair_views}
 use Rattle.hiera_merge.specs.Merges.{deep_pairs}
+use Rattle.hiera_merge.proofs.Fronts.{Free}
 use Rattle.hiera_merge.proofs.deepening.+deep.Given as goal
 
 abbrev pub decreases-deep : goal.decreases-deep
@@ -27,3 +28,5 @@ invariant-deep_pairs-loop-key l =
     × IsTrue (are_distinct (pair_views l.out.items))
     × IsTrue (are_distinct (pair_views (into_iter_items l.key-iterator)))
     × (pairs_size (pair_views (into_iter_items l.key-iterator)) ≤ pairs_size l.fn.high)
+    × (l.count ≤ length (pair_views l.out.items))
+    × Free l.count (pair_views l.out.items) (into_iter_items l.key-iterator)

@@ -1,5 +1,5 @@
 -- The definitions at worked examples. Each line with `refl` holds by computing.
-use Rattle.std.proofs.Common.{◌≡◌, ℕ, true, false, List, [], ◌∷◌, None, Some, Ok, Err, refl, codes, pos}
+use Rattle.std.proofs.Common.{◌≡◌, true, false, [], ◌∷◌, None, Some, Ok, Err, refl, codes, pos}
 use Rattle.pp_tree.specs.Building.{expr_at, node_name}
 use Rattle.pp_tree.specs.Building.{node_of as node_of_names}
 use Rattle.pp_tree.specs.Tables.{Entries}

@@ -3,3 +3,4 @@ mod Levels
 mod NodeLines
 mod Pairs
 mod Single
+pub mod Runs

@@ -32,7 +32,7 @@ module _ (inner : Inner) (e : Expr) (here : Here) where
   of_chain [] first line is = of_operand (out-Operand first) line is
   of_chain (l ∷ ls) first line is = absurd is
 
-  of_statement : (s : StatementLayer) → IsStatement e s → statement_by inner s here ≡ valued (inner.value e here)
+  pub of_statement : (s : StatementLayer) → IsStatement e s → statement_by inner s here ≡ valued (inner.value e here)
   unfolding chain_rule
   of_statement (Statement-F.Chain c) is = of_chain c.links c.first c.at is
   of_statement (Statement-F.Words x) is = absurd is

@@ -1,6 +1,6 @@
 -- What the calls of an evaluator mean.
 use Rattle.std.specs.Prelude.{ℕ, ◌+◌, ◌-◌, ⊤, Bool, true, false, ◌||◌, List, [], ◌∷◌, Option, None, Some}
-use Rattle.std.specs.Prelude.{option_and_then, unwrap_or, Result, Ok, Err, codes}
+use Rattle.std.specs.Prelude.{option_and_then, unwrap_or, Result, Ok, codes}
 use Rattle.std.specs.Map.{lookup}
 use Rattle.pp_tree.specs.Names.{normal, same_name}
 use Rattle.pp_tree.specs.Tables.{Entries}

@@ -1,10 +1,9 @@
 -- What has no parts means what it says, wherever a level is left.
-use Rattle.std.specs.Prelude.{ℕ, suc, ◌≡◌, Some, refl}
+use Rattle.std.specs.Prelude.{ℕ, suc, ◌≡◌, Some}
 use Rattle.pp_tree.specs.Building.{form_of, line_of}
 use Rattle.pp_tree.specs.Layers.{FormLayer}
 use Rattle.pp_tree.specs.declared.collector.Test.TheOpen.{Form-F}
 use Rattle.pp_tree.specs.declared.expr.Form.{out-Form}
-use Rattle.pp_tree.specs.declared.expr.Expr.{Expr}
 use Rattle.pp_values.specs.Datum.{Datum}
 use Rattle.class_eval.specs.Meaning.{value_by, value_rule, within}
 use Rattle.eval_world.specs.Inner.{Inner}

@@ -6,3 +6,4 @@ pub mod Postfixes
 pub mod Single
 pub mod Starting
 pub mod Statements
+pub mod Running

@@ -1,5 +1,5 @@
 -- What each part of a manifest means, with so many levels left.
-use Rattle.std.specs.Prelude.{ℕ, zero, suc, List}
+use Rattle.std.specs.Prelude.{ℕ, zero, suc}
 use Rattle.pp_tree.specs.Building.{form_of, line_of}
 use Rattle.pp_tree.specs.Layers.{FormLayer}
 use Rattle.pp_tree.specs.declared.collector.Test.TheOpen.{Form-F}

@@ -1,5 +1,5 @@
 -- The world before any statement is evaluated.
-use Rattle.std.specs.Prelude.{List, [], ◌∷◌, Some, None, codes}
+use Rattle.std.specs.Prelude.{[], ◌∷◌, Some, None, codes}
 use Rattle.pp_values.specs.Datum.{Datum}
 use Rattle.pp_values.specs.declared.place.TheConstants.{MAIN_MANIFEST}
 use Rattle.override_rules.specs.Meaning.{scope_opened}

@@ -5,15 +5,14 @@ ghost use Rattle.pp_values.specs.Views.{view};
 ghost use Rattle.class_eval.specs.Evaluating as spec;
 ghost use Rattle.class_eval.specs.Meaning.{within};
 ghost use Rattle.class_eval.specs.Starting.{started};
-ghost use Rattle.class_eval.specs.Statements.{statements_from};
 ghost use Rattle.eval_world.specs.Outcomes.{Gives, nothing, same};
 ghost use Rattle.eval_world.specs.Worlds.{top};
 
 use crate::classes::class_at;
 use crate::knot::{Whole, evaluate};
 use crate::nodes::{has_nodes, node_of};
+use crate::running::run;
 use crate::starting::start_world;
-use crate::statements::block;
 use eval_classes::{BodyOwner, enter_body, run_instance};
 use eval_world::{Environment, Evaluated, Forms, Goal, Here, World};
 use override_rules::Overrides;
@@ -158,24 +157,12 @@ fn levels_left(depth: u32) -> u32
 }
 
 /// First the statements, and then the definition of the node.
-#[tactic(auto, unfolding(crate::specs::Evaluating::main_rule))]
+#[tactic(auto, using(crate::proofs::Runs::main_ran, crate::proofs::Runs::main_refused))]
 fn run_file(world: &mut World<'_>, main: &File, node: &Text) -> Result<(), Stop>
     ensures { Gives nothing (spec.main_rule main.now node.now world.old) result world.new }
 {
-    drop(run_statements(world, &main.statements)?);
+    run(world, &main.statements, Here::top(), levels_left(1))?;
     run_nodes(world, &main.definitions, node)
-}
-
-/// The statements of the main manifest, in top scope.
-fn run_statements(world: &mut World<'_>, statements: &Block) -> Result<Evaluated, Stop>
-    ensures { Gives same (statements_from (spec.at_depth 1) d.undef statements.now top world.old) result world.new }
-{
-    let forms: Forms<_, Whole> = Forms {
-        left: levels_left(1),
-        inner: evaluate,
-        meaning: PhantomData,
-    };
-    block(&forms, world, statements, Here::top())
 }
 
 #[tactic(auto, unfolding(crate::specs::Evaluating::nodes_rule))]

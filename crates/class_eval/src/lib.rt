@@ -6,6 +6,7 @@ mod evaluator;
 mod knot;
 mod nodes;
 mod postfixes;
+mod running;
 mod starting;
 mod statements;
 mod top_names;

@@ -14,6 +14,7 @@ use pp_tree::statement::{Block, Chain, Operand, Statement};
 use pp_values::{Stop, Value};
 
 /// The value of a block: that of its last statement that gives one, and Undef where none does.
+#[inline(always)]
 #[tactic(auto, unfolding(crate::specs::Statements::statements_from), using(crate::proofs::Single::of_block))]
 pub fn block<F: Fn(&mut World<'_>, Goal<'_>, Here, u32) -> Result<Evaluated, Stop>, M: Meaning>(
     forms: &Forms<F, M>,
@@ -38,6 +39,7 @@ pub fn block<F: Fn(&mut World<'_>, Goal<'_>, Here, u32) -> Result<Evaluated, Sto
 }
 
 /// The expression that a block is, where it is nothing more.
+#[inline(always)]
 fn only_expression(block: &Block) -> Option<&Expr>
     ensures { IfSome result (λ e. IsBlock e.now block.now) }
 {
@@ -47,7 +49,7 @@ fn only_expression(block: &Block) -> Option<&Expr>
     }
 }
 
-fn stated(statement: &Statement) -> Option<&Expr>
+pub fn stated(statement: &Statement) -> Option<&Expr>
     ensures { IfSome result (λ e. IsStatement e.now (out-Statement statement.now)) }
 {
     match statement {
@@ -84,7 +86,7 @@ fn or_before(given: Option<Evaluated>, before: Evaluated) -> Evaluated
 }
 
 #[tactic(auto, unfolding(crate::specs::Statements::statement_rule))]
-fn statement<F: Fn(&mut World<'_>, Goal<'_>, Here, u32) -> Result<Evaluated, Stop>, M: Meaning>(
+pub fn statement<F: Fn(&mut World<'_>, Goal<'_>, Here, u32) -> Result<Evaluated, Stop>, M: Meaning>(
     forms: &Forms<F, M>,
     world: &mut World<'_>,
     statement: &Statement,

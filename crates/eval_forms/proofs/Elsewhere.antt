@@ -50,3 +50,9 @@ module _ (line : ℕ) (here : Here) (w : World) (p : Place) where
   pub tested_here : (a b : Datum) (t : Bool) → testing.is_of a b p ≡ Ok t
       → answered_at (testing.is_of a b) line here w ≡ Ok (t, w)
   tested_here a b t is = let there = tested_there p (place_at w here line) a b is in rw there refl
+
+-- what is the same at each place
+pub known_here : (line : ℕ) (here : Here) (w : World) (o : Op) (a b d : Datum)
+    → ((q : Place) → steps.combined o a b q ≡ Ok d) → combined o a b line here w ≡ Ok (d, w)
+unfolding combined
+known_here line here w o a b d known = rw (known (place_at w here line)) refl

@@ -1,5 +1,5 @@
 -- The definitions at worked examples. Each line with `refl` holds by computing.
-use Rattle.std.proofs.Common.{◌≡◌, ℕ, true, false, List, [], ◌∷◌, Option, None, Some, Ok, Err, refl, codes, pos, negsuc}
+use Rattle.std.proofs.Common.{◌≡◌, ℕ, true, false, List, [], ◌∷◌, Option, None, Some, Ok, Err, refl, codes, negsuc}
 use Rattle.pp_ops.specs.declared.op.Op.TheVariants as op
 use Rattle.pp_tree.specs.Building.{pair, operation, if_of, elsif, unless_of, case_of, case_option}
 use Rattle.pp_tree.specs.declared.conditions.Case.{out-roll-Case}

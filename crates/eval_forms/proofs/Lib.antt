@@ -3,3 +3,4 @@ mod Examples
 mod Elsewhere
 mod Numbers
 mod Operations
+mod Integers

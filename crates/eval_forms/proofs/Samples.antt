@@ -16,7 +16,7 @@ use Rattle.pp_values.specs.Sort as n
 use Rattle.pp_values.specs.declared.fault.What.{What}
 use Rattle.pp_values.specs.declared.fault.What.TheVariants as what
 use Rattle.eval_world.specs.Inner.{Inner}
-use Rattle.eval_world.specs.Outcomes.{Step, ◌>>=◌, ◌>>◌, pure}
+use Rattle.eval_world.specs.Outcomes.{Step, ◌>>◌, pure}
 use Rattle.eval_world.specs.Worlds.{fault, place_at, write_log}
 use Rattle.eval_world.specs.declared.here.Here.{Here}
 use Rattle.eval_world.specs.declared.world.World.{World}

@@ -1,5 +1,5 @@
 -- Steps over values that are there already, at the place of an expression.
-use Rattle.std.specs.Prelude.{ℕ, Result, codes, List}
+use Rattle.std.specs.Prelude.{ℕ, Result, List}
 use Rattle.expr_eval.specs.Combining as steps
 use Rattle.eval_world.specs.Outcomes.{Step, answered}
 use Rattle.eval_world.specs.Worlds.{fault, place_at}

@@ -1,8 +1,11 @@
 //! Steps over values that are there already.
-ghost use Rattle.std.specs.Prelude.{◌≡◌, IfOk};
+ghost use Rattle.std.specs.Prelude.{◌≡◌, IfOk, IfSome, Ok};
+ghost use Rattle.expr_eval.specs.Combining as steps;
 ghost use Rattle.expr_eval.specs.Faults.{bad_operand};
 ghost use Rattle.expr_eval.specs.Testing.{is_of};
+ghost use Rattle.pp_values.specs.Datum.{int};
 ghost use Rattle.pp_values.specs.Views.{view};
+ghost use Rattle.pp_values.specs.declared.place.Place.{Place};
 ghost use Rattle.eval_forms.specs.Answering as spec;
 ghost use Rattle.eval_world.specs.Outcomes.{Gives, same};
 ghost use Rattle.eval_world.specs.Worlds.{place_at};
@@ -12,10 +15,30 @@ use expr_eval::{combine, is_of};
 use pp_ops::op::Op;
 use pp_values::{Fault, Memory, Stop, Value};
 
-/// The value of an operator over two values. A place is made only where there is a fault to tell: the operator is asked
-/// with no place first, and once more with its own where it refuses.
-#[tactic(auto, using(crate::proofs::Elsewhere::combined_here))]
+/// The value of an operator over two values. Where both are integers `+` and `-` are done here.
+#[inline(always)]
+#[tactic(auto, using(crate::proofs::Elsewhere::known_here))]
 pub fn combined(
+    world: &World<'_>,
+    op: Op,
+    left: &Value,
+    right: &Value,
+    line: u32,
+    here: Here,
+) -> Result<Evaluated, Stop>
+    ensures { Gives same (spec.combined op (view left.now) (view right.now) line here world.now) result world.now }
+{
+    if let Some(number) = of_integers(op, left, right) {
+        return Ok(Evaluated::new(Value::Int(number)));
+    }
+    combined_otherwise(world, op, left, right, line, here)
+}
+
+/// A place is made only where there is a fault to tell: the operator is asked with no place first, and once more with its
+/// own where it refuses.
+#[inline(never)]
+#[tactic(auto, using(crate::proofs::Elsewhere::combined_here))]
+fn combined_otherwise(
     world: &World<'_>,
     op: Op,
     left: &Value,
@@ -33,6 +56,20 @@ pub fn combined(
     }
 }
 
+/// The sum or the difference of two integers, where it has 64 bits.
+#[inline(always)]
+#[tactic(auto, using(crate::proofs::Integers::integer_told))]
+fn of_integers(op: Op, left: &Value, right: &Value) -> Option<i64>
+    ensures { IfSome result (λ z. (p : Place) → steps.combined op (view left.now) (view right.now) p ≡ Ok (int z)) }
+{
+    match (op, left, right) {
+        (Op::Add, Value::Int(a), Value::Int(b)) => a.checked_add(*b),
+        (Op::Subtract, Value::Int(a), Value::Int(b)) => a.checked_sub(*b),
+        _ => None,
+    }
+}
+
+#[inline(never)]
 #[tactic(auto, unfolding(crate::specs::Answering::combined))]
 fn combined_at(
     world: &World<'_>,

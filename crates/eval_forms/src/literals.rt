@@ -69,8 +69,9 @@ fn add_pair<F: Fn(&mut World<'_>, Goal<'_>, Here, u32) -> Result<Evaluated, Stop
     Ok(())
 }
 
-/// How many bytes a text with interpolation begins with room for, so that most of them are taken from memory once.
-const TEXT_ROOM: usize = 64;
+/// How many bytes a text with interpolation begins with room for, so that most of them are taken from memory once. With
+/// what the heap adds to each block they are 64.
+const TEXT_ROOM: usize = 56;
 
 /// `"a${b}c"`
 #[tactic(auto, unfolding(crate::specs::Literals::interpolated_rule, crate::specs::Literals::pieces_from))]

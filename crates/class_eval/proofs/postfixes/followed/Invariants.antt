@@ -1,5 +1,5 @@
 -- What is left decides.
-use Rattle.std.proofs.Common.{◌≡◌, [], length}
+use Rattle.std.proofs.Common.{◌≡◌, length}
 use Rattle.class_eval.specs.Postfixes.{postfixes_from}
 use Rattle.class_eval.proofs.postfixes.followed.Given as goal
 

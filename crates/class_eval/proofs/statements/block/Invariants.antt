@@ -1,5 +1,5 @@
 -- What is left decides.
-use Rattle.std.proofs.Common.{◌≡◌, [], length}
+use Rattle.std.proofs.Common.{◌≡◌, length}
 use Rattle.class_eval.specs.Statements.{block_rule, statements_from}
 use Rattle.class_eval.proofs.statements.block.Given as goal
 

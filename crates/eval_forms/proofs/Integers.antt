@@ -1,0 +1,16 @@
+-- The sum and the difference of two integers, as a checked operation tells them.
+use Rattle.std.proofs.Common.{◌≡◌, Option, None, Some, ℤ, Ok, refl}
+use Rattle.std.specs.Prelude.{FitsSigned, IfSome}
+use Rattle.std.specs.Int.{w64}
+use Rattle.std.specs.Option.{SomeIff}
+use Rattle.pp_ops.proofs.Ranges.{range_told}
+use Rattle.pp_ops.specs.Numbers.{in_range}
+use Rattle.pp_ops.specs.Operators.{at_place}
+use Rattle.pp_ops.specs.declared.op.Op.{Op}
+use Rattle.pp_values.specs.Datum.{int}
+use Rattle.pp_values.specs.declared.place.Place.{Place}
+
+pub integer_told : (q : Op) (o : Option ℤ) (z : ℤ) → SomeIff o (FitsSigned w64 z) z
+    → IfSome o (λ x. (p : Place) → at_place q p (in_range z) ≡ Ok (int x))
+integer_told q None z told = tt
+integer_told q (Some x) z told = λ p. rw (range_told (Some x) z told) refl

@@ -1,7 +1,6 @@
 //! Hashes and lists joined in depth.
-ghost use Rattle.std.specs.Prelude.{◌≡◌, ◌<◌, ◌≤◌, IfOk, OnOk, IfSome, IsTrue, None, Some, drop, length, vec_len};
+ghost use Rattle.std.specs.Prelude.{◌≡◌, ◌<◌, ◌≤◌, IfOk, OnOk, IfSome, None, Some, drop, length, vec_len};
 ghost use Rattle.pp_values.specs.Datum.{undef, entries_of};
-ghost use Rattle.pp_values.specs.Keys.{are_distinct};
 ghost use Rattle.pp_values.specs.Places.{place_of, value_of_place, with_value};
 ghost use Rattle.pp_values.specs.Views.{view, views, pair_views};
 ghost use Rattle.hiera_merge.specs.Merges.{pairs_in, deep, deep_pairs, deep_merge};
@@ -88,21 +87,11 @@ fn deep_pairs(alloc: Global, high: Pairs, low: Pairs) -> Result<Pairs, Memory>
     ensures { IfOk result (λ ps. ps ≡ deep_pairs (entries_of high) low) }
 {
     let count = low.len();
-    let mut out = with_room(low, high.len())?;
+    let mut out = low.into_vec();
     for (key, value) in high.into_vec() {
         put_deep(alloc, &mut out, count, key, value)?;
     }
     Ok(Pairs::from_vec(out))
-}
-
-/// The pairs, with room for as many more.
-fn with_room(pairs: Pairs, more: usize) -> Result<Vec<(Value, Value)>, Memory>
-    ensures pairs { IfOk result (λ v. pair_views v.items ≡ pairs) }
-    ensures distinct { IfOk result (λ v. IsTrue (are_distinct (pair_views v.items))) }
-{
-    let mut items = pairs.into_vec();
-    items.reserve(more)?;
-    Ok(items)
 }
 
 /// Puts the value over the one that the key has, merged with it, or the pair behind the others. Only the first `count`

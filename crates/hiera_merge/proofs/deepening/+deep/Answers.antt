@@ -49,8 +49,8 @@ put_deep-returns-in_ok-push-in-None t c =
 
 pub deep_pairs-loop-key-init : goal.deep_pairs-loop-key-init
 deep_pairs-loop-key-init t c =
-    let many : c.len-count.result ≡ length (pair_views c.in_ok-out.out.items) =
-    c.len-count.ensures ∙ ap length (sym c.in_ok-out.ensures.pairs) in
+    let many : c.len-count.result ≡ length (pair_views c.into_vec-out.result.items) =
+    c.len-count.ensures ∙ ap length (sym c.into_vec-out.ensures.pairs) in
     (search rules, search rules, search rules, search rules, omega (arith, many), all_free _ _ _ many)
 
 pub deep_pairs-put_deep-requires : goal.deep_pairs-put_deep-requires

@@ -30,16 +30,17 @@ valued_alike (Ok p) = refl
 valued_alike (Err f) = refl
 
 -- a statement that is an expression
-pub run_stated : (inner : Inner) (e : Expr) (s : Statement) (here : Here) (w : World) (r : Result (Unit {0}) Stop) (new : World)
-    → IsStatement e (out-Statement s) → Gives nothing (run (inner.value e here) w) r new
+pub run_stated : (inner : Inner) (e : Expr) (s : Statement) (here : Here) (w : World)
+    (r : Result (Unit {0}) Stop) (new : World) → IsStatement e (out-Statement s)
+    → Gives nothing (run (inner.value e here) w) r new
     → Gives nothing (run (statement_rule inner s here) w) r new
 unfolding statement_rule
 run_stated inner e s here w r new is gives =
     rw (of_statement inner e here (out-Statement s) is, valued_alike (inner.value e here w)) gives
 
 -- one level of an expression
-pub one_level_run : (left : ℕ) (e : Expr) (here : Here) (w : World) (r : Result (Unit {0}) Stop) (new : World) → ¬ (left ≡ 0)
-    → Gives nothing (run (value_rule (within (left - 1)) e here) w) r new
+pub one_level_run : (left : ℕ) (e : Expr) (here : Here) (w : World) (r : Result (Unit {0}) Stop) (new : World)
+    → ¬ (left ≡ 0) → Gives nothing (run (value_rule (within (left - 1)) e here) w) r new
     → Gives nothing (run ((within left).value e here) w) r new
 unfolding within
 one_level_run zero e here w r new some gives = absurd (some refl)
@@ -70,7 +71,8 @@ module _ (inner : Inner) (x : List ℕ) (e : Expr) (line : ℕ) (here : Here) (w
 module _ (inner : Inner) (here : Here) where
   step_alike : (p : Outcome (Option Datum)) (d : Datum) (ss : List Statement)
       → ((e : Datum) (w : World) → forget (statements_from inner e ss here w) ≡ run_from inner ss here w)
-      → forget (go_on p (λ given. statements_from inner (or_before given d) ss here)) ≡ go_on (forget p) (λ _. run_from inner ss here)
+      → forget (go_on p (λ given. statements_from inner (or_before given d) ss here))
+      ≡ go_on (forget p) (λ _. run_from inner ss here)
   step_alike (Ok p) d ss rest = rest (or_before p.0 d) p.1
   step_alike (Err f) d ss rest = refl
 
@@ -96,7 +98,8 @@ module _ (left : ℕ) (main : File) (x : List ℕ) (w : World) (is : within left
   first_part : run_from (within left) main.statements top w ≡ run_from (at_depth 1) main.statements top w
   first_part = ap (λ inner. run_from inner main.statements top w) is
 
-  main_from : main_rule main x w ≡ go_on (run_from (within left) main.statements top w) (λ _. nodes_rule main.definitions x)
+  main_from : main_rule main x w
+      ≡ go_on (run_from (within left) main.statements top w) (λ _. nodes_rule main.definitions x)
   main_from = rw first_part (main_by main x w)
 
   pub main_ran : (after : World) (r : Result (Unit {0}) Stop) (new : World)

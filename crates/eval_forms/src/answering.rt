@@ -34,8 +34,8 @@ pub fn combined(
     combined_otherwise(world, op, left, right, line, here)
 }
 
-/// A place is made only where there is a fault to tell: the operator is asked with no place first, and once more with its
-/// own where it refuses.
+/// A place is made only where there is a fault to tell: the operator is asked with no place first, and once more with
+/// its own where it refuses.
 #[inline(never)]
 #[tactic(auto, using(crate::proofs::Elsewhere::combined_here))]
 fn combined_otherwise(

@@ -30,8 +30,8 @@ fn main(rt: HostRuntime) -> ExitCode {
 
 /// Lets the heap grow once: it grows by a page each time else, and asks the kernel each time. No memory is held.
 ///
-/// The first block is none of the heap's own, but tells it to hold blocks of this size. The second becomes its own, so what
-/// is given back later is used again, and does not go to the kernel and come from there anew.
+/// The first block is none of the heap's own, but tells it to hold blocks of this size. The second becomes its own, so
+/// what is given back later is used again, and does not go to the kernel and come from there anew.
 fn make_room(alloc: Global) {
     drop(Vec::<u8>::with_capacity(alloc, ROOM));
     drop(Vec::<u8>::with_capacity(alloc, ROOM));

@@ -60,7 +60,12 @@ fn output_of_text(alloc: Global, node: &str, manifest: Text) -> Result<Output, M
     ensures { IfOk result (λ output. output ≡ output_meant (manifest_meaning node.now manifest)) }
 {
     match compile_alone(alloc, node, manifest) {
-        Ok((catalog, _)) => catalog_output(alloc, &catalog),
+        Ok((catalog, _)) => {
+            let output = catalog_output(alloc, &catalog);
+            // Left to the end of the process, as the manifest's tree is.
+            forget(catalog);
+            output
+        }
         Err(CompileStop::Fault(fault)) => Ok(Output::Fault(fault_line(alloc, &fault)?)),
         Err(CompileStop::Memory) => Err(Memory),
     }

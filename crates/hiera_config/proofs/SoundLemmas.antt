@@ -21,7 +21,7 @@ use Rattle.hiera_config.specs.Documents.{File, text_at, is_document, strict}
 use Rattle.hiera_config.specs.Keeping.{IsKept}
 use Rattle.hiera_config.specs.Meant.{go_on, in_turn}
 use Rattle.hiera_config.specs.Planning.{Planned, PlannedAt}
-use Rattle.hiera_config.specs.Sound.{is_sound_if, is_sound_slot, is_nothing, sound_by_config, sound_by, SoundPlan, SoundLayer, SoundLayers, SkipsAll, value_in_data, value_in_text, or_else, first_in, first_value, LacksConfig, IsHighest}
+use Rattle.hiera_config.specs.Sound.{source_if, had_in, AreSources, is_sound_if, is_sound_slot, is_nothing, sound_by_config, sound_by, SoundPlan, SoundLayer, SoundLayers, SkipsAll, value_in_data, value_in_text, or_else, first_in, first_value, LacksConfig, IsHighest}
 use Rattle.hiera_config.specs.SoundData.{is_sound, are_sound_items, are_sound_members, is_sound_document, is_sound_text}
 use Rattle.hiera_config.specs.Sources as s
 use Rattle.hiera_config.specs.Variables.{Variables}
@@ -92,10 +92,6 @@ sound_get (j.object ms) key is = sound_member ms key is
 
 -- ---- what a sound file adds to the sources
 
-abbrev source_if : List ℕ → Option Datum → List s.Source
-source_if path None = []
-source_if path (Some d) = (d, path) ∷ []
-
 value_adds : (found : List s.Source) (path : List ℕ) (o : Option Datum) → is_some o ≡ true
     → s.value_or_fault found path o ≡ Ok (found ++ source_if path o)
 value_adds found path None is = absurd (cc is)
@@ -122,14 +118,9 @@ text_adds key found path (Some text) sound = document_adds key found path (read 
 -- ---- what a sound layer adds
 
 module _ (files : List File) (key : List ℕ) where
-  abbrev had_in : List (Option FixedFile) → List s.Source
-  had_in [] = []
-  had_in (None ∷ plan) = had_in plan
-  had_in (Some f ∷ plan) = source_if f.path (value_in_text key (text_at f.path files)) ++ had_in plan
-
   levels_add : (folder : List ℕ) (v : Variables) (ls : List Level) (plan : List (Option FixedFile))
       (found : List s.Source) → SoundPlan files folder ls plan
-      → in_turn (s.in_level files key folder v) found ls ≡ Ok (found ++ had_in plan)
+      → in_turn (s.in_level files key folder v) found ls ≡ Ok (found ++ had_in files key plan)
   unfolding in_turn go_on
   levels_add folder v [] [] found sound = ap Ok (sym (append-nil found))
   levels_add folder v [] (p ∷ plan) found sound = absurd sound
@@ -141,10 +132,10 @@ module _ (files : List File) (key : List ℕ) where
       (level_is files key folder v found l f.path sound.0
       ∙ text_adds key found f.path (text_at f.path files) sound.1.1)
       ∙ levels_add folder v ls plan (found ++ here) sound.2
-      ∙ ap Ok (append_assoc found here (had_in plan))
+      ∙ ap Ok (append_assoc found here (had_in files key plan))
 
   layer_adds : (folder : List ℕ) (v : Variables) (plan : List (Option FixedFile)) (found : List s.Source)
-      → SoundLayer files folder plan → s.in_layer files key v folder found ≡ Ok (found ++ had_in plan)
+      → SoundLayer files folder plan → s.in_layer files key v folder found ≡ Ok (found ++ had_in files key plan)
   unfolding s.in_layer go_on
   layer_adds folder v plan found sound =
       ap (λ o. go_on o (λ config. s.in_levels files key folder v found config.levels)) sound.there
@@ -177,35 +168,40 @@ module _ (files : List File) (key : List ℕ) where
   first_if path None = refl
   first_if path (Some d) = refl
 
-  first_had : (plan : List (Option FixedFile)) → first_value (had_in plan) ≡ first_in files key plan
+  first_had : (plan : List (Option FixedFile)) → first_value (had_in files key plan) ≡ first_in files key plan
   first_had [] = refl
   first_had (None ∷ plan) = first_had plan
   first_had (Some f ∷ plan) =
       let here = value_in_text key (text_at f.path files) in
-      first_of_both (source_if f.path here) (had_in plan)
-      ∙ ap (λ o. or_else o (first_value (had_in plan))) (first_if f.path here)
+      first_of_both (source_if f.path here) (had_in files key plan)
+      ∙ ap (λ o. or_else o (first_value (had_in files key plan))) (first_if f.path here)
       ∙ ap (or_else here) (first_had plan)
 
   all_told : (v : Variables) (name : Option (List ℕ)) (global environment : List (Option FixedFile))
       → SoundLayers files global environment → LacksConfig files name
-      → s.sources files v name key ≡ Ok (had_in global ++ had_in environment)
+      → s.sources files v name key ≡ Ok (had_in files key global ++ had_in files key environment)
   unfolding go_on
   all_told v name global environment sound lacks =
       ap (λ o. go_on o (λ found. go_on (s.in_layer files key v [] found) (s.in_module files key v name)))
       (layer_adds s.global_folder v global [] sound.0)
-      ∙ ap (λ o. go_on o (s.in_module files key v name)) (layer_adds [] v environment (had_in global) sound.1)
-      ∙ no_module v name (had_in global ++ had_in environment) lacks
+      ∙ ap (λ o. go_on o (s.in_module files key v name)) (layer_adds [] v environment (had_in files key global) sound.1)
+      ∙ no_module v name (had_in files key global ++ had_in files key environment) lacks
+
+  pub are_sources : (name : Option (List ℕ)) (global environment : List (Option FixedFile)) (found : List s.Source)
+      → SoundLayers files global environment → LacksConfig files name
+      → found ≡ had_in files key global ++ had_in files key environment → AreSources files name key found
+  are_sources name global environment found sound lacks is = λ v. all_told v name global environment sound lacks ∙ ap Ok (sym is)
 
   pub is_highest : (name : Option (List ℕ)) (global environment : List (Option FixedFile)) (value : Option Datum)
       → SoundLayers files global environment → LacksConfig files name
       → value ≡ or_else (first_in files key global) (first_in files key environment)
       → IsHighest files name key value
   is_highest name global environment value sound lacks is = λ v. record {
-    sources = had_in global ++ had_in environment;
+    sources = had_in files key global ++ had_in files key environment;
     told = all_told v name global environment sound lacks;
     highest =
-        first_of_both (had_in global) (had_in environment)
-        ∙ ap (λ o. or_else o (first_value (had_in environment))) (first_had global)
+        first_of_both (had_in files key global) (had_in files key environment)
+        ∙ ap (λ o. or_else o (first_value (had_in files key environment))) (first_had global)
         ∙ ap (or_else (first_in files key global)) (first_had environment) ∙ sym is;
   }
 

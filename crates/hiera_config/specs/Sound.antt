@@ -1,5 +1,5 @@
 -- Files of data in which no key's value is faulty, and what such files have for a key.
-use Rattle.std.specs.Prelude.{◌≡◌, ⊤, ℕ, Bool, true, false, ◌&&◌, ◌==◌, List, [], ◌∷◌, length, Option, None, Some, Ok, option_and_then}
+use Rattle.std.specs.Prelude.{◌≡◌, ⊤, ℕ, Bool, true, false, ◌&&◌, ◌==◌, List, [], ◌∷◌, ◌++◌, length, Option, None, Some, Ok, option_and_then}
 use Rattle.std.specs.List.{list_all}
 use Rattle.serde_json.specs.Data as j
 use Rattle.serde_json.specs.Find.{get}
@@ -90,6 +90,19 @@ abbrev pub first_in : List File → List ℕ → List (Option FixedFile) → Opt
 first_in files key [] = None
 first_in files key (p ∷ plan) = or_else (value_in_slot files key p) (first_in files key plan)
 
+-- the sources in a plan's files
+abbrev pub source_if : List ℕ → Option Datum → List Source
+source_if path None = []
+source_if path (Some d) = (d, path) ∷ []
+
+abbrev pub had_in_slot : List File → List ℕ → Option FixedFile → List Source
+had_in_slot files key None = []
+had_in_slot files key (Some f) = source_if f.path (value_in_text key (text_at f.path files))
+
+abbrev pub had_in : List File → List ℕ → List (Option FixedFile) → List Source
+had_in files key [] = []
+had_in files key (p ∷ plan) = had_in_slot files key p ++ had_in files key plan
+
 -- ---- the highest source
 
 abbrev pub first_value : List Source → Option Datum
@@ -105,6 +118,9 @@ pub record HasHighest (meant : Meant (List Source)) (value : Option Datum) : Typ
 -- whatever the variables
 abbrev pub IsHighest : List File → Option (List ℕ) → List ℕ → Option Datum → Type 0
 IsHighest files name key value = (v : Variables) → HasHighest (sources files v name key) value
+
+abbrev pub AreSources : List File → Option (List ℕ) → List ℕ → List Source → Type 0
+AreSources files name key found = (v : Variables) → sources files v name key ≡ Ok found
 
 -- the module has no configuration
 abbrev pub LacksConfig : List File → Option (List ℕ) → Type 0

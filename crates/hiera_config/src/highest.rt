@@ -37,7 +37,7 @@ pub fn highest_value(
     }
 }
 
-fn lacks_config(alloc: Global, files: &SiteData, module_name: Option<&str>) -> bool
+pub fn lacks_config(alloc: Global, files: &SiteData, module_name: Option<&str>) -> bool
     ensures { result ≡ true → LacksConfig files.now (option_map (λ m. m.now) module_name.entry) }
 {
     match module_name {
@@ -124,7 +124,7 @@ fn value_in_slot(
     }
 }
 
-fn value_in_file(
+pub fn value_in_file(
     alloc: Global,
     files: &SiteData,
     fixed: &FixedFile,

@@ -14,6 +14,7 @@ pub mod modules;
 mod names;
 mod paths;
 mod plan;
+mod planned;
 pub mod refused;
 pub mod searching;
 pub mod site_data;

@@ -17,6 +17,7 @@ use crate::mapping::mapped_values;
 use crate::names::Names;
 use crate::paths::write_path;
 use crate::plan::FixedFile;
+use crate::planned::planned_sources;
 use crate::refused::{Refused, bad_data};
 use crate::site_data::SiteData;
 use crate::template::Template;
@@ -83,6 +84,9 @@ pub fn sources(
     ensures { MeetsBy (λ v. source_views v.items) result
         (spec.sources files.now (seen variables.now) (option_map (λ m. m.now) module_name.entry) key.now) }
 {
+    if let Some(found) = planned_sources(alloc, files, module_name, key)? {
+        return Ok(found);
+    }
     let mut found = Vec::new(alloc);
     let mut path = String::with_capacity(alloc, USUAL)?;
     let global = Search {

@@ -32,3 +32,8 @@ returns c =
     (ap source_views c.new-found.ensures.items))
     (after_ok _ c.in_ok-add_from_layer.ensures
     (after_ok _ c.in_ok-add_from_layer-2.ensures (gives (c.in_ok-add_from_module_if.ensures.ok _ refl))))
+
+pub returns-in-Some : goal.returns-in-Some
+returns-in-Some c =
+    let told = rw c.in-Some.is at c.in_ok-found.ensures in
+    gives (told (seen c.args.variables.now))

@@ -1,6 +1,6 @@
 //! The tokens of a file, as they are taken one after another.
 
-ghost use Rattle.std.specs.Prelude.{◌≡◌, [], ◌∷◌, drop, length, MatchOption};
+ghost use Rattle.std.specs.Prelude.{◌≡◌, ◌<◌, ◌^◌, [], ◌∷◌, drop, length, MatchOption};
 
 use crate::token::Token;
 use crate::tokens::Tokens;
@@ -42,7 +42,8 @@ impl<'a> Queue<'a> {
 
     #[tactic(auto, using(crate::proofs::QueueLemmas::same_length))]
     pub fn len(&self) -> usize
-        ensures { result ≡ length self.now }
+        ensures value { result ≡ length self.now }
+        ensures fits { result < 2 ^ 63 }
     {
         self.behind.len()
     }

@@ -7,6 +7,7 @@ pub mod MarkLemmas
 pub mod NumberLemmas
 pub mod NumberLaws
 pub mod PartLemmas
+pub mod QueueLemmas
 pub mod ScanLemmas
 pub mod TextLemmas
 pub mod WordLemmas

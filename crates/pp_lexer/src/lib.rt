@@ -10,6 +10,7 @@ mod lines;
 mod marks;
 mod mode;
 mod numbers;
+pub mod queue;
 pub mod scan;
 mod texts;
 pub mod token;
@@ -18,6 +19,7 @@ mod words;
 
 pub use kind::Kind;
 pub use lexing::lex;
+pub use queue::Queue;
 pub use scan::end_line;
 pub use token::Token;
 pub use tokens::Tokens;

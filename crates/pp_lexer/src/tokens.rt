@@ -60,4 +60,11 @@ impl<'a> Tokens<'a> {
         self.items.push(token)?;
         Ok(())
     }
+
+    /// The tokens as they lie in memory.
+    pub(crate) fn into_vec(self) -> Vec<Token<'a>>
+        ensures { result.items ≡ self.entry }
+    {
+        self.items
+    }
 }

@@ -2,3 +2,4 @@ pub mod Behind
 pub mod Doubled
 pub mod Loops
 pub mod Turns
+pub mod Nexts

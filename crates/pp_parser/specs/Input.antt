@@ -1,7 +1,6 @@
 -- What a rule of the grammar reads from, and the steps that every rule is made of. A rule looks at the next token and at no
 -- other, and takes tokens from the front, or says where it stops.
 use Rattle.std.specs.Prelude.{◌≡◌, ◌≢◌, ℕ, ℤ, zero, suc, ◌+◌, Bool, true, false, if◌then◌else◌, List, [], ◌∷◌, ◌++◌, length, Option, Some, None, Result, Ok, Err, refl}
-use denote.Ref as Ref
 use Rattle.pp_lexer.specs.declared.kind.Kind.{Kind}
 use Rattle.std.specs.Coded.{Coded, code_by, coded×, coded_ℕ, coded_ℤ, coded_list, coded_option}
 use Rattle.pp_lexer.specs.contracts.kind.Kind as kinds
@@ -150,6 +149,6 @@ Reads outcome (Ok a) new = outcome ≡ Ok (a, new)
 Reads outcome (Err e) new = e ≢ refusals.Memory → outcome ≡ Err e
 
 -- the same of a call that answers a token of the file
-abbrev pub Takes : Outcome Token → Result (Ref.Bor Token) Refusal → Input → Type 0
-Takes outcome (Ok t) new = outcome ≡ Ok (t.now, new)
+abbrev pub Takes : Outcome Token → Result Token Refusal → Input → Type 0
+Takes outcome (Ok t) new = outcome ≡ Ok (t, new)
 Takes outcome (Err e) new = outcome ≡ Err e

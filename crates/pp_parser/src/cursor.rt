@@ -9,13 +9,14 @@ ghost use Rattle.pp_parser.specs.Kinds.{is_name, is_word, is_bar};
 use crate::kinds::{is_bar, is_name, is_word};
 use crate::refusal::Refusal;
 use pp_lexer::kind::Kind;
+use pp_lexer::queue::Queue;
 use pp_lexer::token::Token;
 use std::marker::Model;
 
 /// The tokens that are left, and the line of the first key that stood twice in its hash literal so far.
 #[derive(Drop)]
 pub struct Cursor<'a> {
-    left: &'a [Token<'a>],
+    left: Queue<'a>,
     doubled: Option<u32>,
 }
 
@@ -26,12 +27,12 @@ impl<'a> Model for Cursor<'a> {
 
     ghost coded = { input_code };
 
-    ghost view = { λ c. record { left = c.left.now; doubled = c.doubled } };
+    ghost view = { λ c. record { left = c.left; doubled = c.doubled } };
 }
 
 impl<'a> Cursor<'a> {
-    pub fn new(left: &'a [Token<'a>]) -> Cursor<'a>
-        ensures { result ≡ record { left = left.now; doubled = None } }
+    pub fn new(left: Queue<'a>) -> Cursor<'a>
+        ensures { result ≡ record { left = left.entry; doubled = None } }
     {
         Cursor {
             left,
@@ -47,24 +48,24 @@ impl<'a> Cursor<'a> {
     }
 
     /// The kind of the next token; none is the end of the file.
-    #[tactic(auto, unfolding(crate::specs::Input::kind, crate::specs::Input::kind_at))]
+    #[tactic(auto, unfolding(crate::specs::Input::kind), using(crate::proofs::Nexts::kind_none, crate::proofs::Nexts::kind_some))]
     pub fn peek(&self) -> Option<Kind>
         ensures { result ≡ spec.kind self.now }
     {
-        match self.left {
-            [] => None,
-            [token, ..] => Some(token.kind()),
+        match self.left.first() {
+            None => None,
+            Some(token) => Some(token.kind()),
         }
     }
 
     /// The line of the next token, or 0 at the end of the file.
-    #[tactic(auto, unfolding(crate::specs::Input::line_at))]
+    #[tactic(auto, using(crate::proofs::Nexts::line_none, crate::proofs::Nexts::line_some))]
     pub fn line(&self) -> u32
         ensures { result ≡ spec.line_at self.now.left }
     {
-        match self.left {
-            [] => 0,
-            [token, ..] => token.line(),
+        match self.left.first() {
+            None => 0,
+            Some(token) => token.line(),
         }
     }
 
@@ -83,15 +84,12 @@ impl<'a> Cursor<'a> {
 
     /// The next token, whatever its kind.
     #[tactic(auto, unfolding(crate::specs::Input::take))]
-    pub fn take(&mut self) -> Result<&'a Token<'a>, Refusal>
+    pub fn take(&mut self) -> Result<Token<'a>, Refusal>
         ensures { Takes (spec.take self.old) result self.new }
     {
-        match self.left {
-            [] => Err(Refusal::Wrong(0)),
-            [token, rest @ ..] => {
-                self.left = rest;
-                Ok(token)
-            }
+        match self.left.take() {
+            None => Err(Refusal::Wrong(0)),
+            Some(token) => Ok(token),
         }
     }
 
@@ -108,7 +106,7 @@ impl<'a> Cursor<'a> {
 
     /// A token of this kind.
     #[tactic(auto, unfolding(crate::specs::Input::expect))]
-    pub fn expect(&mut self, kind: Kind) -> Result<&'a Token<'a>, Refusal>
+    pub fn expect(&mut self, kind: Kind) -> Result<Token<'a>, Refusal>
         ensures { Takes (spec.expect kind self.old) result self.new }
     {
         if !self.sees(kind) {
@@ -119,7 +117,7 @@ impl<'a> Cursor<'a> {
 
     /// A name.
     #[tactic(auto, unfolding(crate::specs::Input::expect_any))]
-    pub fn expect_name(&mut self) -> Result<&'a Token<'a>, Refusal>
+    pub fn expect_name(&mut self) -> Result<Token<'a>, Refusal>
         ensures { Takes (spec.expect_any is_name self.old) result self.new }
     {
         if !is_name(self.peek()) {
@@ -130,7 +128,7 @@ impl<'a> Cursor<'a> {
 
     /// A name or a keyword.
     #[tactic(auto, unfolding(crate::specs::Input::expect_any))]
-    pub fn expect_word(&mut self) -> Result<&'a Token<'a>, Refusal>
+    pub fn expect_word(&mut self) -> Result<Token<'a>, Refusal>
         ensures { Takes (spec.expect_any is_word self.old) result self.new }
     {
         if !is_word(self.peek()) {
@@ -141,7 +139,7 @@ impl<'a> Cursor<'a> {
 
     /// A bar of a lambda's parameters.
     #[tactic(auto, unfolding(crate::specs::Input::expect_any))]
-    pub fn expect_bar(&mut self) -> Result<&'a Token<'a>, Refusal>
+    pub fn expect_bar(&mut self) -> Result<Token<'a>, Refusal>
         ensures { Takes (spec.expect_any is_bar self.old) result self.new }
     {
         if !is_bar(self.peek()) {
@@ -164,7 +162,7 @@ impl<'a> Cursor<'a> {
 
     /// A token of this kind, which opens a level.
     #[tactic(auto, unfolding(crate::specs::Input::open_level))]
-    pub fn open_level(&mut self, is_deepest: bool, kind: Kind) -> Result<&'a Token<'a>, Refusal>
+    pub fn open_level(&mut self, is_deepest: bool, kind: Kind) -> Result<Token<'a>, Refusal>
         ensures { Takes (spec.open_level is_deepest kind self.old) result self.new }
     {
         if !self.sees(kind) {

@@ -36,7 +36,7 @@ impl<F: Fn(Global, &mut Cursor<'_>, usize, Goal) -> Result<Part, Refusal>> Rules
         ensures { Reads (spec.name_rule (within self.now.levels) tokens.old) result tokens.new }
     {
         let token = tokens.expect_name()?;
-        Ok(name_of(self.alloc, token)?)
+        Ok(name_of(self.alloc, &token)?)
     }
 
     /// Parameters up to the parenthesis that closes them, behind those that were found.

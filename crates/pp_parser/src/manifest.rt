@@ -11,6 +11,7 @@ use crate::cursor::Cursor;
 use crate::found::Found;
 use crate::levels::{main_manifest, module_file};
 use crate::refusal::Refusal;
+use pp_lexer::queue::Queue;
 use pp_lexer::scan::{end_line, scan};
 use pp_lexer::token::Token;
 use pp_tree::file::File;
@@ -142,11 +143,13 @@ pub fn parse(alloc: Global, file: &Text, text: &Text) -> Result<File, Stop>
 {
     let tokens = scan(alloc, text.as_str())?;
     make_room(alloc, text.as_str().len());
-    let mut left = Cursor::new(tokens.as_slice());
+    let mut left = Cursor::new(Queue::new(tokens));
     match read_file(alloc, file, &mut left) {
         Ok(found) => file_with(alloc, file, found, left.doubled()),
         Err(Refusal::Memory) => Err(Stop::Memory),
         Err(refusal) => {
+            // The tokens are let go as they are read, so the line of the fault is looked for in new ones.
+            let tokens = scan(alloc, text.as_str())?;
             let end = end_line(text.as_str());
             Err(refused(alloc, file, end, tokens.as_slice(), refusal))
         }

@@ -53,7 +53,7 @@ pub fn taken_name(alloc: Global, tokens: &mut Cursor<'_>) -> Result<Name, Refusa
     ensures { Reads (spec.taken_name tokens.old) result tokens.new }
 {
     let token = tokens.take()?;
-    Ok(name_of(alloc, token)?)
+    Ok(name_of(alloc, &token)?)
 }
 
 impl<F: Fn(Global, &mut Cursor<'_>, usize, Goal) -> Result<Part, Refusal>> Rules<F> {

@@ -36,7 +36,7 @@ pub fn names_resource(next: Option<Kind>) -> bool
 
 /// The name of a kind of resource.
 #[tactic(auto, unfolding(crate::specs::Input::expect_any))]
-fn resource_name<'a>(tokens: &mut Cursor<'a>) -> Result<&'a Token<'a>, Refusal>
+fn resource_name<'a>(tokens: &mut Cursor<'a>) -> Result<Token<'a>, Refusal>
     ensures { Takes (expect_any spec.names_resource tokens.old) result tokens.new }
 {
     if !names_resource(tokens.peek()) {

@@ -91,7 +91,7 @@ impl<F: Fn(Global, &mut Cursor<'_>, usize, Goal) -> Result<Part, Refusal>> Rules
 
     /// A token of this kind, which opens a level.
     #[tactic(auto, using(crate::proofs::Turns::deepest_is))]
-    pub fn open<'a>(&self, tokens: &mut Cursor<'a>, kind: Kind) -> Result<&'a Token<'a>, Refusal>
+    pub fn open<'a>(&self, tokens: &mut Cursor<'a>, kind: Kind) -> Result<Token<'a>, Refusal>
         requires { Nests self.now.levels (F.pre self.now.inner) (F.post self.now.inner) }
         ensures { Takes (open_level (within self.now.levels).is_deepest kind tokens.old) result tokens.new }
     {

@@ -55,22 +55,17 @@ pub fn form<F: Fn(&mut World<'_>, Goal<'_>, Here, u32) -> Result<Evaluated, Stop
         Form::Type(name) => type_of(world, name, expr.at, here),
         Form::List(items) => list(forms, world, items, here),
         Form::Hash(pairs) => hash(forms, world, pairs, expr.at, here),
-        Form::Parentheses(within) => forms.value(world, within.get(), here),
+        Form::Parentheses(within) => forms.value(world, within, here),
         Form::Call(called) => call(forms, world, called.get(), expr.at, here),
         Form::If(choice) => if_of(forms, world, choice.get(), expr.at, here),
         Form::Unless(choice) => unless_of(forms, world, choice.get(), expr.at, here),
         Form::Case(choice) => case_of(forms, world, choice, expr.at, here),
         Form::Postfix(first, more) => postfixed(forms, world, first.get(), more, expr.at, here),
-        Form::Prefix(operator, operand) => prefix(
-            forms,
-            world,
-            *operator,
-            operand.get(),
-            expr.at,
-            here,
-        ),
+        Form::Prefix(operator, operand) => {
+            prefix(forms, world, *operator, operand, expr.at, here)
+        }
         Form::Binary(first, more) => binary(forms, world, first.get(), more, expr.at, here),
-        Form::Assign(name, value) => assigned(forms, world, name, value.get(), expr.at, here),
+        Form::Assign(name, value) => assigned(forms, world, name.get(), value, expr.at, here),
     }
 }
 

@@ -71,7 +71,7 @@ fn run_form<F: Fn(&mut World<'_>, Goal<'_>, Here, u32) -> Result<Evaluated, Stop
     ensures { Gives nothing (spec.run (value_rule (M.within forms.now.left) expr.now here) world.old) result world.new }
 {
     match expr.form.get() {
-        Form::Assign(name, value) => set(forms, world, name, value.get(), expr.at, here),
+        Form::Assign(name, value) => set(forms, world, name.get(), value, expr.at, here),
         _ => {
             drop(form(forms, world, expr, here)?);
             Ok(())

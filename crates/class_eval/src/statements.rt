@@ -97,7 +97,7 @@ pub fn statement<F: Fn(&mut World<'_>, Goal<'_>, Here, u32) -> Result<Evaluated,
 {
     match statement {
         Statement::Chain(chain) => chained(forms, world, chain, here),
-        Statement::Words(words) => Ok(Some(forms.words(world, words, here)?)),
+        Statement::Words(words) => Ok(Some(forms.words(world, words.get(), here)?)),
     }
 }
 

@@ -109,7 +109,9 @@ fn called<F: Fn(&mut World<'_>, Goal<'_>, Here, u32) -> Result<Evaluated, Stop>,
 {
     match &call.lambda {
         None => call_plain(forms, world, &call.function, &arguments, line, here),
-        Some(lambda) => with_lambda(forms, world, &call.function, lambda, arguments, line, here),
+        Some(lambda) => {
+            with_lambda(forms, world, &call.function, lambda.get(), arguments, line, here)
+        }
     }
 }
 

@@ -21,7 +21,7 @@ pub fn if_of<F: Fn(&mut World<'_>, Goal<'_>, Here, u32) -> Result<Evaluated, Sto
     requires { Nests (M.within forms.now.left) forms.now.left (F.pre forms.now.inner) (F.post forms.now.inner) }
     ensures { Gives same (spec.if_rule (M.within forms.now.left) choice.now line here world.old) result world.new }
 {
-    if truth(forms, world, choice.condition.get(), here)? {
+    if truth(forms, world, &choice.condition, here)? {
         return forms.block(world, &choice.block, line, here);
     }
     elsifs(forms, world, &choice.elsifs, &choice.otherwise, line, here)
@@ -81,7 +81,7 @@ pub fn unless_of<F: Fn(&mut World<'_>, Goal<'_>, Here, u32) -> Result<Evaluated,
     requires { Nests (M.within forms.now.left) forms.now.left (F.pre forms.now.inner) (F.post forms.now.inner) }
     ensures { Gives same (spec.unless_rule (M.within forms.now.left) choice.now line here world.old) result world.new }
 {
-    if truth(forms, world, choice.condition.get(), here)? {
+    if truth(forms, world, &choice.condition, here)? {
         return otherwise(forms, world, &choice.otherwise, line, here);
     }
     forms.block(world, &choice.block, line, here)

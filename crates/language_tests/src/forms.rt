@@ -18,7 +18,10 @@ fn form_text(alloc: Global, x: &Expr) -> Result<String, AllocError> {
         Form::Name(name) => format!(in alloc; "name {name}"),
         Form::Variable(name) => format!(in alloc; "variable {name}"),
         Form::Type(name) => format!(in alloc; "type {name}"),
-        Form::Assign(name, _) => format!(in alloc; "assign {name}"),
+        Form::Assign(name, _) => {
+            let name = name.get();
+            format!(in alloc; "assign {name}")
+        }
         Form::Prefix(operator, _) => format!(in alloc; "prefix {operator:?}"),
         Form::Parentheses(_) => format!(in alloc; "parentheses"),
         Form::If(_) => format!(in alloc; "if"),
@@ -76,6 +79,7 @@ fn statement_text(alloc: Global, statement: &Statement) -> Result<String, AllocE
             links => format!(in alloc; "chain {links}"),
         },
         Statement::Words(words) => {
+            let words = words.get();
             let function = &words.function;
             let args = words.args.len();
             format!(in alloc; "words {function} {args}")

@@ -196,7 +196,7 @@ impl<F: Fn(Global, &mut Cursor<'_>, usize, Goal) -> Result<Part, Refusal>> Rules
         self.open(tokens, Kind::OpenParen)?;
         let x = self.whole_in(tokens, false)?;
         tokens.expect(Kind::CloseParen)?;
-        Ok(Form::Parentheses(Boxed::new(self.alloc, x)?))
+        Ok(Form::Parentheses(x))
     }
 
     /// The parameters of a lambda behind those that were found, up to a bar.
@@ -224,7 +224,11 @@ impl<F: Fn(Global, &mut Cursor<'_>, usize, Goal) -> Result<Part, Refusal>> Rules
 
     /// The parameters between two bars, of which this kind of bar is the first, and the block.
     #[tactic(auto, unfolding(crate::specs::Expressions::lambda_from, crate::specs::Input::separated))]
-    fn lambda_from(&self, tokens: &mut Cursor<'_>, bar: Kind) -> Result<Lambda, Refusal>
+    fn lambda_from(
+        &self,
+        tokens: &mut Cursor<'_>,
+        bar: Kind,
+    ) -> Result<Boxed<Lambda>, Refusal>
         requires { Nests self.now.levels (F.pre self.now.inner) (F.post self.now.inner) }
         ensures { Reads (spec.lambda_from (within self.now.levels) bar tokens.old) result tokens.new }
     {
@@ -232,7 +236,7 @@ impl<F: Fn(Global, &mut Cursor<'_>, usize, Goal) -> Result<Part, Refusal>> Rules
         let params = self.lambda_params_from(tokens, Items::new(self.alloc))?;
         tokens.expect_bar()?;
         let block = self.block(tokens)?;
-        Ok(Lambda { params, block })
+        Ok(Boxed::new(self.alloc, Lambda { params, block })?)
     }
 
     /// A lambda or nothing. Within bars, the bar that `{` follows ends the parameters and begins no lambda.
@@ -241,7 +245,7 @@ impl<F: Fn(Global, &mut Cursor<'_>, usize, Goal) -> Result<Part, Refusal>> Rules
         &self,
         tokens: &mut Cursor<'_>,
         bars: bool,
-    ) -> Result<Option<Lambda>, Refusal>
+    ) -> Result<Option<Boxed<Lambda>>, Refusal>
         requires { Nests self.now.levels (F.pre self.now.inner) (F.post self.now.inner) }
         ensures { Reads (spec.optional_lambda (within self.now.levels) bars tokens.old) result tokens.new }
     {

@@ -38,13 +38,12 @@ impl<F: Fn(Global, &mut Cursor<'_>, usize, Goal) -> Result<Part, Refusal>> Rules
 
     /// A word that opens a level until the end of its condition, and the condition.
     #[tactic(auto, unfolding(crate::specs::Expressions::condition))]
-    fn condition(&self, tokens: &mut Cursor<'_>, word: Kind) -> Result<Boxed<Expr>, Refusal>
+    fn condition(&self, tokens: &mut Cursor<'_>, word: Kind) -> Result<Expr, Refusal>
         requires { Nests self.now.levels (F.pre self.now.inner) (F.post self.now.inner) }
         ensures { Reads (spec.condition (within self.now.levels) word tokens.old) result tokens.new }
     {
         self.open(tokens, word)?;
-        let x = self.whole_in(tokens, false)?;
-        Ok(Boxed::new(self.alloc, x)?)
+        self.whole_in(tokens, false)
     }
 
     /// `elsif condition { statements }`, or nothing.
@@ -136,7 +135,10 @@ impl<F: Fn(Global, &mut Cursor<'_>, usize, Goal) -> Result<Part, Refusal>> Rules
         for _turn in 0..tokens.turns() {
             match self.next_option(tokens)? {
                 None => return Ok(found),
-                Some(option) => found.push(option)?,
+                Some(option) => {
+                    let more = !tokens.sees(Kind::CloseBrace);
+                    put(self.alloc, &mut found, option, more)?;
+                }
             }
         }
         Err(tokens.refusal())
@@ -148,7 +150,7 @@ impl<F: Fn(Global, &mut Cursor<'_>, usize, Goal) -> Result<Part, Refusal>> Rules
         requires { Nests self.now.levels (F.pre self.now.inner) (F.post self.now.inner) }
         ensures { Reads (spec.case_rule (within self.now.levels) tokens.old) result tokens.new }
     {
-        let control = self.condition(tokens, Kind::Case)?;
+        let control = Boxed::new(self.alloc, self.condition(tokens, Kind::Case)?)?;
         self.open(tokens, Kind::OpenBrace)?;
         let options = self.case_options(tokens)?;
         tokens.expect(Kind::CloseBrace)?;

@@ -20,7 +20,7 @@ use pp_lexer::kind::Kind;
 use pp_tree::definition::Name;
 use pp_tree::expr::{Args, Expr};
 use pp_tree::statement::{Statement, Words};
-use pp_values::Items;
+use pp_values::{Boxed, Items};
 use std::alloc::Global;
 
 /// Arguments, and a name behind them that begins the next statement.
@@ -103,7 +103,7 @@ impl<F: Fn(Global, &mut Cursor<'_>, usize, Goal) -> Result<Part, Refusal>> Rules
             args,
             at: name.at,
         };
-        Ok((Statement::Words(words), pending))
+        Ok((Statement::Words(Boxed::new(self.alloc, words)?), pending))
     }
 
     /// Behind the name of a statement function at the beginning of a statement.

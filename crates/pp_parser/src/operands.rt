@@ -8,6 +8,7 @@ ghost use Rattle.std.specs.Prelude.{◌≡◌, IfOk};
 
 use crate::cursor::Cursor;
 use crate::goal::{Goal, Part};
+use crate::lists::put;
 use crate::operators::LOOSEST;
 use crate::refusal::Refusal;
 use crate::rules::Rules;
@@ -185,7 +186,8 @@ impl<F: Fn(Global, &mut Cursor<'_>, usize, Goal) -> Result<Part, Refusal>> Rules
             let Some(link) = self.link(tokens)? else {
                 return Ok(found);
             };
-            found.push(link)?;
+            let more = arrow_at(tokens.peek()).is_some();
+            put(self.alloc, &mut found, link, more)?;
         }
         Err(tokens.refusal())
     }

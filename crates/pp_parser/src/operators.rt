@@ -106,8 +106,7 @@ impl<F: Fn(Global, &mut Cursor<'_>, usize, Goal) -> Result<Part, Refusal>> Rules
         let at = tokens.line();
         self.open(tokens, mark)?;
         let x = self.operand_in(tokens, bars)?;
-        let form = Form::Prefix(operator, Boxed::new(self.alloc, x)?);
-        Ok(Expr::new(self.alloc, at, form)?)
+        Ok(Expr::new(self.alloc, at, Form::Prefix(operator, x))?)
     }
 
     /// Prefix operators, in any order, and a value.
@@ -216,7 +215,7 @@ impl<F: Fn(Global, &mut Cursor<'_>, usize, Goal) -> Result<Part, Refusal>> Rules
             Some(Kind::Assign) => {
                 self.open(tokens, Kind::Assign)?;
                 let x = self.whole_in(tokens, behind)?;
-                let form = Form::Assign(name, Boxed::new(self.alloc, x)?);
+                let form = Form::Assign(Boxed::new(self.alloc, name)?, x);
                 Ok(Expr::new(self.alloc, at, form)?)
             }
             _ => {

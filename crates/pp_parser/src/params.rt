@@ -51,8 +51,8 @@ fn param_from(tokens: &mut Cursor<'_>, at: u32, x: Expr) -> Result<Param, Refusa
         }
         Form::Assign(name, default) => Ok(Param {
             kind: None,
-            name,
-            default: Some(default.into_inner()),
+            name: name.into_inner(),
+            default: Some(default),
             at,
         }),
         _ => Err(tokens.refusal()),

@@ -104,7 +104,7 @@ impl<F: Fn(Global, &mut Cursor<'_>, usize, Goal) -> Result<Part, Refusal>> Rules
     {
         let Name { text, at } = kind;
         let mut postfixes = Items::new(self.alloc);
-        postfixes.push(Postfix::Access(args))?;
+        put(self.alloc, &mut postfixes, Postfix::Access(args), false)?;
         let form = Form::Type(text);
         let first = self.expression_from(tokens, Expr::new(self.alloc, at, form)?, postfixes)?;
         self.chain_from(tokens, at, first)

@@ -9,6 +9,7 @@ ghost use Rattle.pp_parser.specs.Nests.{Nests};
 use crate::cursor::Cursor;
 use crate::goal::{Goal, Part};
 use crate::kinds::is_name;
+use crate::lists::put;
 use crate::operators::LOOSEST;
 use crate::refusal::Refusal;
 use crate::rules::Rules;
@@ -81,7 +82,10 @@ impl<F: Fn(Global, &mut Cursor<'_>, usize, Goal) -> Result<Part, Refusal>> Rules
         for _turn in 0..tokens.turns() {
             match self.piece(tokens)? {
                 None => return Ok(found),
-                Some(piece) => found.push(piece)?,
+                Some(piece) => {
+                    let more = !tokens.sees(Kind::TextEnd);
+                    put(self.alloc, &mut found, piece, more)?;
+                }
             }
         }
         Err(tokens.refusal())

@@ -42,6 +42,6 @@ pub enum Test {
 pub struct Comparison<E = Expr> {
     pub word: Text,
     pub equal: bool,
-    pub value: E,
     pub at: u32,
+    pub value: E,
 }

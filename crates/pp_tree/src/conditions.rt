@@ -6,7 +6,7 @@ use pp_values::{Boxed, Items};
 #[cycle(tree)]
 #[derive(Drop)]
 pub struct If {
-    pub condition: Boxed<Expr>,
+    pub condition: Expr,
     pub block: Items<Statement>,
     pub elsifs: Items<Elsif>,
     pub otherwise: Option<Items<Statement>>,
@@ -24,7 +24,7 @@ pub struct Elsif {
 #[cycle(tree)]
 #[derive(Drop)]
 pub struct Unless {
-    pub condition: Boxed<Expr>,
+    pub condition: Expr,
     pub block: Items<Statement>,
     pub otherwise: Option<Items<Statement>>,
 }

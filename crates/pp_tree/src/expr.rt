@@ -60,7 +60,7 @@ pub enum Form {
     /// `{ a => 1, b => 2 }`
     Hash(Items<Pair<Expr>>),
     /// `($a)`
-    Parentheses(Boxed<Expr>),
+    Parentheses(Expr),
     /// `f(1)`
     Call(Boxed<Call>),
     /// `if $a { } else { }`
@@ -72,11 +72,11 @@ pub enum Form {
     /// `$a[1].f(2)`: what stands first, and what follows it.
     Postfix(Boxed<Expr>, Items<Postfix>),
     /// `!$a`
-    Prefix(PrefixOperator, Boxed<Expr>),
+    Prefix(PrefixOperator, Expr),
     /// `$a + 1 - $b`: the first operand, and the operations of one strength after it.
     Binary(Boxed<Expr>, Items<Operation<Expr>>),
     /// `$a = 1`: the name after `$`, and the value.
-    Assign(Text, Boxed<Expr>),
+    Assign(Boxed<Text>, Expr),
 }
 
 /// A piece of a text with interpolation: `a` and `${b}` in `"a${b}"`.
@@ -118,7 +118,7 @@ pub enum Postfix {
 pub struct Call {
     pub function: Text,
     pub args: Items<Expr>,
-    pub lambda: Option<Lambda>,
+    pub lambda: Option<Boxed<Lambda>>,
 }
 
 /// A lambda: `|$x| { }`.

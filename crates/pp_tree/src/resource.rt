@@ -45,8 +45,8 @@ pub enum Attribute<E = Expr> {
 pub struct Setting<E = Expr> {
     pub name: Text,
     pub append: bool,
-    pub value: E,
     pub at: u32,
+    pub value: E,
 }
 
 /// `* => $more`

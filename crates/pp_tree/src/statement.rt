@@ -12,7 +12,7 @@ pub type Block = Items<Statement>;
 #[derive(Drop)]
 pub enum Statement {
     Chain(Chain<Operand>),
-    Words(Words<Expr>),
+    Words(Boxed<Words<Expr>>),
 }
 
 /// Operands with arrows between them: `A['x'] -> B['y']`. An operand alone is a chain without links.

@@ -4,5 +4,5 @@ use Rattle.pp_values.specs.declared.text.TextForm.{TextForm}
 use Rattle.pp_values.specs.declared.text.TextForm.TheVariants as v
 
 abbrev pub form_bytes : TextForm → List ℕ
-form_bytes (v.Short short) = short.bytes
+form_bytes (v.Short short) = short
 form_bytes (v.Long string) = string_bytes string

@@ -21,6 +21,7 @@ pub mod printing;
 pub mod ptype;
 pub mod reference;
 pub mod refs;
+mod short_text;
 pub mod text;
 pub mod text_pairs;
 pub mod texts;

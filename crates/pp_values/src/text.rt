@@ -5,26 +5,23 @@ ghost use Rattle.std.specs.Cmp.{partial_equiv_from_equiv};
 ghost use Rattle.std.specs.Str.{IsUtf8};
 
 use crate::memory::Memory;
-use arrayvec::ArrayString;
+use crate::short_text::ShortText;
 use std::alloc::Global;
 use std::cmp::Ordering;
 use std::convert::AsStr;
 use std::fmt;
 use std::marker::Model;
 
-/// How many bytes a text has at most that lies in its value, without memory of its own.
-const SHORT: usize = 20;
-
 /// A text. A contract sees it as its bytes in UTF-8.
 ///
-/// Names, titles and tags are short, and are copied more often than anything else: up to 20 bytes lie in the value.
+/// Names, titles and tags are short, and are copied more often than anything else: up to 30 bytes lie in the value.
 pub struct Text {
     form: TextForm,
 }
 
 #[derive(Drop)]
 pub(crate) enum TextForm {
-    Short(ArrayString<SHORT>),
+    Short(ShortText),
     Long(String),
 }
 
@@ -56,9 +53,9 @@ impl Text {
     pub fn from_str(alloc: Global, text: &str) -> Result<Text, Memory>
         ensures { IfOk result (λ t. t ≡ text.now) }
     {
-        let form = match ArrayString::from(text) {
-            Ok(short) => TextForm::Short(short),
-            Err(_) => TextForm::Long(String::from_str(alloc, text)?),
+        let form = match ShortText::from_str(text) {
+            Some(short) => TextForm::Short(short),
+            None => TextForm::Long(String::from_str(alloc, text)?),
         };
         Ok(Text { form })
     }
@@ -87,7 +84,11 @@ impl Text {
     pub fn copy(&self, alloc: Global) -> Result<Text, Memory>
         ensures { IfOk result (λ t. t ≡ self.now) }
     {
-        Text::from_str(alloc, self.as_str())
+        let form = match &self.form {
+            TextForm::Short(short) => TextForm::Short(short.copy()),
+            TextForm::Long(string) => TextForm::Long(String::from_str(alloc, string.as_str())?),
+        };
+        Ok(Text { form })
     }
 
     /// The order of the bytes.

@@ -110,7 +110,15 @@ fn called<F: Fn(&mut World<'_>, Goal<'_>, Here, u32) -> Result<Evaluated, Stop>,
     match &call.lambda {
         None => call_plain(forms, world, &call.function, &arguments, line, here),
         Some(lambda) => {
-            with_lambda(forms, world, &call.function, lambda.get(), arguments, line, here)
+            with_lambda(
+                forms,
+                world,
+                &call.function,
+                lambda.get(),
+                arguments,
+                line,
+                here,
+            )
         }
     }
 }

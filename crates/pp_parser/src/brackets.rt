@@ -224,11 +224,7 @@ impl<F: Fn(Global, &mut Cursor<'_>, usize, Goal) -> Result<Part, Refusal>> Rules
 
     /// The parameters between two bars, of which this kind of bar is the first, and the block.
     #[tactic(auto, unfolding(crate::specs::Expressions::lambda_from, crate::specs::Input::separated))]
-    fn lambda_from(
-        &self,
-        tokens: &mut Cursor<'_>,
-        bar: Kind,
-    ) -> Result<Boxed<Lambda>, Refusal>
+    fn lambda_from(&self, tokens: &mut Cursor<'_>, bar: Kind) -> Result<Boxed<Lambda>, Refusal>
         requires { Nests self.now.levels (F.pre self.now.inner) (F.post self.now.inner) }
         ensures { Reads (spec.lambda_from (within self.now.levels) bar tokens.old) result tokens.new }
     {

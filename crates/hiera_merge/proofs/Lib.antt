@@ -1,6 +1,6 @@
 pub mod Keys
 pub mod Places
-mod DeepLemmas
-mod Fronts
+mod LaidLemmas
+mod StackLemmas
 pub mod OptionLemmas
 mod Examples

@@ -49,7 +49,7 @@ fn merge_all(alloc: Global, merge: Merge, high: Value, lower: Vec<Value>) -> Res
     }
 }
 
-fn is_hash(value: &Value) -> bool
+pub fn is_hash(value: &Value) -> bool
     ensures { result ≡ is_hash (view value.now) }
 {
     matches!(value, Value::Hash(_))

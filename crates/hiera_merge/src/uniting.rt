@@ -1,11 +1,11 @@
 //! Lists without repeats.
-ghost use Rattle.std.specs.Prelude.{◌≡◌, ◌++◌, [], IfOk, OnOk};
+ghost use Rattle.std.specs.Prelude.{◌≡◌, ◌++◌, [], true, IfOk, OnOk};
 ghost use Rattle.std.specs.List.{fold, list_any};
 ghost use Rattle.pp_funcs.specs.Lists.{behind, flat, flat_members, with_new};
 ghost use Rattle.pp_ops.specs.Same.{same};
 ghost use Rattle.pp_values.specs.Datum.{data_of};
 ghost use Rattle.pp_values.specs.Views.{view, views};
-ghost use Rattle.hiera_merge.specs.Merges.{united, joined};
+ghost use Rattle.hiera_merge.specs.Merges.{united};
 
 use pp_funcs::seen::{Seen, is_new};
 use pp_ops::sameness::is_same;
@@ -25,39 +25,49 @@ pub fn united(alloc: Global, high: &Value, lower: &[Value]) -> Result<Values, Me
     without_repeats(alloc, members.as_slice())
 }
 
-/// The members of both lists, each once. Few members move.
-pub fn joined(alloc: Global, lower: Values, higher: Values) -> Result<Values, Memory>
-    ensures { IfOk result (λ l. l ≡ joined lower higher) }
+/// The members, each once. Few members move.
+pub fn each_once(alloc: Global, members: Vec<Value>) -> Result<Values, Memory>
+    ensures { IfOk result (λ l. l ≡ fold with_new [] (views members.items)) }
 {
-    let count = lower.len().saturating_add(higher.len());
-    if count > FEW {
-        return many_joined(alloc, lower.as_slice(), higher.as_slice());
+    if members.len() > FEW {
+        return many_once(alloc, members.as_slice());
     }
-    let mut kept = Vec::with_capacity(alloc, count)?;
-    add_new(&mut kept, lower)?;
-    add_new(&mut kept, higher)?;
-    Ok(Values::from_vec(kept))
+    if are_apart(members.as_slice()) {
+        return Ok(Values::from_vec(members));
+    }
+    few_once(alloc, members)
 }
 
-/// Appends the members that are not there yet, each once.
-fn add_new(kept: &mut Vec<Value>, members: Values) -> Result<(), Memory>
-    ensures { OnOk result (views kept.new.items ≡ fold with_new (views kept.old.items) members) }
+/// Whether each of the members is there once.
+fn are_apart(members: &[Value]) -> bool
+    ensures { result ≡ true → fold with_new [] (views members.now) ≡ views members.now }
 {
-    for member in members.into_vec() {
+    for (i, member) in members.iter().enumerate() {
+        if has_same(&members[..i], member) {
+            return false;
+        }
+    }
+    true
+}
+
+fn few_once(alloc: Global, members: Vec<Value>) -> Result<Values, Memory>
+    ensures { IfOk result (λ l. l ≡ fold with_new [] (views members.items)) }
+{
+    let mut kept = Vec::with_capacity(alloc, members.len())?;
+    for member in members {
         if !has_same(kept.as_slice(), &member) {
             kept.push(member)?;
         }
     }
-    Ok(())
+    Ok(Values::from_vec(kept))
 }
 
-fn many_joined(alloc: Global, lower: &[Value], higher: &[Value]) -> Result<Values, Memory>
-    ensures { IfOk result (λ l. l ≡ joined (views lower.now) (views higher.now)) }
+fn many_once(alloc: Global, members: &[Value]) -> Result<Values, Memory>
+    ensures { IfOk result (λ l. l ≡ fold with_new [] (views members.now)) }
 {
-    let mut members = Vec::with_capacity(alloc, lower.len().saturating_add(higher.len()))?;
-    add_each(&mut members, lower)?;
-    add_each(&mut members, higher)?;
-    without_repeats(alloc, members.as_slice())
+    let mut refs = Vec::with_capacity(alloc, members.len())?;
+    add_each(&mut refs, members)?;
+    many_without_repeats(alloc, refs.as_slice())
 }
 
 /// Appends the members of the value, with those of each list among them in its place.

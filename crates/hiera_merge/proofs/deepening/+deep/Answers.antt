@@ -1,66 +1,39 @@
-use Rattle.std.proofs.Common.{◌≡◌, ◌≤◌, None, Some, length, take, rules, arith, ap, sym, subst, ◌∙◌}
-use Rattle.pp_values.specs.declared.value.Value.{Value}
-use Rattle.pp_values.specs.Places.{place_of}
+use Rattle.std.proofs.Common.{arith, ap, subst, ◌∙◌}
 use Rattle.pp_values.specs.Sizes.{pairs_size}
-use Rattle.pp_values.specs.Views.{view, pair_views}
-use Rattle.hiera_merge.proofs.DeepLemmas.{pairs_fall, first_falls, one_put, stays_distinct, first_key, rest_distinct, rest_falls, merged_value, pushed, merged_there}
-use Rattle.hiera_merge.proofs.Fronts.{place_within, place_in_front, place_nowhere, as_many, stays_long, stays_free, first_free, all_free}
+use Rattle.pp_values.specs.Views.{view, views}
+use Rattle.hiera_merge.specs.DeepSteps.{AreKeyed}
+use Rattle.hiera_merge.proofs.LaidLemmas.{pairs_fall}
+use Rattle.hiera_merge.proofs.StackLemmas.{hashes_joined, joined_distinct, one_merged, first_size, rest_size}
 use Rattle.hiera_merge.proofs.deepening.+deep.Goals as goal
 
-pub deep-deep_pairs-requires : goal.deep-deep_pairs-requires
-deep-deep_pairs-requires t c =
+pub merged_up-hashes_up-requires : goal.merged_up-hashes_up-requires
+merged_up-hashes_up-requires t c =
     (omega (arith, c.decreases, ap pairs_size c.pairs_of-high.ensures, pairs_fall (view c.args.high)), tt)
 
-pub deep_pairs-loop-key-preserved : goal.deep_pairs-loop-key-preserved
-deep_pairs-loop-key-preserved t c =
-    let pair : Value × Value = (c.in-Some.key, c.in-Some.value) in
+pub hashes_up-columns_merged-requires : goal.hashes_up-columns_merged-requires
+hashes_up-columns_merged-requires t c = (omega (arith, c.decreases, c.in_ok-columns.ensures.size), tt)
+
+pub hashes_up-from_vec-requires : goal.hashes_up-from_vec-requires
+hashes_up-from_vec-requires t c =
+    joined_distinct (views c.args.lower.items) c.args.high _ _
+    (subst (λ xs. AreKeyed (views xs)) c.as_slice.ensures.value c.are_keyed.ensures) c.is_keyed.ensures
+    c.in_ok-columns.ensures.columns c.in_ok-columns_merged.ensures
+
+pub hashes_up-returns : goal.hashes_up-returns
+hashes_up-returns t c =
+    hashes_joined (views c.args.lower.items) c.args.high c.from_vec.result _
+    (subst (λ xs. AreKeyed (views xs)) c.as_slice.ensures.value c.are_keyed.ensures) c.is_keyed.ensures
+    c.in_ok-columns.ensures.columns (c.from_vec.ensures ∙ c.in_ok-columns_merged.ensures)
+
+pub columns_merged-loop-column-preserved : goal.columns_merged-loop-column-preserved
+columns_merged-loop-column-preserved t c =
     let split = c.in-Some.ensures.steps.0 in
-    let before = c.loop-key.invariant in (
-      one_put pair _ _ _ _ _ split c.in_ok-put_deep.ensures before.0,
-      stays_distinct _ _ _ _ c.in_ok-put_deep.ensures (first_key pair _ _ split before.2) before.1,
-      rest_distinct pair _ _ split before.2,
-      rest_falls pair _ _ _ split before.3,
-      stays_long _ _ _ _ _ c.in_ok-put_deep.ensures before.4,
-      stays_free pair _ _ _ _ _ _ split c.in_ok-put_deep.ensures before.4 before.2 before.5,
+    let before = c.loop-column.invariant in (
+      one_merged _ _ _ c.in-Some.column _ _ _ c.in_ok-push.ensures.items split c.in_ok-column_merged.ensures before.0,
+      rest_size c.in-Some.column _ _ _ split before.1,
     )
 
-pub merge_at-returns : goal.merge_at-returns
-merge_at-returns t c =
-    merged_value c.args.place _ _ _ _ _ _ c.taken-low.ensures.value c.taken-low.ensures.rest c.in_ok-merged.ensures
-    c.set_value.ensures
-
-pub put_deep-returns-in_ok-merge_at-in-Some : goal.put_deep-returns-in_ok-merge_at-in-Some
-put_deep-returns-in_ok-merge_at-in-Some t c =
-    let front : place_of (view c.args.key) (pair_views (take c.args.count c.args.out.now.items)) ≡ Some c.in-Some.place =
-    ap (λ xs. place_of (view c.args.key) (pair_views (take c.args.count xs))) (sym c.as_slice.ensures.value)
-    ∙ sym c.place_of.ensures.place ∙ c.in-Some.is in
-    let there = place_in_front _ c.args.count c.args.out.now.items _ front in
-    merged_there c.args.out.now.items _ c.args.key c.args.value c.in-Some.place
-    (place_within _ c.args.out.now.items _ there) there c.in_ok-merge_at-in-Some.ensures
-
-pub put_deep-returns-in_ok-push-in-None : goal.put_deep-returns-in_ok-push-in-None
-put_deep-returns-in_ok-push-in-None t c =
-    let front : place_of (view c.args.key) (pair_views (take c.args.count c.args.out.now.items)) ≡ None =
-    ap (λ xs. place_of (view c.args.key) (pair_views (take c.args.count xs))) (sym c.as_slice.ensures.value)
-    ∙ sym c.place_of.ensures.place ∙ c.in-None.is in
-    ap pair_views c.in_ok-push-in-None.ensures.items
-    ∙ pushed c.args.out.now.items c.args.key c.args.value
-    (place_nowhere _ c.args.count c.args.out.now.items front c.requires.free)
-
-pub deep_pairs-loop-key-init : goal.deep_pairs-loop-key-init
-deep_pairs-loop-key-init t c =
-    let many : c.len-count.result ≡ length (pair_views c.into_vec-out.result.items) =
-    c.len-count.ensures ∙ ap length (sym c.into_vec-out.ensures.pairs) in
-    (search rules, search rules, search rules, search rules, omega (arith, many), all_free _ _ _ many)
-
-pub deep_pairs-put_deep-requires : goal.deep_pairs-put_deep-requires
-deep_pairs-put_deep-requires t c =
-    let pair : Value × Value = (c.in-Some.key, c.in-Some.value) in
+pub columns_merged-column_merged-requires : goal.columns_merged-column_merged-requires
+columns_merged-column_merged-requires t c =
     let split = c.in-Some.ensures.steps.0 in
-    let before = c.loop-key.invariant in (
-      omega (arith, c.decreases, first_falls pair _ _ _ split before.3),
-      (
-        subst (λ n. c.len-count.result ≤ n) (as_many c.loop-key.out.items) before.4,
-        first_free pair c.len-count.result (pair_views c.loop-key.out.items) _ _ split before.5,
-      ),
-    )
+    (omega (arith, c.decreases, first_size c.in-Some.column _ _ _ split c.loop-column.invariant.1), tt)

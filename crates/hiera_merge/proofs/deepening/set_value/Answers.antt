@@ -1,7 +1,0 @@
-use Rattle.std.proofs.Common.{arith}
-use Rattle.std.proofs.lemmas.Grind.{common_steps}
-use Rattle.pp_values.proofs.Distinct.{pair_views-set}
-use Rattle.hiera_merge.proofs.deepening.set_value.Goals as goal
-
-pub returns : goal.returns
-returns c = grind (arith, common_steps, pair_views-set c.args.out.now.items c.args.place c.args.value c.index_mut.result.now)

@@ -46,7 +46,7 @@ fn sources_in(
         ≡ had_in files.now key.now global.now ++ had_in files.now key.now environment.now) }
 {
     let mark = mark_of(key);
-    let mut found = Vec::new(alloc);
+    let mut found = Vec::with_capacity(alloc, global.len().saturating_add(environment.len()))?;
     add_in_plan(alloc, files, global, key, mark, &mut found)?;
     add_in_plan(alloc, files, environment, key, mark, &mut found)?;
     Ok(found)

@@ -43,7 +43,7 @@ fn item_values(alloc: Global, items: &Vec<Json>, mode: Numbers) -> Result<Values
     ensures value { IsData data_of result (item_values mode (items_view items.now.items)) }
     ensures facts { IfOk result (λ l. IsTrue (are_members (data_of l))) }
 {
-    let mut values = Vec::new(alloc);
+    let mut values = Vec::with_capacity(alloc, items.len())?;
     for item in items {
         let value = from_data(alloc, item, mode)?;
         values.push(value)?;
@@ -60,7 +60,7 @@ fn member_values(
     ensures value { IsData entries_of result (member_values mode (members_view members.now.entries)) }
     ensures facts { IfOk result (λ l. IsTrue (are_pairs (entries_of l))) }
 {
-    let mut pairs = Vec::new(alloc);
+    let mut pairs = Vec::with_capacity(alloc, members.len())?;
     for (name, member) in members.iter() {
         let value = from_data(alloc, member, mode)?;
         let key = Value::Text(Text::from_str(alloc, name.as_str())?);

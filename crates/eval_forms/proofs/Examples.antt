@@ -6,7 +6,6 @@ use Rattle.pp_tree.specs.declared.conditions.Case.{out-roll-Case}
 use Rattle.pp_tree.specs.declared.conditions.CaseOption.{CaseOption, out-roll-CaseOption}
 use Rattle.pp_tree.specs.declared.conditions.Elsif.{out-roll-Elsif}
 use Rattle.pp_tree.specs.declared.conditions.If.{out-roll-If}
-use Rattle.pp_tree.specs.declared.conditions.Unless.{out-roll-Unless}
 use Rattle.pp_tree.specs.declared.expr.Expr.{Expr}
 use Rattle.pp_tree.specs.declared.expr.Form as form
 use Rattle.pp_tree.specs.declared.expr.Operation.{Operation}
@@ -302,10 +301,10 @@ unless_values : Makes (unless_rule sample (unless_of undef first (Some second)) 
     × RefusesX (unless_rule sample (unless_of x first None) 7)
 unfolding unless_rule otherwise_rule truth_rule form.out-Form denote.Hole.Carrier.out
 unless_values = (
-  λ here w. simp out-roll-Unless refl,
-  λ here w. simp out-roll-Unless refl,
-  λ here w. simp out-roll-Unless refl,
-  λ here w. simp out-roll-Unless refl,
+  λ here w. refl,
+  λ here w. refl,
+  λ here w. refl,
+  λ here w. refl,
 )
 
 -- ---- `case`

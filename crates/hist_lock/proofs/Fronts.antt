@@ -1,6 +1,7 @@
 -- Fronts of one list.
-use Rattle.std.proofs.Common.{◌≡◌, ℕ, zero, suc, ◌<◌, ◌≤◌, List, [], ◌∷◌, ◌++◌, length, Some, slice_get, refl, ap, sym, ◌∙◌, arith, append_assoc, append-nil, length-append}
+use Rattle.std.proofs.Common.{◌≡◌, ℕ, zero, suc, ◌<◌, ◌≤◌, List, [], ◌∷◌, ◌++◌, length, Some, slice_get, refl, ap, sym, subst, ◌∙◌, arith, append_assoc, append-nil, length-append}
 use mathlib.Core.List.{IsPrefix}
+use Rattle.hist_lock.specs.Calls.{IsLonger}
 
 module _ {A : Type 0} where
   pub prefix_self : (xs : List A) → IsPrefix xs xs
@@ -8,6 +9,13 @@ module _ {A : Type 0} where
 
   pub prefix_trans : (xs ys zs : List A) → IsPrefix xs ys → IsPrefix ys zs → IsPrefix xs zs
   prefix_trans xs ys zs p q = (p.0 ++ q.0, sym (append_assoc xs p.0 q.0) ∙ (ap (λ w. w ++ q.0) p.1 ∙ q.1))
+
+  -- of two fronts that are alike the longer is as they are
+  pub rejoined : (old now one other longer after : List A) → one ≡ now → other ≡ now → IsPrefix old now →
+      IsLonger one other longer → IsPrefix longer after → IsPrefix old after
+  rejoined old now one other longer after one_is other_is begins is goes_on =
+      let same : longer ≡ now = (is.0 (omega (arith, ap length one_is, ap length other_is))).0 ∙ one_is in
+      prefix_trans old now after begins (subst (λ xs. IsPrefix xs after) same goes_on)
 
   pub prefix_length : (xs ys : List A) → IsPrefix xs ys → length xs ≤ length ys
   prefix_length xs ys p = omega (arith, sym (ap length p.1) ∙ length-append xs p.0)

@@ -1,5 +1,6 @@
 //! What the calls of a lock do together, as a caller uses them.
-ghost use Rattle.std.specs.Prelude.{◌≡◌, All, None, IfErr};
+ghost use Rattle.std.specs.Prelude.{◌≡◌, All, None, IfOk, IfErr};
+ghost use mathlib.Core.List.{IsPrefix};
 
 use crate::lock::HistLock;
 use crate::stands_for::StandsFor;
@@ -13,7 +14,8 @@ pub fn closes_once_all_are_joined<V: StandsFor + Drop, R: Wait>(
     value: V,
 ) -> Result<V, AllocFailed<V>>
     requires { All (λ e. V.author e ≡ None) (V.entries value) }
-    ensures { IfErr result (λ refused. refused.value ≡ value) }
+    ensures ok { IfOk result (λ now. IsPrefix (V.entries value) (V.entries now)) }
+    ensures err { IfErr result (λ refused. refused.value ≡ value) }
 {
     let (lock, mut first) = HistLock::new(alloc, value)?;
     let mut turn = lock.take(rt, &mut first);

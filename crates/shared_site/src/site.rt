@@ -259,10 +259,6 @@ impl<L: Language + Drop> SharedSite<L> {
         pass.count = pass.count.max(count);
     }
 
-    pub fn language(&self) -> &L {
-        &self.language
-    }
-
     /// The history, once all passes that were split are joined again.
     pub fn close(self, pass: SitePass<L>) -> History<L::Site>
         requires site { pass.site ≡ self }

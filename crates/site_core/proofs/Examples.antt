@@ -1,6 +1,6 @@
 -- The definitions on small values.
 use Rattle.std.proofs.Common.{◌≡◌, ℕ, true, false, [], ◌∷◌, ◌≤◌, List, None, Some, Ok, Err, length, refl, ap, arith}
-use Rattle.std.specs.Prelude.{codes, pos, reverse, take, if◌then◌else◌}
+use Rattle.std.specs.Prelude.{◌*◌, codes, pos, reverse, take, if◌then◌else◌}
 use Rattle.std.specs.Str.{bytes_eq}
 use Rattle.std.proofs.Math.Dec.{lit≤}
 use Rattle.std.specs.FinMap as fin
@@ -9,6 +9,7 @@ use Rattle.res_core.specs.declared.export_set.ExportSet.{ExportSet}
 use Rattle.export_store.specs.Sets.{Sets}
 use Rattle.pp_values.specs.Facts.{are_facts}
 use Rattle.site_core.specs.Meaning.{Meaning}
+use Rattle.site_core.specs.declared.history.TheConstants.{MOST_ENTRIES}
 use Rattle.site_core.specs.Events.{Event, opens, publishes, deactivates, calls_of}
 use Rattle.site_core.specs.Sets.{sets_at, site_at, latest_set}
 use Rattle.site_core.specs.Legal.{meaning_at, Legal}
@@ -37,6 +38,10 @@ default_within = refl
 
 no_hash : are_facts (text (codes "a")) ≡ false
 no_hash = refl
+
+-- the most entries of a history
+limit : MOST_ENTRIES ≡ 1024 * 1024
+limit = refl
 
 -- A site is a number, and a node exports nothing or one notice. In this language node `x` has a fault, and each other
 -- node exports the

@@ -1,5 +1,6 @@
 //! The program of the site: `manifest NODE` reads a manifest and writes the node's catalog; `sequence` reads a bundle,
-//! answers its requests one after another, and writes the history and the replies; `batch` has workers share them out.
+//! answers its requests one after another, and writes the history and the replies; `batch` has workers share them out;
+//! `lookup NODE KEY` writes the value that a bundle's data have.
 #![tactic(auto)]
 
 use site_commands::run_program;

@@ -1,7 +1,7 @@
 -- What a turn can come to, and the laws of runs.
 use Rattle.std.proofs.Common.{◌≡◌, ◌⊎◌, inl, inr, ℕ, ◌+◌, Bool, true, false, List, [], ◌∷◌, ◌++◌, length, Option, None, Some, Result, Ok, Err, refl, sym, ap, ◌∙◌, subst, arith}
 use Rattle.std.specs.Prelude.{nat_lt, if◌then◌else◌, IsTrue, option_map, option_and_then, ◌||◌}
-use Rattle.std.specs.List.{list_any, filter_map, cons_option}
+use Rattle.std.specs.List.{list_any}
 use Rattle.std.proofs.lemmas.Bool.{and_from, and_parts, or_parts, eq-eqb}
 use Rattle.std.proofs.lemmas.List.{length-append}
 use Rattle.pp_values.specs.Datum.{Datum}
@@ -10,23 +10,24 @@ use Rattle.res_core.specs.Asked.{Asked, compile, deactivate}
 use Rattle.site_core.specs.Meaning.{Meaning}
 use Rattle.site_core.specs.Events.{Event}
 use Rattle.site_core.specs.Sets.{sets_at, site_at}
-use Rattle.site_core.specs.Fits.{facts_for}
+use Rattle.site_core.specs.Fits.{facts_for, named}
+use Rattle.site_core.specs.Runs.{all_named}
 use Rattle.site_core.specs.declared.reply.ReplyOf.{ReplyOf}
 use Rattle.site_core.specs.declared.reply.ReplyOf.TheVariants as a
 use Rattle.site_sequence.specs.Sequence.{Turn, turn, turn_meant, turn_removed, turn_known, turn_for, Takes, AnsweredInTurn, Outcome, with_turn, outcome_of}
-use Rattle.site_sequence.specs.SequenceLaws.{is_memory, named_entry, CountUp, is_made_from, are_made_in_turn, AnswersAreMeant, MeantIsAnswered, RepliesNameEntries, PublicationsAreInTurn}
+use Rattle.site_sequence.specs.SequenceLaws.{is_memory, CountUp, is_made_from, are_made_in_turn, AnswersAreMeant, MeantIsAnswered, RepliesNameEntries, PublicationsAreInTurn}
 
 module _ {S C F : Type 0} where
   -- the history stays, and no entry is named
   record IsSilent (h : List (Event S)) (reply : ReplyOf C F) (after : List (Event S)) : Type 0 where
     pub same : after ≡ h
-    pub unnamed : named_entry reply ≡ None
+    pub unnamed : named reply ≡ []
 
   -- one entry comes, which the reply names
   record Adds (h : List (Event S)) (reply : ReplyOf C F) (after : List (Event S)) : Type 0 where
     pub entry : Event S
     pub more : after ≡ h ++ entry ∷ []
-    pub named : named_entry reply ≡ Some (length h)
+    pub names : named reply ≡ length h ∷ []
     pub in_turn : IsTrue (is_made_from (length h) entry)
 
   record Comes (h : List (Event S)) (t : Turn S C F) : Type 0 where
@@ -37,16 +38,16 @@ module _ {S C F : Type 0} where
   comes_if h true t u first second = first
   comes_if h false t u first second = second
 
-  stays : (h : List (Event S)) (reply : ReplyOf C F) → is_memory reply ≡ false → named_entry reply ≡ None →
+  stays : (h : List (Event S)) (reply : ReplyOf C F) → is_memory reply ≡ false → named reply ≡ [] →
       Comes h (turn reply h)
   stays h reply told unnamed = record { told = told; kind = inl (record { same = refl; unnamed = unnamed }) }
 
   adds : (h : List (Event S)) (reply : ReplyOf C F) (e : Event S) → is_memory reply ≡ false →
-      named_entry reply ≡ Some (length h) →
+      named reply ≡ length h ∷ [] →
       IsTrue (is_made_from (length h) e) → Comes h (turn reply (h ++ e ∷ []))
-  adds h reply e told named in_turn = record {
+  adds h reply e told names in_turn = record {
     told = told;
-    kind = inr (record { entry = e; more = refl; named = named; in_turn = in_turn });
+    kind = inr (record { entry = e; more = refl; names = names; in_turn = in_turn });
   }
 
   comes_meant : (limit : ℕ) (h : List (Event S)) (node : List ℕ) (facts : Datum) (meant : Result (C × ExportSet) F) →
@@ -95,15 +96,15 @@ module _ {S C F : Type 0} (meaning : Meaning S C F) (listed : S → List ℕ →
       Takes meaning listed limit h asked reply next →
       IsSilent h reply next ⊎ Adds h reply next
   kind_of h next asked reply (inl is) = (comes h asked (turn reply next) is).kind
-  kind_of h next asked reply (inr is) = inl (record { same = is.1; unnamed = ap named_entry is.0 })
+  kind_of h next asked reply (inr is) = inl (record { same = is.1; unnamed = ap named is.0 })
 
   count_on : (h next after : List (Event S)) (reply : ReplyOf C F) (xs : List ℕ) → IsSilent h reply next
       ⊎ Adds h reply next →
-      CountUp (length next) (length after) xs → CountUp (length h) (length after) (cons_option (named_entry reply) xs)
+      CountUp (length next) (length after) xs → CountUp (length h) (length after) (named reply ++ xs)
   count_on h next after reply xs (inl silent) up =
       rw silent.unnamed (subst (λ es. CountUp (length es) (length after) xs) silent.same up)
   count_on h next after reply xs (inr added) up =
-      rw added.named (
+      rw added.names (
         refl,
         subst (λ n. CountUp n (length after) xs)
             (ap length added.more ∙ length-append h (added.entry ∷ [])) up,
@@ -112,7 +113,7 @@ module _ {S C F : Type 0} (meaning : Meaning S C F) (listed : S → List ℕ →
   pub names : RepliesNameEntries meaning listed limit
   names h after [] [] run = ap length (sym run)
   names h after (asked ∷ requests) (reply ∷ replies) run =
-      count_on h run.0 after reply (filter_map named_entry replies) (kind_of h run.0 asked reply run.1)
+      count_on h run.0 after reply (all_named replies) (kind_of h run.0 asked reply run.1)
       (names run.0 after requests replies run.2)
   names h after [] (reply ∷ replies) run = absurd run
   names h after (asked ∷ requests) [] run = absurd run

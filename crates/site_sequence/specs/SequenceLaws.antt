@@ -1,12 +1,12 @@
 -- What holds of requests that are answered in turn.
-use Rattle.std.specs.Prelude.{◌≡◌, ℕ, ◌+◌, ◌≤◌, Bool, true, false, ◌==◌, ◌&&◌, IsTrue, List, [], ◌∷◌, length, Option, None, Some}
-use Rattle.std.specs.List.{list_any, filter_map}
+use Rattle.std.specs.Prelude.{◌≡◌, ℕ, ◌+◌, ◌≤◌, Bool, true, false, ◌==◌, ◌&&◌, IsTrue, List, [], ◌∷◌, length, Option, Some}
+use Rattle.std.specs.List.{list_any}
 use Rattle.pp_values.specs.Datum.{Datum}
 use Rattle.res_core.specs.Asked.{Asked}
 use Rattle.site_core.specs.Meaning.{Meaning}
 use Rattle.site_core.specs.Events.{Event, opens, publishes, deactivates}
 use Rattle.site_core.specs.Legal.{Legal}
-use Rattle.site_core.specs.Runs.{Whole}
+use Rattle.site_core.specs.Runs.{all_named, Whole}
 use Rattle.site_core.specs.declared.reply.ReplyOf.{ReplyOf}
 use Rattle.site_core.specs.declared.reply.ReplyOf.TheVariants as a
 use Rattle.site_sequence.specs.Sequence.{AnsweredInTurn, Outcome, outcome_of}
@@ -20,16 +20,6 @@ module _ {C F : Type 0} where
   is_memory (a.UnknownNode k) = false
   is_memory (a.Deactivated entry) = false
   is_memory a.Memory = true
-
-  -- the number of the entry that the reply names
-  abbrev pub named_entry : ReplyOf C F → Option ℕ
-  named_entry (a.Served entry k catalog) = Some entry
-  named_entry (a.Refused k fault) = None
-  named_entry (a.HistoryFull length) = None
-  named_entry (a.SeenAhead length) = None
-  named_entry (a.UnknownNode k) = None
-  named_entry (a.Deactivated entry) = Some entry
-  named_entry a.Memory = None
 
 -- the numbers from n up to, and without, m
 abbrev pub CountUp : ℕ → ℕ → List ℕ → Type 0
@@ -68,7 +58,7 @@ module _ {S C F : Type 0} (meaning : Meaning S C F) (listed : S → List ℕ →
   RepliesNameEntries =
       (h after : List (Event S)) (requests : List Asked) (replies : List (ReplyOf C F)) →
       AnsweredInTurn meaning listed limit h requests replies after →
-      CountUp (length h) (length after) (filter_map named_entry replies)
+      CountUp (length h) (length after) (all_named replies)
 
   -- in a history whose publications were made in turn, those that come are so too
   abbrev pub PublicationsAreInTurn : Type 0

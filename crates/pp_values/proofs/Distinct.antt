@@ -1,11 +1,13 @@
 -- What a hash's edits do to its pairs and its keys.
-use Rattle.std.proofs.Common.{◌≡◌, ℕ, zero, suc, ◌<◌, ◌&&◌, IsTrue, not, None, Some, List, [], ◌∷◌, ◌++◌, length, refl, ap, arith, get_or, remove}
+use Rattle.std.proofs.Common.{◌≡◌, ℕ, zero, suc, ◌<◌, ◌&&◌, Bool, true, false, IsTrue, not, cond, None, Some, List, [], ◌∷◌, ◌++◌, length, refl, ap, sym, subst, ◌∙◌, arith, get_or, true≢false}
 use Rattle.std.specs.Prelude.{slice_set}
+use Rattle.std.specs.Cmp.{first_so, second_so, signed_Decides}
+use Rattle.std.proofs.lemmas.Slice.Eq.{bytes_eq-Decides}
 use Rattle.std.proofs.lemmas.Grind.{common_steps}
 use Rattle.pp_values.specs.declared.value.Value.{Value}
-use Rattle.pp_values.specs.Datum.{Datum, Pair}
+use Rattle.pp_values.specs.Datum.{Datum, int, text, Pair}
 use Rattle.pp_values.specs.Keys.{is_key, same_key, lacks, are_distinct, value_at, with_pair, without_key}
-use Rattle.pp_values.specs.Places.{place_of, with_value, value_of_place, without_place}
+use Rattle.pp_values.specs.Places.{place_of, with_value, without_place}
 use Rattle.pp_values.specs.Views.{view, pair_view, pair_views}
 
 -- a key without a place
@@ -17,10 +19,6 @@ pub without_key-no_place : (k : Datum) (ps : List Pair) → place_of k ps ≡ No
 without_key-no_place k [] e = refl
 without_key-no_place k (p ∷ ps) e = grind (arith, common_steps, without_key-no_place k ps)
 
-pub value_at-no_place : (k : Datum) (ps : List Pair) → place_of k ps ≡ None → value_at k ps ≡ None
-value_at-no_place k [] e = refl
-value_at-no_place k (p ∷ ps) e = grind (arith, common_steps, value_at-no_place k ps)
-
 -- a key with a place
 pub with_pair-place : (k v : Datum) (ps : List Pair) (n : ℕ) → place_of k ps ≡ Some n → with_pair k v ps ≡ with_value v n ps
 with_pair-place k v [] n e = cc
@@ -31,11 +29,6 @@ pub without_key-place : (k : Datum) (ps : List Pair) (n : ℕ) → place_of k ps
 without_key-place k [] n e = cc
 without_key-place k (p ∷ ps) zero e = grind (arith, common_steps, without_key-place k ps)
 without_key-place k (p ∷ ps) (suc n) e = grind (arith, common_steps, without_key-place k ps n)
-
-pub value_at-place : (k : Datum) (ps : List Pair) (n : ℕ) → place_of k ps ≡ Some n → value_at k ps ≡ value_of_place n ps
-value_at-place k [] n e = cc
-value_at-place k (p ∷ ps) zero e = grind (arith, common_steps, value_at-place k ps)
-value_at-place k (p ∷ ps) (suc n) e = grind (arith, common_steps, value_at-place k ps n)
 
 -- keys stay distinct where a value is set, a pair is taken out, and a new key is appended
 lacks-with_value : (k v : Datum) (n : ℕ) (ps : List Pair) → lacks k (with_value v n ps) ≡ lacks k ps
@@ -74,13 +67,35 @@ pair_views-set [] n v d h = absurd (omega (arith, h))
 pair_views-set (x ∷ xs) zero v d h = refl
 pair_views-set (x ∷ xs) (suc n) v d h = let h' : n < length xs = omega (arith, h) in ap (λ ps. pair_view x ∷ ps) (pair_views-set xs n v d h')
 
-pub pair_views-remove : (items : List (Value × Value)) (n : ℕ) → n < length items → pair_views (remove items n) ≡ without_place n (pair_views items)
-pair_views-remove [] n h = absurd (omega (arith, h))
-pair_views-remove (x ∷ xs) zero h = refl
-pair_views-remove (x ∷ xs) (suc n) h = let h' : n < length xs = omega (arith, h) in ap (λ ps. pair_view x ∷ ps) (pair_views-remove xs n h')
+-- two keys that are the same are one
+pub one_key : (a b : Datum) → same_key a b ≡ true → a ≡ b
+one_key (int x) (int y) h = ap int ((signed_Decides x y).0 h)
+one_key (text x) (text y) h = ap text ((bytes_eq-Decides x y).0 h)
+one_key a b h = absurd (true≢false (sym h))
 
-pub value_of_place-get : (items : List (Value × Value)) (n : ℕ) (d : Value × Value) → n < length items →
-    value_of_place n (pair_views items) ≡ Some (view (get_or items n d).1)
-value_of_place-get [] n d h = absurd (omega (arith, h))
-value_of_place-get (x ∷ xs) zero d h = refl
-value_of_place-get (x ∷ xs) (suc n) d h = let h' : n < length xs = omega (arith, h) in value_of_place-get xs n d h'
+pub not_so : (b : Bool) → IsTrue (not b) → b ≡ false
+not_so true is = absurd (cc is)
+not_so false is = refl
+
+-- a pair at some place that has the key is the one that is found, since no other one has it
+other_key : (k j : Datum) (items : List (Value × Value)) (n : ℕ) (d : Value × Value) → n < length items →
+    IsTrue (lacks j (pair_views items)) → same_key k (view (get_or items n d).0) ≡ true → same_key k j ≡ false
+other_key k j [] n d h without same = absurd (omega (arith, h))
+other_key k j (x ∷ xs) zero d h without same =
+    subst (λ q. same_key q j ≡ false) (sym (one_key k (view x.0) same))
+    (not_so (same_key (view x.0) j) (first_so (not (same_key (view x.0) j)) _ without))
+other_key k j (x ∷ xs) (suc n) d h without same =
+    let h' : n < length xs = omega (arith, h) in
+    other_key k j xs n d h' (second_so (not (same_key (view x.0) j)) _ without) same
+
+pub value_at-place : (k : Datum) (items : List (Value × Value)) (n : ℕ) (d : Value × Value) → n < length items →
+    IsTrue (are_distinct (pair_views items)) → same_key k (view (get_or items n d).0) ≡ true →
+    value_at k (pair_views items) ≡ Some (view (get_or items n d).1)
+value_at-place k [] n d h distinct same = absurd (omega (arith, h))
+value_at-place k (x ∷ xs) zero d h distinct same = ap (λ b. cond b (Some (view x.1)) (value_at k (pair_views xs))) same
+value_at-place k (x ∷ xs) (suc n) d h distinct same =
+    let h' : n < length xs = omega (arith, h) in
+    let rest : IsTrue (lacks (view x.0) (pair_views xs) && are_distinct (pair_views xs)) = second_so (is_key (view x.0)) _ distinct in
+    ap (λ b. cond b (Some (view x.1)) (value_at k (pair_views xs)))
+    (other_key k (view x.0) xs n d h' (first_so (lacks (view x.0) (pair_views xs)) _ rest) same)
+    ∙ value_at-place k xs n d h' (second_so (lacks (view x.0) (pair_views xs)) _ rest) same

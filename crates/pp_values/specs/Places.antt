@@ -14,11 +14,6 @@ with_value v n [] = []
 with_value v zero (p ∷ ps) = (p.0, v) ∷ ps
 with_value v (suc n) (p ∷ ps) = p ∷ with_value v n ps
 
-abbrev pub value_of_place : ℕ → List Pair → Option Datum
-value_of_place n [] = None
-value_of_place zero (p ∷ ps) = Some p.1
-value_of_place (suc n) (p ∷ ps) = value_of_place n ps
-
 abbrev pub without_place : ℕ → List Pair → List Pair
 without_place n [] = []
 without_place zero (p ∷ ps) = ps

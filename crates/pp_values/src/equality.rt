@@ -54,8 +54,8 @@ fn equal_items(a: &[Value], b: &[Value]) -> bool
 fn is_within(a: &[(Value, Value)], b: &Pairs) -> bool
     ensures { result ≡ is_within (entries_of (pair_views a.now)) b.now }
 {
-    for (key, value) in a {
-        match b.get(key) {
+    for (place, (key, value)) in a.iter().enumerate() {
+        match b.get_near(place, key) {
             Some(other) => {
                 if !equal(value, other) {
                     return false;

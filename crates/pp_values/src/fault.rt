@@ -163,8 +163,7 @@ pub enum Stop {
 }
 
 impl From<Fault> for Stop {
-    ghost use Rattle.std.specs.Prelude.{◌≡◌, IfOk};
-    ghost use Rattle.pp_values.specs.Faults.{fault};
+    ghost use Rattle.std.specs.Prelude.{◌≡◌};
     ghost use Rattle.pp_values.specs.declared.fault.Stop.TheVariants as stop;
 
     ghost from_gives = { λ fault s. s ≡ stop.Fault fault };
@@ -175,8 +174,7 @@ impl From<Fault> for Stop {
 }
 
 impl From<Memory> for Stop {
-    ghost use Rattle.std.specs.Prelude.{◌≡◌, IfOk};
-    ghost use Rattle.pp_values.specs.Faults.{fault};
+    ghost use Rattle.std.specs.Prelude.{◌≡◌};
     ghost use Rattle.pp_values.specs.declared.fault.Stop.TheVariants as stop;
 
     ghost from_gives = { λ _ s. s ≡ stop.Memory };
@@ -187,8 +185,7 @@ impl From<Memory> for Stop {
 }
 
 impl From<AllocError> for Stop {
-    ghost use Rattle.std.specs.Prelude.{◌≡◌, IfOk};
-    ghost use Rattle.pp_values.specs.Faults.{fault};
+    ghost use Rattle.std.specs.Prelude.{◌≡◌};
     ghost use Rattle.pp_values.specs.declared.fault.Stop.TheVariants as stop;
 
     ghost from_gives = { λ _ s. s ≡ stop.Memory };
@@ -199,8 +196,7 @@ impl From<AllocError> for Stop {
 }
 
 impl<T: Drop> From<AllocFailed<T>> for Stop {
-    ghost use Rattle.std.specs.Prelude.{◌≡◌, IfOk};
-    ghost use Rattle.pp_values.specs.Faults.{fault};
+    ghost use Rattle.std.specs.Prelude.{◌≡◌};
     ghost use Rattle.pp_values.specs.declared.fault.Stop.TheVariants as stop;
 
     ghost from_gives = { λ _ s. s ≡ stop.Memory };

@@ -47,9 +47,7 @@ pub use pairs::Pairs;
 pub use place::{MAIN_MANIFEST, Place};
 pub use places::{Places, copy_places};
 pub use plain::is_plain_value;
-pub use printing::{
-    kind_text, reference_text, references_print_apart, write_kind, write_reference,
-};
+pub use printing::{kind_text, references_print_apart, write_kind, write_reference};
 pub use ptype::{EntryType, MemberType, PType, TypeBox};
 pub use reference::Reference;
 pub use refs::{Refs, copy_refs};

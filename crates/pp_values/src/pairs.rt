@@ -1,6 +1,6 @@
-ghost use Rattle.std.specs.Prelude.{◌≡◌, ◌<◌, [], ◌∷◌, ◌++◌, ◌↔◌, length, is_ok, if◌then◌else◌, IsTrue, IfSome, Some, option_map, vec_len};
-ghost use Rattle.pp_values.specs.Keys.{is_key, are_distinct, value_at, with_pair, without_key};
-ghost use Rattle.pp_values.specs.Places.{place_of, with_value, value_of_place, without_place};
+ghost use Rattle.std.specs.Prelude.{◌≡◌, ◌<◌, [], ◌↔◌, length, is_ok, if◌then◌else◌, IsTrue, IfSome, option_map, vec_len};
+ghost use Rattle.pp_values.specs.Keys.{is_key, are_distinct, value_at, with_pair};
+ghost use Rattle.pp_values.specs.Places.{place_of, with_value};
 ghost use Rattle.pp_values.specs.Views.{view, pair_views};
 
 use crate::keys::same_key;
@@ -100,6 +100,13 @@ impl Pairs {
         value_at(&self.items, key)
     }
 
+    /// As `get`, but looks at this place first: two hashes mostly have their keys in one order.
+    pub(crate) fn get_near(&self, place: usize, key: &Value) -> Option<&Value>
+        ensures { option_map (λ v. view v.now) result ≡ value_at (view key.now) self.now }
+    {
+        value_near(&self.items, place, key)
+    }
+
     /// Sets the value of a key: in the key's place where it has one, and else at the end.
     /// Where there is no memory, the hash stays as it was.
     pub fn put(&mut self, key: Value, value: Value) -> Result<(), Memory>
@@ -118,17 +125,6 @@ impl Pairs {
             }
         }
     }
-
-    /// Takes a key and its value out, and gives the value. The other pairs keep their order.
-    pub fn remove(&mut self, key: &Value) -> Option<Value>
-        ensures value { option_map view result ≡ value_at (view key.now) self.old }
-        ensures rest { self.new ≡ without_key (view key.now) self.old }
-    {
-        match place_of(&self.items, key) {
-            Some(place) => Some(remove_pair(&mut self.items, place)),
-            None => None,
-        }
-    }
 }
 
 fn value_at<'a>(items: &'a [(Value, Value)], key: &Value) -> Option<&'a Value>
@@ -140,6 +136,19 @@ fn value_at<'a>(items: &'a [(Value, Value)], key: &Value) -> Option<&'a Value>
         }
     }
     None
+}
+
+fn value_near<'a>(items: &'a [(Value, Value)], place: usize, key: &Value) -> Option<&'a Value>
+    requires { IsTrue (are_distinct (pair_views items.now)) }
+    ensures { option_map (λ v. view v.now) result ≡ value_at (view key.now) (pair_views items.now) }
+{
+    if place < items.len() {
+        let (other, value) = &items[place];
+        if same_key(key, other) {
+            return Some(value);
+        }
+    }
+    value_at(items, key)
 }
 
 fn place_of(items: &[(Value, Value)], key: &Value) -> Option<usize>
@@ -159,20 +168,4 @@ fn replace_value(items: &mut Vec<(Value, Value)>, place: usize, value: Value)
     ensures { pair_views items.new.items ≡ with_value (view value) place (pair_views items.old.items) }
 {
     drop(mem::replace(&mut items[place].1, value));
-}
-
-fn remove_pair(items: &mut Vec<(Value, Value)>, place: usize) -> Value
-    requires { place < vec_len items.old }
-    ensures value { Some (view result) ≡ value_of_place place (pair_views items.old.items) }
-    ensures rest { pair_views items.new.items ≡ without_place place (pair_views items.old.items) }
-{
-    value_of(items.remove(place))
-}
-
-fn value_of(pair: (Value, Value)) -> Value
-    ensures { result ≡ pair.1 }
-{
-    let (key, value) = pair;
-    drop(key);
-    value
 }

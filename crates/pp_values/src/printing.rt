@@ -44,15 +44,6 @@ pub fn kind_text(alloc: Global, kind: &Kind) -> Result<Text, Memory>
     Ok(Text::new(out))
 }
 
-/// A reference as documents and faults print it: `Web::Vhost[a]`.
-pub fn reference_text(alloc: Global, reference: &Reference) -> Result<Text, Memory>
-    ensures { IfOk result (λ t. t ≡ reference_text reference.now) }
-{
-    let mut out = String::new(alloc);
-    write_reference(&mut out, reference)?;
-    Ok(Text::new(out))
-}
-
 /// References are the same where documents and faults print them alike.
 pub fn references_print_apart()
     ensures { ArePrintedApart }

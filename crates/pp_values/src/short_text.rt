@@ -1,4 +1,5 @@
-ghost use Rattle.std.specs.Prelude.{◌≡◌, ◌≤◌, length, IfSome};
+ghost use Rattle.std.specs.Prelude.{◌≡◌, ◌<◌, length, MatchOption};
+ghost use Rattle.pp_values.specs.declared.short_text.TheConstants.{MOST_BYTES};
 
 use std::marker::Model;
 
@@ -15,7 +16,7 @@ pub(crate) struct ShortText {
 }
 
 impl Model for ShortText {
-    ghost use Rattle.std.specs.Prelude.{◌≡◌, ◌≤◌, ℕ, List, length, take, IsUtf8};
+    ghost use Rattle.std.specs.Prelude.{◌≤◌, ℕ, List, take, IsUtf8};
     ghost use Rattle.pp_values.specs.declared.short_text.TheConstants.{MOST_BYTES};
 
     ghost Value = { List ℕ };
@@ -26,9 +27,9 @@ impl Model for ShortText {
 }
 
 impl ShortText {
-    /// The text, where it is short enough.
+    /// The text, or none where it is too long.
     pub(crate) fn from_str(text: &str) -> Option<ShortText>
-        ensures { IfSome result (λ s. s ≡ text.now) }
+        ensures { MatchOption result (MOST_BYTES < length text.now) (λ s. s ≡ text.now) }
     {
         let from = text.as_bytes();
         if from.len() > MOST_BYTES {

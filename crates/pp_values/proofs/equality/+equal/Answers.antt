@@ -18,7 +18,7 @@ equal_items-equal-requires t c =
 
 pub is_within-equal-requires : goal.is_within-equal-requires
 is_within-equal-requires t c =
-    (omega (arith, c.decreases, pair_falls c.args.a.now _ _ _ refl c.loop-key-test.true c.loop-key-item.is), tt)
+    (omega (arith, c.decreases, pair_falls c.args.a.now _ _ _ refl c.loop-place-test.true c.index-a-place.is), tt)
 
 pub equal-is_within-requires : goal.equal-is_within-requires
 equal-is_within-requires t c =

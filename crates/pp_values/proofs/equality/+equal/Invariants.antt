@@ -19,6 +19,6 @@ decreases-is_within l = pairs_size (pair_views l.a.now)
 abbrev pub invariant-equal_items-loop-i : goal.invariant-equal_items-loop-i
 invariant-equal_items-loop-i l = pointwise equal (views l.a) (views l.b) ≡ pointwise equal (views (drop l.i l.a)) (views (drop l.i l.b))
 
-abbrev pub invariant-is_within-loop-key : goal.invariant-is_within-loop-key
-invariant-is_within-loop-key l =
-    is_within (entries_of (pair_views l.a)) l.b ≡ is_within (entries_of (pair_views (drop l.key-index l.a))) l.b
+abbrev pub invariant-is_within-loop-place : goal.invariant-is_within-loop-place
+invariant-is_within-loop-place l =
+    is_within (entries_of (pair_views l.a)) l.b ≡ is_within (entries_of (pair_views (drop l.place l.a))) l.b

@@ -9,6 +9,7 @@ ghost use Rattle.hiera_config.specs.Sound.{SkipsAll, SoundLayers, LacksConfig, I
 ghost use Rattle.hiera_config.specs.Sources as spec;
 
 use crate::flags::mark_of;
+use crate::folders::{USUAL, config_path, module_folder};
 use crate::plan::FixedFile;
 use crate::site_data::SiteData;
 use json_values::{DataStop, Numbers, from_data};
@@ -61,11 +62,9 @@ fn is_without_config(alloc: Global, files: &SiteData, name: &str) -> bool
 fn module_config(alloc: Global, name: &str) -> Result<Text, Memory>
     ensures { IfOk result (λ t. t ≡ spec.config_path (spec.module_folder name.now)) }
 {
-    let mut path = String::from_str(alloc, "modules/")?;
-    path.push_str(name)?;
-    path.push_str("/")?;
-    path.push_str("hiera.yaml")?;
-    Ok(Text::new(path))
+    let mut room = String::with_capacity(alloc, USUAL)?;
+    let folder = module_folder(alloc, name, &mut room)?;
+    config_path(alloc, folder.as_str(), &mut room)
 }
 
 fn highest_of(

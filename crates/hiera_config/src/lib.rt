@@ -5,6 +5,7 @@ pub mod config;
 pub mod config_reading;
 mod cutting;
 mod flags;
+mod folders;
 mod forms;
 mod highest;
 pub mod interpolation;

@@ -7,10 +7,11 @@ ghost use Rattle.hiera_config.specs.Cuts.{cut_at};
 ghost use Rattle.hiera_config.specs.Keeping.{filed, IsKept, AreKept};
 ghost use Rattle.hiera_config.specs.Planning.{lacks, PathIs, Skips, Sounds, Fits, Planned, PlannedIf, PlannedAt};
 ghost use Rattle.hiera_config.specs.Sound.{is_sound_if};
-ghost use Rattle.hiera_config.specs.Sources.{joined_path, config_path};
+ghost use Rattle.hiera_config.specs.Sources.{joined_path};
 
 use crate::config::{Config, Level, LevelPaths};
 use crate::flags::may_have;
+use crate::folders::config_path;
 use crate::site_data::DataFile;
 use pp_values::{Memory, Text};
 use std::alloc::Global;
@@ -50,34 +51,20 @@ impl FixedFile {
 /// For each level, from the first one on, its file, where it has one whose path has no variables.
 pub type Plan = Vec<Option<FixedFile>>;
 
-/// The plan of the folder's configuration among these files. It is empty where memory is wanting.
-pub fn plan_at(alloc: Global, files: &BTreeMap<Text, DataFile>, folder: &str) -> Plan
-    requires { AreKept files.now.entries }
-    ensures { PlannedAt (filed files.now.entries) folder.now result.items }
-{
-    match try_plan(alloc, files, folder) {
-        Ok(plan) => plan,
-        Err(Memory) => Vec::new(alloc),
-    }
-}
-
-fn try_plan(alloc: Global, files: &BTreeMap<Text, DataFile>, folder: &str) -> Result<Plan, Memory>
+/// The plan of the folder's configuration among these files.
+pub fn plan_at(
+    alloc: Global,
+    files: &BTreeMap<Text, DataFile>,
+    folder: &str,
+) -> Result<Plan, Memory>
     requires { AreKept files.now.entries }
     ensures { IfOk result (λ p. PlannedAt (filed files.now.entries) folder.now p.items) }
 {
-    let path = config_path(alloc, folder)?;
+    let path = config_path(alloc, folder, &mut String::new(alloc))?;
     match file_at(files, &path) {
         Some(file) => plan_of_config(alloc, files, folder, &file.config),
         None => Ok(Vec::new(alloc)),
     }
-}
-
-pub fn config_path(alloc: Global, folder: &str) -> Result<Text, Memory>
-    ensures { IfOk result (λ t. t ≡ config_path folder.now) }
-{
-    let mut path = String::from_str(alloc, folder)?;
-    path.push_str("hiera.yaml")?;
-    Ok(Text::new(path))
 }
 
 /// The file at this path among those that are kept.

@@ -13,6 +13,7 @@ ghost use Rattle.hiera_config.specs.Variables.{variable as variable_of, mapped_v
 
 use crate::config::{Config, Level, LevelPaths};
 use crate::flags::{mark_of, may_have};
+use crate::folders::{USUAL, config_path, module_folder};
 use crate::mapping::mapped_values;
 use crate::names::Names;
 use crate::paths::write_path;
@@ -68,9 +69,6 @@ struct MappedPath<'a> {
     name: &'a Text,
     template: &'a Template,
 }
-
-/// How long a path mostly is at most.
-const USUAL: usize = 64;
 
 /// The sources of a key, the highest first: of the global layer, of the environment, and of this module, if there is
 /// one.
@@ -191,17 +189,6 @@ fn default_levels_of<'a>(config: Option<&'a Config>) -> &'a [Level]
     }
 }
 
-/// A module's folder, written by way of `folder`.
-fn module_folder(alloc: Global, name: &str, folder: &mut String) -> Result<Text, Memory>
-    ensures { IfOk result (λ t. t ≡ spec.module_folder name.now) }
-{
-    folder.clear();
-    folder.push_str("modules/")?;
-    folder.push_str(name)?;
-    folder.push_str("/")?;
-    Text::from_str(alloc, folder.as_str())
-}
-
 /// The configuration of a folder, if there is one. Its path is written by way of `path`.
 fn config_in<'a>(
     alloc: Global,
@@ -220,15 +207,6 @@ fn config_in<'a>(
         },
         None => Ok(None),
     }
-}
-
-fn config_path(alloc: Global, folder: &str, path: &mut String) -> Result<Text, Memory>
-    ensures { IfOk result (λ t. t ≡ spec.config_path folder.now) }
-{
-    path.clear();
-    path.push_str(folder)?;
-    path.push_str("hiera.yaml")?;
-    Text::from_str(alloc, path.as_str())
 }
 
 /// The default levels of a module count where no source has the key.

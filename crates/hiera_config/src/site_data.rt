@@ -51,7 +51,7 @@ pub struct SiteData {
     by_path: BTreeMap<Text, DataFile>,
     // No file has options of look-ups, and none has default levels.
     is_simple: bool,
-    // The data files of the global layer and of the environment that are found ahead.
+    // The data files of the global layer and of the environment that are found ahead, once the files are read.
     global: Plan,
     environment: Plan,
     // Both layers have a sound file for each of their levels.
@@ -88,7 +88,7 @@ impl SiteData {
     }
 
     /// Reads a file, and puts it in place of what stood at its path. Where there is no memory, the files stay as they
-    /// were.
+    /// were. What `plan` found ahead is let go.
     pub fn read(&mut self, alloc: Global, path: Text, text: Text) -> Result<(), Memory>
         ensures { self.new ≡ (if is_ok result then put text_cmp path text self.old else self.old) }
     {
@@ -96,9 +96,20 @@ impl SiteData {
         let is_simple = stays_simple(self.is_simple, &file);
         drop(self.by_path.insert(path, file)?);
         self.is_simple = is_simple;
-        let global = plan_at(alloc, &self.by_path, "global/");
-        let environment = plan_at(alloc, &self.by_path, "");
-        self.is_sound = are_sound_layers(alloc, &self.by_path, &global, &environment);
+        self.global = Vec::new(alloc);
+        self.environment = Vec::new(alloc);
+        self.is_sound = false;
+        Ok(())
+    }
+
+    /// Finds the data files of the global layer and of the environment ahead. It must be called once all files are
+    /// read, for speed: without it look-ups tell the same, but write the paths of all levels and read all their files.
+    pub fn plan(&mut self, alloc: Global) -> Result<(), Memory>
+        ensures { self.new ≡ self.old }
+    {
+        let global = plan_at(alloc, &self.by_path, "global/")?;
+        let environment = plan_at(alloc, &self.by_path, "")?;
+        self.is_sound = are_sound_layers(alloc, &self.by_path, &global, &environment)?;
         self.global = global;
         self.environment = environment;
         Ok(())
@@ -154,7 +165,7 @@ impl SiteData {
     }
 }
 
-/// Keeps these files. Each is read here.
+/// Keeps these files. Each is read here, and the plans are made.
 pub fn data_from(alloc: Global, files: &TextPairs) -> Result<SiteData, Memory>
     ensures { IfOk result (λ s. s ≡ put_in [] files.now) }
 {
@@ -163,6 +174,7 @@ pub fn data_from(alloc: Global, files: &TextPairs) -> Result<SiteData, Memory>
     while let Some((path, text)) = left.pop() {
         data.read(alloc, path, text)?;
     }
+    data.plan(alloc)?;
     Ok(data)
 }
 

@@ -1,5 +1,5 @@
 //! Data files in which no key's value is faulty.
-ghost use Rattle.std.specs.Prelude.{◌≡◌, [], true, option_map};
+ghost use Rattle.std.specs.Prelude.{◌≡◌, [], true, IfOk, option_map};
 ghost use Rattle.std.specs.List.{list_all};
 ghost use Rattle.serde_json.specs.View.{view as json_view, items_view, members_view};
 ghost use Rattle.hiera_config.specs.Keeping.{filed, AreKept};
@@ -9,7 +9,8 @@ ghost use Rattle.hiera_config.specs.Sources.{global_folder};
 ghost use Rattle.hiera_config.specs.SoundData.{is_sound, are_sound_items, are_sound_members, is_sound_document};
 
 use crate::config::Config;
-use crate::plan::{FixedFile, config_path, file_at};
+use crate::folders::config_path;
+use crate::plan::{FixedFile, file_at};
 use crate::site_data::DataFile;
 use pp_values::{Memory, Text};
 use serde_json::{Map, Value as Json};
@@ -66,19 +67,21 @@ fn are_sound_members(members: &Map<String, Json>) -> bool
 }
 
 /// Whether each level of the global layer and of the environment has its file in these plans, and no key's value is
-/// faulty in any. It is false where memory is wanting.
+/// faulty in any.
 pub fn are_sound_layers(
     alloc: Global,
     files: &BTreeMap<Text, DataFile>,
     global: &[Option<FixedFile>],
     environment: &[Option<FixedFile>],
-) -> bool
+) -> Result<bool, Memory>
     requires kept { AreKept files.now.entries }
     requires global { PlannedAt (filed files.now.entries) global_folder global.now }
     requires environment { PlannedAt (filed files.now.entries) [] environment.now }
-    ensures { result ≡ true → SoundLayers (filed files.now.entries) global.now environment.now }
+    ensures { IfOk result (λ b. b ≡ true → SoundLayers (filed files.now.entries) global.now environment.now) }
 {
-    is_sound_layer(alloc, files, "global/", global) && is_sound_layer(alloc, files, "", environment)
+    let is_global_sound = is_sound_layer(alloc, files, "global/", global)?;
+    let is_environment_sound = is_sound_layer(alloc, files, "", environment)?;
+    Ok(is_global_sound && is_environment_sound)
 }
 
 fn is_sound_layer(
@@ -86,15 +89,13 @@ fn is_sound_layer(
     files: &BTreeMap<Text, DataFile>,
     folder: &str,
     plan: &[Option<FixedFile>],
-) -> bool
+) -> Result<bool, Memory>
     requires kept { AreKept files.now.entries }
     requires planned { PlannedAt (filed files.now.entries) folder.now plan.now }
-    ensures { result ≡ true → SoundLayer (filed files.now.entries) folder.now plan.now }
+    ensures { IfOk result (λ b. b ≡ true → SoundLayer (filed files.now.entries) folder.now plan.now) }
 {
-    match config_path(alloc, folder) {
-        Ok(path) => is_sound_by(file_at(files, &path), plan),
-        Err(Memory) => false,
-    }
+    let path = config_path(alloc, folder, &mut String::new(alloc))?;
+    Ok(is_sound_by(file_at(files, &path), plan))
 }
 
 fn is_sound_by(file: Option<&DataFile>, plan: &[Option<FixedFile>]) -> bool

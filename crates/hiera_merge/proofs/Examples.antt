@@ -1,9 +1,10 @@
 -- Sources, the highest first, by each merge; merges by name and by options; parts by dotted keys.
-use Rattle.std.proofs.Common.{◌≡◌, ℕ, List, [], ◌∷◌, Some, None, pos, codes, refl}
+use Rattle.std.proofs.Common.{◌≡◌, ℕ, List, [], ◌∷◌, map, Some, None, pos, codes, refl}
 use Rattle.pp_values.specs.Datum as d
 use Rattle.pp_values.specs.Datum.{Datum, Pair, data_of, entries_of}
 use Rattle.hiera_merge.specs.declared.merge.Merge.TheVariants as by
 use Rattle.hiera_merge.specs.Digging.{parts, dug}
+use Rattle.hiera_merge.specs.DeepSteps.{Stack, up_from, raised, raised_at, put_hashes, top, over, merged_stack, members_of_all, lists_joined}
 use Rattle.hiera_merge.specs.Merges.{merged}
 use Rattle.hiera_merge.specs.Options.{merge_named, merge_in, merge_of}
 
@@ -54,6 +55,39 @@ mixed = refl
 within : merged by.Deep (hash (at (codes "k") (n 1) ∷ [])) (hash (at (codes "k") (list (n 2 ∷ [])) ∷ []) ∷ hash (at (codes "k") (n 3) ∷ []) ∷ [])
     ≡ Some (hash (at (codes "k") (n 1) ∷ []))
 within = refl
+
+-- ---- the steps in which the code joins in depth
+
+abbrev values_of : List ℕ → List Datum → Datum → Stack
+values_of k lower top_value = record { key = t k; lower = lower; high = top_value }
+
+-- the lowest hash's keys stand first, and a higher value stands on those of its key
+columns : put_hashes (hash (at (codes "a") (n 1) ∷ at (codes "b") (n 2) ∷ []) ∷ hash (at (codes "c") (n 3) ∷ at (codes "a") (n 4) ∷ []) ∷ []) []
+    ≡ values_of (codes "a") (n 1 ∷ []) (n 4) ∷ values_of (codes "b") [] (n 2) ∷ values_of (codes "c") [] (n 3) ∷ []
+columns = refl
+
+-- a list among the hashes has no pairs, and a hash among lists no members
+passed : (put_hashes (hash (at (codes "a") (n 1) ∷ []) ∷ list (n 2 ∷ []) ∷ []) [] ≡ values_of (codes "a") [] (n 1) ∷ [])
+    × (members_of_all (list (n 1 ∷ n 2 ∷ []) ∷ low ∷ n 5 ∷ list (n 1 ∷ []) ∷ []) ≡ n 1 ∷ n 2 ∷ n 1 ∷ [])
+    × (lists_joined (list (n 1 ∷ n 2 ∷ []) ∷ low ∷ []) (n 2 ∷ n 3 ∷ []) ≡ n 1 ∷ n 2 ∷ n 3 ∷ [])
+    × (lists_joined (low ∷ []) (n 2 ∷ n 2 ∷ []) ≡ n 2 ∷ n 2 ∷ [])
+passed = (refl, refl, refl, refl)
+
+-- a higher value on a key's others, at its place
+raises : (raised (n 3) (values_of (codes "a") (n 1 ∷ []) (n 2)) ≡ values_of (codes "a") (n 1 ∷ n 2 ∷ []) (n 3))
+    × (raised_at (n 3) 1 (values_of (codes "a") [] (n 1) ∷ values_of (codes "b") [] (n 2) ∷ []) ≡ values_of (codes "a") [] (n 1) ∷ values_of (codes "b") (n 2 ∷ []) (n 3) ∷ [])
+    × (map top (values_of (codes "a") (n 1 ∷ []) (n 2) ∷ []) ≡ at (codes "a") (n 2) ∷ [])
+raises = (refl, refl, refl)
+
+-- the values of one key from the lowest up: the list wins over the hash, and then meets the lowest list
+rises : (up_from (list (n 2 ∷ []) ∷ hash [] ∷ []) (list (n 1 ∷ [])) ≡ list (n 2 ∷ n 1 ∷ []))
+    × (merged_stack (values_of (codes "a") (list (n 2 ∷ []) ∷ []) (list (n 1 ∷ []))) ≡ at (codes "a") (list (n 2 ∷ n 1 ∷ [])))
+rises = (refl, refl)
+
+-- the columns over pairs: these are merged into the values of their keys, and others stand behind
+laid_over : over (values_of (codes "a") [] (list (n 1 ∷ [])) ∷ values_of (codes "b") (n 2 ∷ []) (n 3) ∷ []) (at (codes "c") (n 4) ∷ at (codes "a") (list (n 5 ∷ [])) ∷ [])
+    ≡ at (codes "a") (list (n 1 ∷ n 5 ∷ [])) ∷ at (codes "b") (n 3) ∷ at (codes "c") (n 4) ∷ []
+laid_over = refl
 
 -- `deep` of one value keeps its repeats, and `unique` drops them
 alone : (merged by.Deep (list (n 1 ∷ n 1 ∷ [])) [] ≡ Some (list (n 1 ∷ n 1 ∷ []))) × (merged by.Unique (list (n 1 ∷ n 1 ∷ [])) [] ≡ Some (list (n 1 ∷ [])))

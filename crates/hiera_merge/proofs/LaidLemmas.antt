@@ -1,6 +1,6 @@
 -- The lower's pairs gone through one after another, in place of the higher's: what both ways lead to is the same.
 use Rattle.std.proofs.Common.{◌≡◌, ℕ, ◌≤◌, Bool, true, false, not, cond, None, Some, Option, IsTrue, List, [], ◌∷◌, refl, ap, sym, subst, ◌∙◌, arith, true≢false}
-use Rattle.std.specs.Prelude.{option_map}
+use Rattle.std.specs.Prelude.{option_map, unwrap_or}
 use Rattle.std.specs.Cmp.{first_so, second_so, signed_Decides}
 use Rattle.std.proofs.lemmas.Slice.Eq.{bytes_eq-Decides}
 use Rattle.pp_values.specs.Datum.{Datum, undef, flag, int, text, list, hash, reference, kind, default, Pair, Entries, no_entries, entry, entries_of, pairs_of}
@@ -8,7 +8,7 @@ use Rattle.pp_values.specs.Keys.{is_key, same_key, are_distinct, lacks, value_at
 use Rattle.pp_values.specs.Places.{place_of}
 use Rattle.pp_values.specs.Sizes.{datum_size, pairs_size, entries_size}
 use Rattle.pp_values.proofs.Distinct.{with_pair-no_place, with_pair-place, without_key-no_place, without_key-place, are_distinct-with_value, are_distinct-append, are_distinct-without_place}
-use Rattle.hiera_merge.specs.Merges.{pairs_in, deep, deep_pairs, value_or}
+use Rattle.hiera_merge.specs.Merges.{pairs_in, deep, deep_pairs}
 use Rattle.hiera_merge.specs.DeepSteps.{met, laid}
 
 -- ---- keys
@@ -69,8 +69,8 @@ first_of : (b : Bool) (k l : Datum) (p : Pair) (hs ls : List Pair)
     → ((m : Datum) (ms : List Pair) → deep_pairs (entries_of hs) ((k, m) ∷ ms)
     ≡ (k, met m (value_at k hs)) ∷ deep_pairs (entries_of (without_key k hs)) ms)
     → deep_pairs (entries_of hs)
-    (cond b ((k, value_or p.1 (option_map (deep p.1) (cond b (Some l) (value_at p.0 ls)))) ∷ ls)
-    ((k, l) ∷ with_pair p.0 (value_or p.1 (option_map (deep p.1) (cond b (Some l) (value_at p.0 ls)))) ls))
+    (cond b ((k, unwrap_or (option_map (deep p.1) (cond b (Some l) (value_at p.0 ls))) p.1) ∷ ls)
+    ((k, l) ∷ with_pair p.0 (unwrap_or (option_map (deep p.1) (cond b (Some l) (value_at p.0 ls))) p.1) ls))
     ≡ (k, met l (cond b (Some p.1) (value_at k hs)))
     ∷ deep_pairs (entries_of (cond b hs (p ∷ without_key k hs))) ls
 first_of true k l p hs ls none whole before =
@@ -78,7 +78,7 @@ first_of true k l p hs ls none whole before =
     ∙ ap (λ o. (k, met (deep p.1 l) o) ∷ deep_pairs (entries_of (without_key k hs)) ls) (none refl)
     ∙ ap (λ qs. (k, deep p.1 l) ∷ deep_pairs (entries_of qs) ls) (whole refl)
 first_of false k l p hs ls none whole before =
-    before l (with_pair p.0 (value_or p.1 (option_map (deep p.1) (value_at p.0 ls))) ls)
+    before l (with_pair p.0 (unwrap_or (option_map (deep p.1) (value_at p.0 ls)) p.1) ls)
 
 laid_first : (hs : List Pair) (k l : Datum) (ls : List Pair) → IsTrue (are_distinct hs)
     → deep_pairs (entries_of hs) ((k, l) ∷ ls)
@@ -127,8 +127,8 @@ pub deep_distinct : (hs ls : List Pair) → IsTrue (are_distinct hs) → IsTrue 
     → IsTrue (are_distinct (deep_pairs (entries_of hs) ls))
 deep_distinct [] ls h g = g
 deep_distinct (p ∷ hs) ls h g =
-    deep_distinct hs (with_pair p.0 (value_or p.1 (option_map (deep p.1) (value_at p.0 ls))) ls) (rest_distinct p hs h)
-    (by_place p.0 (value_or p.1 (option_map (deep p.1) (value_at p.0 ls))) ls (place_of p.0 ls) refl
+    deep_distinct hs (with_pair p.0 (unwrap_or (option_map (deep p.1) (value_at p.0 ls)) p.1) ls) (rest_distinct p hs h)
+    (by_place p.0 (unwrap_or (option_map (deep p.1) (value_at p.0 ls)) p.1) ls (place_of p.0 ls) refl
     (first_so (is_key p.0) _ h) g)
 
 -- ---- sizes

@@ -1,5 +1,5 @@
 -- Values put on one another by their keys from the lowest up lead to what the merge from the highest down does.
-use Rattle.std.proofs.Common.{◌≡◌, ℕ, zero, suc, ◌+◌, ◌<◌, ◌≤◌, Bool, true, false, not, cond, ◌||◌, None, Some, IsTrue, List, [], ◌∷◌, ◌++◌, length, reverse, refl, ap, sym, subst, ◌∙◌, arith, append_assoc, append-nil, true≢false}
+use Rattle.std.proofs.Common.{◌≡◌, ℕ, zero, suc, ◌+◌, ◌<◌, ◌≤◌, Bool, true, false, not, cond, ◌||◌, None, Some, IsTrue, List, [], ◌∷◌, ◌++◌, length, map, reverse, refl, ap, sym, subst, ◌∙◌, arith, append_assoc, append-nil, true≢false}
 use Rattle.std.specs.Cmp.{second_so}
 use Rattle.std.specs.List.{fold, list_any}
 use Rattle.std.proofs.Common.{get_or, take}
@@ -16,10 +16,11 @@ use Rattle.pp_values.specs.Views.{view, views, pair_view, pair_views}
 use Rattle.hiera_merge.specs.declared.deepening.Column.{Column}
 use Rattle.pp_values.specs.Datum.{Datum, undef, flag, int, text, list, hash, reference, kind, default, Pair, entries_of, pairs_of, data_of, members_of}
 use Rattle.pp_values.specs.Keys.{same_key, are_distinct, lacks, value_at, without_key}
+use Rattle.pp_values.specs.Places.{place_of}
 use Rattle.pp_values.specs.Sizes.{datum_size, data_size, pairs_size}
 use Rattle.pp_values.proofs.Lists.{members_of-data_of, entries_of-pairs_of, data_of-members_of}
-use Rattle.hiera_merge.specs.Merges.{pairs_in, joined, is_hash, deep, deep_merge}
-use Rattle.hiera_merge.specs.DeepSteps.{Stack, AreKeyed, is_list, members_in, members_of_all, lists_joined, up_from, met, laid, laid_all, raised, put_stack, put_stacks, put_hashes, place_of, raised_at, stack, stacks, merged_stack, over, stacks_size}
+use Rattle.hiera_merge.specs.Merges.{pairs_in, members_in, joined, is_hash, is_list, deep, deep_merge}
+use Rattle.hiera_merge.specs.DeepSteps.{Stack, AreKeyed, members_of_all, lists_joined, up_from, met, laid, laid_all, raised, put_stack, put_stacks, put_hashes, top, raised_at, stack, stacks, merged_stack, over, stacks_size}
 use Rattle.hiera_merge.proofs.LaidLemmas.{pairs_fall, one_key, either_way, apart, laid_whole, deep_distinct, rest_lacks, rest_distinct}
 
 -- ---- one key taken out, and another looked for
@@ -325,17 +326,17 @@ alone (reference r) l h g = refl
 alone (kind s) l h g = refl
 alone default l h g = refl
 
-pub other_kind : (ds : List Datum) (d : Datum) → is_hash d ≡ false → is_list d ≡ false → up_from ds d ≡ d
-other_kind [] d h g = refl
-other_kind (l ∷ ds) d h g = ap (λ x. deep x l) (other_kind ds d h g) ∙ alone d l h g
+pub other_joining : (ds : List Datum) (d : Datum) → is_hash d ≡ false → is_list d ≡ false → up_from ds d ≡ d
+other_joining [] d h g = refl
+other_joining (l ∷ ds) d h g = ap (λ x. deep x l) (other_joining ds d h g) ∙ alone d l h g
 
-pub hash_kind : (d : Datum) → is_hash d ≡ true → d ≡ hash (entries_of (pairs_in d))
-hash_kind (hash es) h = sym (ap hash (entries_of-pairs_of es))
-hash_kind d h = absurd (true≢false (sym h))
+pub hash_joining : (d : Datum) → is_hash d ≡ true → d ≡ hash (entries_of (pairs_in d))
+hash_joining (hash es) h = sym (ap hash (entries_of-pairs_of es))
+hash_joining d h = absurd (true≢false (sym h))
 
-pub list_kind : (d : Datum) → is_list d ≡ true → d ≡ list (data_of (members_in d))
-list_kind (list ds) h = sym (ap list (data_of-members_of ds))
-list_kind d h = absurd (true≢false (sym h))
+pub list_joining : (d : Datum) → is_list d ≡ true → d ≡ list (data_of (members_in d))
+list_joining (list ds) h = sym (ap list (data_of-members_of ds))
+list_joining d h = absurd (true≢false (sym h))
 
 pub none_below : (xs : List Value) (d : Datum) → length xs ≡ 0 → up_from (views xs) d ≡ d
 none_below [] d h = refl
@@ -380,20 +381,20 @@ puts_size (p ∷ ps) ss = omega (arith, puts_size ps (put_stack p.0 p.1 ss), put
 -- ---- the code's list
 
 -- a key without a place, and with one
-pub put_new : (k v : Datum) (ss : List Stack) → place_of k ss ≡ None
+pub put_new : (k v : Datum) (ss : List Stack) → place_of k (map top ss) ≡ None
     → put_stack k v ss ≡ ss ++ record { key = k; lower = []; high = v } ∷ []
 put_new k v [] e = refl
 put_new k v (s ∷ ss) e = grind (arith, common_steps, put_new k v ss)
 
 pub pushed : (cs new : List Column) (c : Column) (k v : Datum) → new ≡ cs ++ c ∷ [] → view c.key ≡ k
-    → view c.high ≡ v → c.lower.items ≡ [] → place_of k (stacks cs) ≡ None → stacks new ≡ put_stack k v (stacks cs)
+    → view c.high ≡ v → c.lower.items ≡ [] → place_of k (map top (stacks cs)) ≡ None → stacks new ≡ put_stack k v (stacks cs)
 pushed cs new c k v is key high none nowhere =
     let said : stack c ≡ record { key = k; lower = []; high = v } =
     λ i. record { key = key i; lower = views (none i); high = high i } in
     ap stacks is ∙ map-append stack cs (c ∷ []) ∙ ap (λ s. stacks cs ++ s ∷ []) said
     ∙ sym (put_new k v (stacks cs) nowhere)
 
-pub put_at : (k v : Datum) (ss : List Stack) (n : ℕ) → place_of k ss ≡ Some n → put_stack k v ss ≡ raised_at v n ss
+pub put_at : (k v : Datum) (ss : List Stack) (n : ℕ) → place_of k (map top ss) ≡ Some n → put_stack k v ss ≡ raised_at v n ss
 put_at k v [] n e = cc
 put_at k v (s ∷ ss) zero e = grind (arith, common_steps, put_at k v ss)
 put_at k v (s ∷ ss) (suc n) e = grind (arith, common_steps, put_at k v ss n)

@@ -1,23 +1,14 @@
 -- The steps in which the code joins in depth.
-use Rattle.std.specs.Prelude.{◌≡◌, ⊤, ℕ, zero, suc, ◌+◌, Bool, true, false, if◌then◌else◌, IsTrue, Option, None, Some, option_map, List, [], ◌∷◌, ◌++◌, map}
+use Rattle.std.specs.Prelude.{◌≡◌, ⊤, ℕ, zero, suc, ◌+◌, Bool, true, false, if◌then◌else◌, IsTrue, Option, None, Some, List, [], ◌∷◌, ◌++◌, map}
 use Rattle.std.specs.List.{list_any}
 use Rattle.pp_values.specs.Datum.{Datum, list, hash, Pair, data_of, members_of, entries_of}
 use Rattle.pp_values.specs.Keys.{same_key, are_distinct, value_at, without_key}
 use Rattle.pp_values.specs.Sizes.{datum_size, data_size}
 use Rattle.pp_values.specs.Views.{view, views}
 use Rattle.hiera_merge.specs.declared.deepening.Column.{Column}
-use Rattle.hiera_merge.specs.declared.deepening.Kind.{Kind}
-use Rattle.hiera_merge.specs.declared.deepening.Kind.TheVariants as kinds
-use Rattle.hiera_merge.specs.Merges.{pairs_in, joined, deep}
-
--- the members of a list
-abbrev pub members_in : Datum → List Datum
-members_in (list ds) = members_of ds
-members_in d = []
-
-abbrev pub is_list : Datum → Bool
-is_list (list ds) = true
-is_list d = false
+use Rattle.hiera_merge.specs.declared.deepening.Joining.{Joining}
+use Rattle.hiera_merge.specs.declared.deepening.Joining.TheVariants as joining
+use Rattle.hiera_merge.specs.Merges.{pairs_in, members_in, is_list, joined, deep}
 
 -- a value with those below it, from the lowest up, merged into it
 abbrev pub up_from : List Datum → Datum → Datum
@@ -25,10 +16,10 @@ up_from [] high = high
 up_from (low ∷ lower) high = deep (up_from lower high) low
 
 -- what is to be done with the highest
-abbrev pub IsKind : List Datum → Datum → Kind → Type 0
-IsKind lower d kinds.Hash = d ≡ hash (entries_of (pairs_in d))
-IsKind lower d kinds.List = d ≡ list (data_of (members_in d))
-IsKind lower d kinds.Other = up_from lower d ≡ d
+abbrev pub IsJoining : List Datum → Datum → Joining → Type 0
+IsJoining lower d joining.Hash = d ≡ hash (entries_of (pairs_in d))
+IsJoining lower d joining.List = d ≡ list (data_of (members_in d))
+IsJoining lower d joining.Other = up_from lower d ≡ d
 
 -- ---- hashes
 
@@ -81,10 +72,11 @@ abbrev pub put_hashes : List Datum → List Stack → List Stack
 put_hashes [] ss = ss
 put_hashes (d ∷ ds) ss = put_hashes ds (put_stacks (pairs_in d) ss)
 
-abbrev pub place_of : Datum → List Stack → Option ℕ
-place_of k [] = None
-place_of k (s ∷ ss) = if same_key k s.key then Some 0 else option_map suc (place_of k ss)
+-- a key with the highest of its values
+abbrev pub top : Stack → Pair
+top s = (s.key, s.high)
 
+-- the values of the stack at a place with a higher one on them
 abbrev pub raised_at : Datum → ℕ → List Stack → List Stack
 raised_at v n [] = []
 raised_at v zero (s ∷ ss) = raised v s ∷ ss

@@ -1,5 +1,5 @@
 -- The values that several sources have for one key, the highest first, as one value.
-use Rattle.std.specs.Prelude.{Bool, true, false, not, if◌then◌else◌, List, [], ◌∷◌, ◌++◌, Option, Some, None, option_map}
+use Rattle.std.specs.Prelude.{Bool, true, false, not, if◌then◌else◌, List, [], ◌∷◌, ◌++◌, Option, Some, None, option_map, unwrap_or}
 use Rattle.std.specs.List.{list_any, list_all, fold}
 use Rattle.pp_funcs.specs.Lists.{flat, flat_members, with_new}
 use Rattle.pp_values.specs.Datum.{Datum, list, hash, Entries, no_entries, entry, Pair, data_of, members_of, entries_of, pairs_of}
@@ -31,13 +31,14 @@ hash_merge (high ∷ lower) = with_pairs (pairs_in high) (hash_merge lower)
 
 -- ---- deep
 
+-- the members of a list
+abbrev pub members_in : Datum → List Datum
+members_in (list ds) = members_of ds
+members_in d = []
+
 -- the lower's members and then the higher's, each once
 abbrev pub joined : List Datum → List Datum → List Datum
 joined lower higher = fold with_new [] (lower ++ higher)
-
-abbrev pub value_or : Datum → Option Datum → Datum
-value_or d None = d
-value_or d (Some e) = e
 
 -- two hashes key by key, with their keys in the order of `hash`; two lists joined; of other values the higher
 abbrev mutual
@@ -49,7 +50,7 @@ abbrev mutual
   -- the higher's pairs put over the lower's, each value merged with the one that the key has there
   pub deep_pairs : Entries → List Pair → List Pair
   deep_pairs no_entries out = out
-  deep_pairs (entry k v es) out = deep_pairs es (with_pair k (value_or v (option_map (deep v) (value_at k out))) out)
+  deep_pairs (entry k v es) out = deep_pairs es (with_pair k (unwrap_or (option_map (deep v) (value_at k out)) v) out)
 
 -- from the highest value down, one at a time
 abbrev pub deep_merge : Datum → List Datum → Datum
@@ -61,6 +62,10 @@ deep_merge out (low ∷ lower) = deep_merge (deep out low) lower
 abbrev pub is_hash : Datum → Bool
 is_hash (hash es) = true
 is_hash d = false
+
+abbrev pub is_list : Datum → Bool
+is_list (list ds) = true
+is_list d = false
 
 abbrev pub is_collection : Datum → Bool
 is_collection (hash es) = true

@@ -1,12 +1,13 @@
 //! Hashes and lists joined in depth.
-ghost use Rattle.std.specs.Prelude.{◌≡◌, ◌+◌, ◌<◌, ◌≤◌, ◌++◌, IfOk, OnOk, IfSome, IsTrue, [], length, vec_len};
+ghost use Rattle.std.specs.Prelude.{◌≡◌, ◌+◌, ◌<◌, ◌≤◌, ◌++◌, IfOk, OnOk, IfSome, IsTrue, [], length, map, vec_len};
 ghost use Rattle.std.specs.List.{list_any};
 ghost use Rattle.pp_values.specs.Sizes.{data_size, pairs_size};
 ghost use Rattle.pp_values.specs.Datum.{list, hash, data_of, entries_of};
 ghost use Rattle.pp_values.specs.Keys.{are_distinct};
+ghost use Rattle.pp_values.specs.Places.{place_of};
 ghost use Rattle.pp_values.specs.Views.{view, views, pair_view, pair_views};
-ghost use Rattle.hiera_merge.specs.Merges.{pairs_in, deep_merge};
-ghost use Rattle.hiera_merge.specs.DeepSteps.{members_in, members_of_all, is_list, IsKind, AreKeyed, up_from, stack, stacks, raised, put_stack, put_stacks, put_hashes, place_of, raised_at, merged_stack, over, stacks_size};
+ghost use Rattle.hiera_merge.specs.Merges.{pairs_in, members_in, is_list, deep_merge};
+ghost use Rattle.hiera_merge.specs.DeepSteps.{members_of_all, IsJoining, AreKeyed, up_from, stack, stacks, raised, put_stack, put_stacks, put_hashes, top, raised_at, merged_stack, over, stacks_size};
 
 use crate::merging::is_hash;
 use crate::uniting::each_once;
@@ -16,7 +17,7 @@ use std::mem;
 
 /// Of hashes all are joined, of lists too, and of other values the highest is taken.
 #[derive(Clone, Copy)]
-pub enum Kind {
+pub enum Joining {
     Hash,
     List,
     Other,
@@ -68,32 +69,32 @@ pub fn deep_merge(alloc: Global, high: Value, lower: Vec<Value>) -> Result<Value
 fn merged_up(alloc: Global, lower: Vec<Value>, high: Value) -> Result<Value, Memory>
     ensures { IfOk result (λ v. view v ≡ up_from (views lower.items) (view high)) }
 {
-    match kind_of(lower.as_slice(), &high) {
-        Kind::Hash => {
+    match joining_of(lower.as_slice(), &high) {
+        Joining::Hash => {
             let high = pairs_of(alloc, high);
             Ok(Value::Hash(hashes_up(alloc, lower, high)?))
         }
-        Kind::List => {
+        Joining::List => {
             let high = members_of(alloc, high);
             Ok(Value::List(lists_up(alloc, lower, high)?))
         }
-        Kind::Other => Ok(high),
+        Joining::Other => Ok(high),
     }
 }
 
 /// What is to be done with the highest value.
-#[tactic(auto, using(crate::proofs::StackLemmas::none_below, crate::proofs::StackLemmas::other_kind))]
-fn kind_of(lower: &[Value], high: &Value) -> Kind
-    ensures { IsKind (views lower.now) (view high.now) result }
+#[tactic(auto, using(crate::proofs::StackLemmas::none_below, crate::proofs::StackLemmas::other_joining))]
+fn joining_of(lower: &[Value], high: &Value) -> Joining
+    ensures { IsJoining (views lower.now) (view high.now) result }
 {
     if lower.is_empty() {
-        Kind::Other
+        Joining::Other
     } else if is_hash(high) {
-        Kind::Hash
+        Joining::Hash
     } else if is_list(high) {
-        Kind::List
+        Joining::List
     } else {
-        Kind::Other
+        Joining::Other
     }
 }
 
@@ -220,7 +221,7 @@ fn raise(column: &mut Column, value: Value) -> Result<(), Memory>
 }
 
 fn place_of(columns: &[Column], key: &Value) -> Option<usize>
-    ensures place { result ≡ place_of (view key.now) (stacks columns.now) }
+    ensures place { result ≡ place_of (view key.now) (map top (stacks columns.now)) }
     ensures within { IfSome result (λ n. n < length columns.now) }
 {
     for (i, column) in columns.iter().enumerate() {

@@ -1,5 +1,5 @@
 //! Lists without repeats.
-ghost use Rattle.std.specs.Prelude.{◌≡◌, ◌++◌, [], true, IfOk, OnOk};
+ghost use Rattle.std.specs.Prelude.{◌≡◌, ◌++◌, [], IfOk, OnOk};
 ghost use Rattle.std.specs.List.{fold, list_any};
 ghost use Rattle.pp_funcs.specs.Lists.{behind, flat, flat_members, with_new};
 ghost use Rattle.pp_ops.specs.Same.{same};
@@ -29,25 +29,11 @@ pub fn united(alloc: Global, high: &Value, lower: &[Value]) -> Result<Values, Me
 pub fn each_once(alloc: Global, members: Vec<Value>) -> Result<Values, Memory>
     ensures { IfOk result (λ l. l ≡ fold with_new [] (views members.items)) }
 {
-    if members.len() > FEW {
-        return many_once(alloc, members.as_slice());
+    if members.len() <= FEW {
+        few_once(alloc, members)
+    } else {
+        many_once(alloc, members.as_slice())
     }
-    if are_apart(members.as_slice()) {
-        return Ok(Values::from_vec(members));
-    }
-    few_once(alloc, members)
-}
-
-/// Whether each of the members is there once.
-fn are_apart(members: &[Value]) -> bool
-    ensures { result ≡ true → fold with_new [] (views members.now) ≡ views members.now }
-{
-    for (i, member) in members.iter().enumerate() {
-        if has_same(&members[..i], member) {
-            return false;
-        }
-    }
-    true
 }
 
 fn few_once(alloc: Global, members: Vec<Value>) -> Result<Values, Memory>

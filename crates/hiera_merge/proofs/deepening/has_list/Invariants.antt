@@ -2,7 +2,7 @@
 use Rattle.std.proofs.Common.{◌≡◌, drop}
 use Rattle.std.specs.List.{list_any}
 use Rattle.pp_values.specs.Views.{views}
-use Rattle.hiera_merge.specs.DeepSteps.{is_list}
+use Rattle.hiera_merge.specs.Merges.{is_list}
 use Rattle.hiera_merge.proofs.deepening.has_list.Given as goal
 
 abbrev pub invariant-loop-value : goal.invariant-loop-value

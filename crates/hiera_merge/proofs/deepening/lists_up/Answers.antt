@@ -1,7 +1,7 @@
 use Rattle.std.proofs.Common.{◌++◌, ap, sym, ◌∙◌}
 use Rattle.std.specs.List.{list_any}
 use Rattle.pp_values.specs.Views.{views}
-use Rattle.hiera_merge.specs.DeepSteps.{is_list}
+use Rattle.hiera_merge.specs.Merges.{is_list}
 use Rattle.hiera_merge.proofs.StackLemmas.{without_lists, with_lists}
 use Rattle.hiera_merge.proofs.deepening.lists_up.Goals as goal
 

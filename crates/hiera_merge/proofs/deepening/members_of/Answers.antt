@@ -1,7 +1,7 @@
 use Rattle.std.proofs.Common.{sym, ap, ◌∙◌}
 use Rattle.pp_values.specs.Views.{view}
 use Rattle.pp_values.proofs.Lists.{members_of-data_of}
-use Rattle.hiera_merge.specs.DeepSteps.{members_in}
+use Rattle.hiera_merge.specs.Merges.{members_in}
 use Rattle.hiera_merge.proofs.deepening.members_of.Goals as goal
 
 pub returns-in-List : goal.returns-in-List

@@ -3,26 +3,9 @@ use Rattle.std.specs.FinMap.{put}
 use Rattle.pp_values.specs.Rising.{text_cmp}
 use Rattle.hiera_config.specs.Keeping.{filed, IsKept, AreKept, KeptSimple}
 use Rattle.hiera_config.proofs.FileLemmas.{filed_insert, kept_insert, simple_insert}
+use Rattle.hiera_config.proofs.PlanLemmas.{empty_plan_at}
 use Rattle.hiera_config.proofs.Simple.{both_left, both_right}
 use Rattle.hiera_config.proofs.site_data.SiteData.read.Goals as goal
-
-pub plan_at-global-requires : goal.plan_at-global-requires
-plan_at-global-requires c =
-    subst AreKept (sym c.in_ok-insert.ensures.entries)
-    (kept_insert c.self.inside.by_path.entries c.args.path c.in_ok-file.file
-    (subst (λ p. IsKept p c.in_ok-file.file) c.as_str.ensures.text c.in_ok-file.ensures.kept) c.self.invariant.0)
-
-pub plan_at-environment-requires : goal.plan_at-environment-requires
-plan_at-environment-requires c =
-    subst AreKept (sym c.in_ok-insert.ensures.entries)
-    (kept_insert c.self.inside.by_path.entries c.args.path c.in_ok-file.file
-    (subst (λ p. IsKept p c.in_ok-file.file) c.as_str.ensures.text c.in_ok-file.ensures.kept) c.self.invariant.0)
-
-pub are_sound_layers-self-inside-requires-clause-kept : goal.are_sound_layers-self-inside-requires-clause-kept
-are_sound_layers-self-inside-requires-clause-kept c =
-    subst AreKept (sym c.in_ok-insert.ensures.entries)
-    (kept_insert c.self.inside.by_path.entries c.args.path c.in_ok-file.file
-    (subst (λ p. IsKept p c.in_ok-file.file) c.as_str.ensures.text c.in_ok-file.ensures.kept) c.self.invariant.0)
 
 pub invariant_of-self-2 : goal.invariant_of-self-2
 invariant_of-self-2 c = (
@@ -34,8 +17,8 @@ invariant_of-self-2 c = (
       subst KeptSimple (sym c.in_ok-insert.ensures.entries)
       (simple_insert c.self.inside.by_path.entries c.args.path c.in_ok-file.file (both_right _ _ simple)
       (c.self.invariant.1 (both_left _ _ simple))),
-  (c.plan_at-global.ensures, c.plan_at-environment.ensures),
-  λ is. rw (c.deref.ensures.value, c.deref-2.ensures.value) at (c.are_sound_layers-self-inside.ensures is),
+  (empty_plan_at _ _ _ c.new.ensures.items, empty_plan_at _ _ _ c.new-2.ensures.items),
+  λ is. absurd (cc is),
 )
 
 pub returns : goal.returns

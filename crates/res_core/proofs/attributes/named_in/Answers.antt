@@ -1,4 +1,4 @@
-use Rattle.std.proofs.Common.{sym, ap, ◌∙◌}
+use Rattle.std.proofs.Common.{sym, ◌∙◌}
 use Rattle.res_core.proofs.HalvingLemmas.{goes_before, stands_there, goes_behind}
 use Rattle.res_core.proofs.attributes.named_in.Goals as goal
 

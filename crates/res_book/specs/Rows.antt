@@ -33,6 +33,12 @@ is_virtual mode.Virtual = true
 is_virtual mode.Exported = true
 is_virtual (mode.Imported node place) = false
 
+abbrev pub is_imported : Mode → Bool
+is_imported mode.Plain = false
+is_imported mode.Virtual = false
+is_imported mode.Exported = false
+is_imported (mode.Imported node place) = true
+
 -- a virtual or exported one is live from its mark on, each other from the beginning
 abbrev pub is_live : Row → Bool
 is_live r = not (is_virtual r.mode) || r.marked

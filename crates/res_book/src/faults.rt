@@ -1,25 +1,17 @@
 //! Why a resource is not declared.
 ghost use Rattle.std.specs.Prelude.{◌≡◌, IfOk};
-ghost use Rattle.res_book.specs.Rows.{reference_of as reference, class_virtual as class_virtual_at, duplicate as duplicate_at, too_many as too_many_at};
+ghost use Rattle.res_book.specs.Rows.{class_virtual as class_virtual_at, duplicate as duplicate_at, too_many as too_many_at};
 
-use pp_values::{Fault, Memory, Place, Reference, Subject, What};
+use pp_values::{Fault, Memory, Place, Subject, What};
 use res_core::Declared;
 use std::alloc::Global;
-
-fn reference_of(alloc: Global, item: &Declared) -> Result<Reference, Memory>
-    ensures { IfOk result (λ r. r ≡ reference item.now) }
-{
-    let kind = item.item.kind.copy(alloc)?;
-    let title = item.item.title.copy(alloc)?;
-    Ok(Reference { kind, title })
-}
 
 /// A class is declared as virtual or exported.
 pub fn class_virtual(alloc: Global, item: &Declared) -> Result<Fault, Memory>
     ensures { IfOk result (λ f. f ≡ class_virtual_at item.now) }
 {
     let at = item.at.copy(alloc)?;
-    let reference = reference_of(alloc, item)?;
+    let reference = item.reference(alloc)?;
     Fault::new(alloc, at, What::ClassVirtual(Subject::Reference(reference)))
 }
 
@@ -28,7 +20,7 @@ pub fn duplicate(alloc: Global, item: &Declared, earlier: &Place) -> Result<Faul
     ensures { IfOk result (λ f. f ≡ duplicate_at item.now earlier.now) }
 {
     let at = item.at.copy(alloc)?;
-    let reference = reference_of(alloc, item)?;
+    let reference = item.reference(alloc)?;
     let earlier = earlier.copy(alloc)?;
     Fault::new(alloc, at, What::Duplicate { reference, earlier })
 }

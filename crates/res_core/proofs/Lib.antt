@@ -5,3 +5,4 @@ mod NativeExamples
 pub mod SettingLemmas
 mod RelationNames
 pub mod PlaceLemmas
+pub mod HalvingLemmas

@@ -83,6 +83,13 @@ pub with_texts-append : (ts us held : List (List ℕ)) → with_texts held (ts +
 with_texts-append [] us held = refl
 with_texts-append (t ∷ ts) us held = with_texts-append ts us (insert_key text_cmp held t)
 
+-- texts put at their places among rising ones are all of them, in order
+pub all_in_order : (held ts all us : List (List ℕ)) → is_rising held ≡ true → all ≡ held ++ ts → us ≡ sorted all →
+    us ≡ with_texts held ts
+all_in_order held ts all us h both e =
+    e ∙ ap sorted both ∙ with_texts-append held ts []
+    ∙ ap (λ vs. with_texts vs ts) (same_rising _ _ (sorted_rises held) h (sorted_holds held))
+
 -- ---- the names of a resource
 
 -- texts that were put behind others

@@ -8,6 +8,7 @@ ghost use Rattle.res_core.specs.AttributeViews.{settings, set_in};
 use crate::attribute::Attribute;
 use pp_values::{Text, Value};
 use std::alloc::Global;
+use std::cmp::Ordering;
 use std::marker::Model;
 
 /// The attributes of a resource, whose names rise in byte order. No name stands twice.
@@ -97,8 +98,21 @@ impl Attributes {
     }
 }
 
+/// The attribute of this name, found by halving.
 fn named_in<'a>(attributes: &'a [Attribute], name: &Text) -> Option<&'a Attribute>
+    requires { IsTrue (is_rising (setting_names (settings attributes.now))) }
     ensures { option_copied result ≡ find (λ a. bytes_eq a.name name.now) attributes.now }
 {
-    attributes.iter().find(|a| a.name == *name)
+    let mut left = attributes;
+    loop {
+        let (front, back) = left.split_at(left.len() / 2);
+        let Some((attribute, after)) = back.split_first() else {
+            return None;
+        };
+        match name.compare(&attribute.name) {
+            Ordering::Less => left = front,
+            Ordering::Equal => return Some(attribute),
+            Ordering::Greater => left = after,
+        }
+    }
 }

@@ -1,6 +1,9 @@
+ghost use Rattle.std.specs.Prelude.{◌≡◌, IfOk};
+
 use crate::known_names::KnownNames;
 use crate::resource::Resource;
-use pp_values::{Place, Text};
+use pp_values::{Memory, Place, Reference, Text};
+use std::alloc::Global;
 
 /// A resource as a manifest declares it, before any override and any default statement.
 pub struct Declared {
@@ -15,6 +18,17 @@ pub struct Declared {
     pub class: Text,
     /// The attributes that its kind takes besides the metaparameters.
     pub known: KnownNames,
+}
+
+impl Declared {
+    /// What it is called by: its kind and its title.
+    pub fn reference(&self, alloc: Global) -> Result<Reference, Memory>
+        ensures { IfOk result (λ r. r ≡ record { kind = self.now.item.kind; title = self.now.item.title }) }
+    {
+        let kind = self.item.kind.copy(alloc)?;
+        let title = self.item.title.copy(alloc)?;
+        Ok(Reference { kind, title })
+    }
 }
 
 // By hand, so that letting one go is one step for whoever holds it.

@@ -48,6 +48,7 @@ impl KnownNames {
         }
     }
 
+    /// These names.
     pub fn listed(names: Texts) -> KnownNames
         ensures { result ≡ names }
     {

@@ -58,6 +58,7 @@ impl PlainResource {
         None
     }
 
+    /// The resource, whose values are plain.
     pub fn as_resource(&self) -> &Resource
         ensures resource { result.now ≡ self.now }
         ensures plain { IsTrue (are_plain self.now.attributes) }
@@ -65,6 +66,7 @@ impl PlainResource {
         &self.resource
     }
 
+    /// Takes the resource out.
     pub fn into_resource(self) -> Resource
         ensures resource { result ≡ self }
         ensures plain { IsTrue (are_plain self.attributes) }

@@ -10,6 +10,9 @@ use std::alloc::Global;
 /// How many names there is room for from the beginning.
 const OWN_TAGS: usize = 6;
 
+/// How many names are put at their places one by one. A title of strangers may have 700,000 segments.
+const FEW_NAMES: usize = 32;
+
 /// The tags of a resource of this kind and title that has these texts in its attribute `tag` and
 /// stands in a resource with the container's tags. The tags of a class are those of kind `class`.
 ///
@@ -63,11 +66,30 @@ fn are_all_lower(texts: &[Text]) -> bool
 fn with_names(tags: Tags, names: Vec<Text>) -> Result<Tags, Memory>
     ensures { IfOk result (λ t. t ≡ with_texts tags names.items) }
 {
+    if names.len() > FEW_NAMES {
+        return with_many(tags, names);
+    }
+    with_few(tags, names)
+}
+
+/// Each name is searched for: few of them are put among the tags sooner than all are sorted.
+fn with_few(tags: Tags, names: Vec<Text>) -> Result<Tags, Memory>
+    ensures { IfOk result (λ t. t ≡ with_texts tags names.items) }
+{
     let mut all = tags;
     for name in names {
         all.add(name)?;
     }
     Ok(all)
+}
+
+fn with_many(tags: Tags, names: Vec<Text>) -> Result<Tags, Memory>
+    ensures { IfOk result (λ t. t ≡ with_texts tags names.items) }
+{
+    let mut all = tags.into_vec();
+    let mut names = names;
+    all.append(&mut names)?;
+    Ok(in_order(all))
 }
 
 /// These texts in rising order, each once.

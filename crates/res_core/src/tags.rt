@@ -63,6 +63,14 @@ impl Tags {
         self.items.as_slice()
     }
 
+    pub(crate) fn into_vec(self) -> Vec<Text>
+        ensures tags { result.items ≡ self }
+        ensures rising { IsTrue (is_rising self) }
+    {
+        let Tags { items } = self;
+        items
+    }
+
     /// Whether one of them is this text, with ASCII letters folded.
     pub fn has(&self, text: &Text) -> bool
         ensures { result ≡ is_tagged self.now text.now }
@@ -72,6 +80,7 @@ impl Tags {
             .any(|tag| text.as_str().eq_ignore_ascii_case(tag.as_str()))
     }
 
+    /// The same tags.
     pub fn copy(&self, alloc: Global) -> Result<Tags, Memory>
         ensures { IfOk result (λ t. t ≡ self.now) }
     {

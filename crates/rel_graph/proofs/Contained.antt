@@ -1,12 +1,8 @@
 -- Containment alone, as relationships of resources that contain nothing.
 use Rattle.std.proofs.Common.{◌≡◌, ℕ, List, [], ◌∷◌, inl, inr, refl, subst₂, arith}
-use Rattle.rel_graph.specs.Chains.{Paired, Chain, Closure}
-use Rattle.rel_graph.specs.Before.{Belongs, Direct, Before}
-use Rattle.rel_graph.specs.Cycles.{IsCycle}
-use Rattle.rel_graph.specs.Orders.{IsOrder}
-use Rattle.rel_graph.specs.Pairs.{AllBelow}
-use Rattle.rel_graph.proofs.Below.{before_below}
-use Rattle.rel_graph.proofs.Ordering.{order_acyclic}
+use Rattle.rel_graph.specs.Chains.{Paired, Chain}
+use Rattle.rel_graph.specs.Before.{Belongs, Direct}
+use Rattle.rel_graph.specs.Cycles.{IsCycle, HasNoCycle}
 
 none_paired : (a b : ℕ) → ¬ (Paired [] a b)
 none_paired a b p = absurd (let h = p.1 in omega arith)
@@ -46,19 +42,9 @@ contained_cycle pairs cycle c =
       least = λ other h. c.least other (back c.start c.start other h);
     }
 
-pub contained_none : (pairs : List (ℕ × ℕ)) → ((r : ℕ) → ¬ (Before [] pairs r r)) → (c : ℕ) →
-    ¬ (Closure (Paired pairs) c c)
+pub contained_none : (pairs : List (ℕ × ℕ)) → HasNoCycle (Direct [] pairs) → HasNoCycle (Paired pairs)
 contained_none pairs none c h = none c (
   h.0,
   chain_same (Paired pairs) (Direct [] pairs) (direct_from pairs) c c h.0
       h.1,
 )
-
-pub none_below : (n : ℕ) → AllBelow [] n
-none_below n k d h = absurd (omega arith)
-
-pub contained_order : (pairs : List (ℕ × ℕ)) (count : ℕ) (order : List ℕ) → AllBelow pairs count →
-    IsOrder (Direct [] pairs) count order → (c : ℕ) → ¬ (Closure (Paired pairs) c c)
-contained_order pairs count order below o =
-    contained_none pairs (λ r b. order_acyclic (Direct [] pairs) count order o r
-    (before_below [] pairs count r r (none_below count) below b) b)

@@ -22,3 +22,7 @@ pub record IsCycle (R : ℕ → ℕ → Type 0) (cycle : List ℕ) : Type 0 wher
 -- nothing comes before itself
 abbrev pub HasNoCycle : (ℕ → ℕ → Type 0) → Type 0
 HasNoCycle R = (q : ℕ) → ¬ (Closure R q q)
+
+-- nothing below n does
+abbrev pub NoneBelow : (ℕ → ℕ → Type 0) → ℕ → Type 0
+NoneBelow R n = (q : ℕ) → q < n → ¬ (Closure R q q)

@@ -1,8 +1,8 @@
 -- Laws of orders and cycles.
 use Rattle.std.specs.Prelude.{◌≡◌, ℕ, List}
-use Rattle.rel_graph.specs.Before.{Direct, Before}
+use Rattle.rel_graph.specs.Before.{Direct}
 use Rattle.rel_graph.specs.Orders.{IsOrder}
-use Rattle.rel_graph.specs.Cycles.{IsCycle}
+use Rattle.rel_graph.specs.Cycles.{IsCycle, HasNoCycle}
 use Rattle.rel_graph.specs.Pairs.{AllBelow}
 
 -- there is at most one order
@@ -19,4 +19,4 @@ OneCycle = (containers edges : List (ℕ × ℕ)) (xs ys : List ℕ) → IsCycle
 abbrev pub OrderHasNoCycle : Type 0
 OrderHasNoCycle = (containers edges : List (ℕ × ℕ)) (count : ℕ) (xs : List ℕ) → AllBelow containers count →
     AllBelow edges count →
-    IsOrder (Direct containers edges) count xs → (r : ℕ) → ¬ (Before containers edges r r)
+    IsOrder (Direct containers edges) count xs → HasNoCycle (Direct containers edges)

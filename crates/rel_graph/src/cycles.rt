@@ -1,13 +1,16 @@
 //! The cycle that is told.
 ghost use Rattle.std.specs.Prelude.{◌≡◌, ◌↔◌, ℕ, ◌+◌, ◌<◌, Some, length, IsTrue, IfOk, IfNone, IfSome};
-ghost use Rattle.rel_graph.specs.Before.{Direct};
-ghost use Rattle.rel_graph.specs.Cycles.{IsCycle, HasNoCycle};
+ghost use Rattle.rel_graph.specs.Before.{Direct, Before};
+ghost use Rattle.rel_graph.specs.Cycles.{IsCycle, HasNoCycle, NoneBelow};
 ghost use Rattle.rel_graph.specs.Distances.{AreDistances, IsBestCycle, IsStep, IsLeastAt, distance};
 ghost use Rattle.rel_graph.specs.Marks.{Marked};
 ghost use Rattle.rel_graph.specs.Pairs.{AllBelow};
+ghost use Rattle.rel_graph.specs.Spans.{span};
 
 use crate::direct::follow;
 use crate::distances::distances;
+use crate::points::laid_out;
+use crate::spans::{is_line, span};
 use std::alloc::{AllocError, Global};
 
 fn is_far(number: Option<u32>, left: u32) -> bool
@@ -88,7 +91,49 @@ fn trace(
     Ok(cycle)
 }
 
-/// The cycle that is told, or none where no resource comes before itself.
+/// Whether a line shows that this resource does not come before itself.
+fn is_apart(spans: &[(usize, usize)], at: u32) -> bool
+    ensures { IsTrue result ↔ (span spans.now at).0 < (span spans.now at).1 }
+{
+    let found = span(spans, at);
+    found.0 < found.1
+}
+
+/// The cycle, where no lesser resource comes before itself, or none where this one does not.
+fn cycle_from(
+    alloc: Global,
+    containers: &[(u32, u32)],
+    edges: &[(u32, u32)],
+    count: u32,
+    start: u32,
+) -> Result<Option<Vec<u32>>, AllocError>
+    requires below { AllBelow containers.now count }
+    requires edges_below { AllBelow edges.now count }
+    requires start { start < count }
+    ensures none { IfOk result (λ o. IfNone o (¬ (Before containers.now edges.now start start))) }
+    ensures some { IfOk result (λ o. IfSome o (λ v.
+        NoneBelow (Direct containers.now edges.now) start → IsCycle (Direct containers.now edges.now) v.items)) }
+{
+    let numbers = distances(alloc, containers, edges, count, start)?;
+    match numbers[start as usize] {
+        Some(between) => {
+            let cycle = trace(
+                alloc,
+                containers,
+                edges,
+                count,
+                numbers.as_slice(),
+                start,
+                between,
+            )?;
+            Ok(Some(cycle))
+        }
+        None => Ok(None),
+    }
+}
+
+/// The cycle that is told, or none where no resource comes before itself. Where a line shows that a resource doesn't, no
+/// cycle is looked for from there.
 pub fn first_cycle(
     alloc: Global,
     containers: &[(u32, u32)],
@@ -100,18 +145,13 @@ pub fn first_cycle(
     ensures none { IfOk result (λ o. IfNone o (HasNoCycle (Direct containers.now edges.now))) }
     ensures some { IfOk result (λ o. IfSome o (λ v. IsCycle (Direct containers.now edges.now) v.items)) }
 {
+    let spans = laid_out(alloc, containers, edges, count)?;
+    let lined_up = is_line(0, spans.as_slice(), containers, edges);
     for start in 0..count {
-        let numbers = distances(alloc, containers, edges, count, start)?;
-        if let Some(between) = numbers[start as usize] {
-            let cycle = trace(
-                alloc,
-                containers,
-                edges,
-                count,
-                numbers.as_slice(),
-                start,
-                between,
-            )?;
+        if lined_up && is_apart(spans.as_slice(), start) {
+            continue;
+        }
+        if let Some(cycle) = cycle_from(alloc, containers, edges, count, start)? {
             return Ok(Some(cycle));
         }
     }

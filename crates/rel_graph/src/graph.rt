@@ -1,14 +1,16 @@
-ghost use Rattle.std.specs.Prelude.{◌≡◌, ℕ, true, false, map, IfOk, MatchResult};
-ghost use Rattle.rel_graph.specs.Before.{Before, SomeBeforeItself};
+ghost use Rattle.std.specs.Prelude.{◌≡◌, true, false, map, IfOk, MatchResult};
+ghost use Rattle.rel_graph.specs.Before.{Direct, SomeBeforeItself};
 ghost use Rattle.rel_graph.specs.Chains.{Paired};
-ghost use Rattle.rel_graph.specs.Graphs.{NoneInsideItself, containment_pair, edge_pair};
+ghost use Rattle.rel_graph.specs.Cycles.{HasNoCycle};
+ghost use Rattle.rel_graph.specs.Graphs.{IsCyclic, containment_pair, edge_pair};
 ghost use Rattle.rel_graph.specs.Pairs.{AllBelow};
-ghost use Rattle.rel_graph.specs.Spans.{IsCyclic};
 ghost use Rattle.rel_graph.specs.Stops.{IsContainedStop, Builds, Sorts};
 
 use crate::containment::{Containers, Containment};
+use crate::cycles::first_cycle;
+use crate::points::laid_out;
 use crate::sorting::sort;
-use crate::spans::is_laid_out;
+use crate::spans::is_line;
 use crate::stops::{GraphStop, OrderStop};
 use res_core::{Edge, EdgeList, Indexes};
 use std::alloc::{AllocError, Global};
@@ -60,12 +62,11 @@ fn edge_pairs(alloc: Global, edges: &[Edge]) -> Result<Vec<(u32, u32)>, AllocErr
 /// Refuses containment that leads from a resource back to itself.
 fn check_containment(alloc: Global, containers: &[(u32, u32)], count: u32) -> Result<(), GraphStop>
     requires { AllBelow containers.now count }
-    ensures { MatchResult result (λ _. NoneInsideItself containers.now) (IsContainedStop (Paired containers.now)) }
+    ensures { MatchResult result (λ _. HasNoCycle (Paired containers.now)) (IsContainedStop (Paired containers.now)) }
 {
-    match sort(alloc, &[], containers, count) {
-        Ok(_order) => Ok(()),
-        Err(OrderStop::Cycle(cycle)) => Err(GraphStop::Contains(cycle)),
-        Err(OrderStop::Memory) => Err(GraphStop::Memory),
+    match first_cycle(alloc, &[], containers, count)? {
+        Some(cycle) => Err(GraphStop::Contains(Indexes::from_vec(cycle))),
+        None => Ok(()),
     }
 }
 
@@ -78,18 +79,17 @@ fn is_cyclic(
 ) -> Result<bool, AllocError>
     requires below { AllBelow containers.now count }
     requires edges_below { AllBelow edges.now count }
-    ensures no { IfOk result (λ b. b ≡ false → (r : ℕ) → ¬ (Before containers.now edges.now r r)) }
+    ensures no { IfOk result (λ b. b ≡ false → HasNoCycle (Direct containers.now edges.now)) }
     ensures yes { IfOk result (λ b. b ≡ true → SomeBeforeItself containers.now edges.now) }
 {
-    match sort(alloc, containers, edges, count) {
-        Ok(_order) => Ok(false),
-        Err(OrderStop::Cycle(_cycle)) => Ok(true),
-        Err(OrderStop::Memory) => Err(AllocError),
+    match first_cycle(alloc, containers, edges, count)? {
+        Some(_cycle) => Ok(true),
+        None => Ok(false),
     }
 }
 
 /// Whether some resource comes before itself, where none stands inside itself. Cycles are looked for only where the
-/// resources can't be laid out on a line.
+/// resources can't be laid out on a line with a gap.
 fn cyclic_of(
     alloc: Global,
     containers: &[(u32, u32)],
@@ -100,8 +100,8 @@ fn cyclic_of(
     requires edges_below { AllBelow edges.now count }
     ensures { MatchResult result (IsCyclic containers.now edges.now) (IsContainedStop (Paired containers.now)) }
 {
-    let laid_out = is_laid_out(alloc, containers, edges, count)?;
-    if laid_out {
+    let spans = laid_out(alloc, containers, edges, count)?;
+    if is_line(1, spans.as_slice(), containers, edges) {
         return Ok(false);
     }
     check_containment(alloc, containers, count)?;
@@ -135,14 +135,14 @@ pub fn build(
 impl Graph {
     /// Whether some resource comes before itself.
     pub fn has_cycle(&self) -> bool
-        ensures no { result ≡ false → (r : ℕ) → ¬ (Before self.now.containers self.now.edges r r) }
+        ensures no { result ≡ false → HasNoCycle (Direct self.now.containers self.now.edges) }
         ensures yes { result ≡ true → SomeBeforeItself self.now.containers self.now.edges }
     {
         self.cyclic
     }
 
     /// All resources, each after those that come before it, and where several could be next the one with the least
-    /// index. A cycle is looked for only where there is no order.
+    /// index.
     pub fn order(&self, alloc: Global) -> Result<Order, OrderStop>
         ensures { Sorts self.now.containers self.now.edges self.now.count result }
     {

@@ -1,8 +1,8 @@
-//! Where resources begin and end, as far as there is a line on which each begins after what comes before it. This is an
-//! attempt: whether the line is one, `spans` tells.
+//! Where resources begin and end on a line, on which nothing stands before what leads to it, and those alone share a place
+//! that lead to each other. This is an attempt: what the line shows, `spans` tells.
 use std::alloc::{AllocError, Global};
 
-/// An arrow to a point that is to come after the one that it leads from.
+/// An arrow to a point that is to come no earlier than the one that it leads from.
 #[derive(Clone, Copy)]
 struct Arrow {
     to: usize,
@@ -12,12 +12,29 @@ struct Arrow {
 
 /// Points, two for each resource, and which of them are to come after which.
 #[derive(Drop)]
-pub struct Points {
+struct Points {
     arrows: Vec<Arrow>,
-    /// For each point how many arrows there were when the last one from it was put, or 0 where there is none.
+    /// For each point how many arrows there were when the last one from it was put, or 0 where there is none. A walk
+    /// takes the arrows away as it follows them.
     last: Vec<usize>,
-    /// For each point how many are to come before it and don't stand on the line yet.
-    waits: Vec<usize>,
+}
+
+/// A walk along the arrows that turns round where no arrow is left.
+#[derive(Drop)]
+struct Walk {
+    /// For each point how many were entered when it was, itself among them, or 0 where it was not.
+    entered: Vec<usize>,
+    /// For each point the least of these numbers that is known to be led to from it.
+    lowest: Vec<usize>,
+    /// For each point its place on the line, or 0 while it has none.
+    places: Vec<usize>,
+    /// What was entered and has no place, in the order of entering.
+    open: Vec<usize>,
+    /// The way from where the walk began.
+    way: Vec<usize>,
+    count: usize,
+    /// The place that is given next.
+    place: usize,
 }
 
 /// The point at which a resource begins.
@@ -30,24 +47,30 @@ fn end(at: u32) -> usize {
     at as usize * 2 + 1
 }
 
+fn number_at(numbers: &[usize], point: usize) -> usize {
+    match numbers.get(point) {
+        Some(number) => *number,
+        None => 0,
+    }
+}
+
+fn set_number(numbers: &mut [usize], point: usize, number: usize) {
+    if point < numbers.len() {
+        numbers[point] = number;
+    }
+}
+
 fn no_points(alloc: Global, count: u32) -> Result<Points, AllocError> {
     let arrows = Vec::new(alloc);
     let last = vec![in alloc; 0; end(count)]?;
-    let waits = vec![in alloc; 0; end(count)]?;
-    Ok(Points {
-        arrows,
-        last,
-        waits,
-    })
+    Ok(Points { arrows, last })
 }
 
 fn put(points: &mut Points, from: usize, to: usize) -> Result<(), AllocError> {
-    if from < points.last.len() && to < points.waits.len() {
-        let before = points.last[from];
-        points.arrows.push(Arrow { to, before })?;
-        points.last[from] = points.arrows.len();
-        points.waits[to] = points.waits[to].wrapping_add(1);
-    }
+    let before = number_at(points.last.as_slice(), from);
+    points.arrows.push(Arrow { to, before })?;
+    let number = points.arrows.len();
+    set_number(&mut points.last, from, number);
     Ok(())
 }
 
@@ -76,91 +99,120 @@ fn put_edges(points: &mut Points, edges: &[(u32, u32)]) -> Result<(), AllocError
     Ok(())
 }
 
-/// The points that wait for none.
-fn first_ready(alloc: Global, waits: &[usize]) -> Result<Vec<usize>, AllocError> {
-    let mut ready = Vec::new(alloc);
-    for (point, waiting) in waits.iter().enumerate() {
-        if *waiting == 0 {
-            ready.push(point)?;
-        }
-    }
-    Ok(ready)
-}
-
-/// One of those before this point stands on the line. Tells whether it was the last one.
-fn is_last(waits: &mut [usize], point: usize) -> bool {
-    if point < waits.len() {
-        waits[point] = waits[point].wrapping_sub(1);
-        return waits[point] == 0;
-    }
-    false
-}
-
-/// What this arrow, counted from 1, leads to; and the arrow before it.
-fn arrow_at(arrows: &[Arrow], number: usize) -> Option<Arrow> {
+/// The next arrow from this point, which is not met again.
+fn take_arrow(points: &mut Points, point: usize) -> Option<usize> {
+    let number = number_at(points.last.as_slice(), point);
     match number.checked_sub(1) {
-        Some(at) => arrows.get(at).copied(),
+        Some(at) => {
+            let arrow = points.arrows.get(at).copied()?;
+            set_number(&mut points.last, point, arrow.before);
+            Some(arrow.to)
+        }
         None => None,
     }
 }
 
-/// Follows the arrows from a point, the last one first.
-fn release(
-    arrows: &[Arrow],
-    last: usize,
-    waits: &mut [usize],
-    ready: &mut Vec<usize>,
-) -> Result<(), AllocError> {
-    let mut number = last;
-    for _turn in 0..arrows.len() {
-        match arrow_at(arrows, number) {
-            Some(arrow) => {
-                if is_last(waits, arrow.to) {
-                    ready.push(arrow.to)?;
+fn no_walk(alloc: Global, count: usize) -> Result<Walk, AllocError> {
+    let entered = vec![in alloc; 0; count]?;
+    let lowest = vec![in alloc; 0; count]?;
+    let places = vec![in alloc; 0; count]?;
+    let open = Vec::new(alloc);
+    let way = Vec::new(alloc);
+    Ok(Walk {
+        entered,
+        lowest,
+        places,
+        open,
+        way,
+        count: 0,
+        place: count,
+    })
+}
+
+fn enter(walk: &mut Walk, point: usize) -> Result<(), AllocError> {
+    let count = walk.count.wrapping_add(1);
+    walk.count = count;
+    set_number(&mut walk.entered, point, count);
+    set_number(&mut walk.lowest, point, count);
+    walk.open.push(point)?;
+    walk.way.push(point)?;
+    Ok(())
+}
+
+/// This point leads to what has this number.
+fn lower(walk: &mut Walk, point: usize, number: usize) {
+    if number < number_at(walk.lowest.as_slice(), point) {
+        set_number(&mut walk.lowest, point, number);
+    }
+}
+
+/// Goes on to where an arrow leads, unless the walk was there.
+fn follow_arrow(walk: &mut Walk, from: usize, to: usize) -> Result<(), AllocError> {
+    let number = number_at(walk.entered.as_slice(), to);
+    if number == 0 {
+        return enter(walk, to);
+    }
+    if number_at(walk.places.as_slice(), to) == 0 {
+        lower(walk, from, number);
+    }
+    Ok(())
+}
+
+/// Gives one place to this point and all that were entered since and have none: they lead to each other.
+fn settle(walk: &mut Walk, point: usize) {
+    let place = walk.place;
+    walk.place = place.wrapping_sub(1);
+    for _turn in 0..walk.open.len() {
+        match walk.open.pop() {
+            Some(member) => {
+                set_number(&mut walk.places, member, place);
+                if member == point {
+                    return;
                 }
-                number = arrow.before;
             }
+            None => return,
+        }
+    }
+}
+
+/// Goes back from this point.
+fn leave(walk: &mut Walk, point: usize) {
+    walk.way.pop();
+    let lowest = number_at(walk.lowest.as_slice(), point);
+    if lowest == number_at(walk.entered.as_slice(), point) {
+        settle(walk, point);
+    }
+    if let Some(from) = walk.way.last().copied() {
+        lower(walk, from, lowest);
+    }
+}
+
+/// Walks to all that this point leads to. Each arrow is followed once, and each point left once.
+fn walk_from(points: &mut Points, walk: &mut Walk, point: usize) -> Result<(), AllocError> {
+    enter(walk, point)?;
+    for _turn in 0..points.arrows.len().saturating_add(points.last.len()) {
+        match walk.way.last().copied() {
+            Some(at) => match take_arrow(points, at) {
+                Some(to) => follow_arrow(walk, at, to)?,
+                None => leave(walk, at),
+            },
             None => return Ok(()),
         }
     }
     Ok(())
 }
 
-/// Puts a point at its place on the line.
-fn put_on_line(
-    points: &mut Points,
-    point: usize,
-    place: usize,
-    line: &mut [usize],
-    ready: &mut Vec<usize>,
-) -> Result<(), AllocError> {
-    if point < line.len() && point < points.last.len() {
-        line[point] = place;
-        let last = points.last[point];
-        release(points.arrows.as_slice(), last, &mut points.waits, ready)?;
-    }
-    Ok(())
-}
-
-/// The place of each point on the line, and 0 for those that have none.
+/// The place of each point on the line.
 fn line_up(alloc: Global, points: Points) -> Result<Vec<usize>, AllocError> {
     let mut points = points;
-    let mut ready = first_ready(alloc, points.waits.as_slice())?;
-    let mut line = vec![in alloc; 0; points.last.len()]?;
-    for place in 0..line.len() {
-        if place < ready.len() {
-            let point = ready[place];
-            put_on_line(&mut points, point, place, &mut line, &mut ready)?;
+    let mut walk = no_walk(alloc, points.last.len())?;
+    for point in 0..points.last.len() {
+        if number_at(walk.entered.as_slice(), point) == 0 {
+            walk_from(&mut points, &mut walk, point)?;
         }
     }
-    Ok(line)
-}
-
-fn place(line: &[usize], point: usize) -> usize {
-    match line.get(point) {
-        Some(place) => *place,
-        None => 0,
-    }
+    let Walk { places, .. } = walk;
+    Ok(places)
 }
 
 /// Where each resource begins and where it ends.
@@ -178,8 +230,8 @@ pub fn laid_out(
     let mut spans = Vec::new(alloc);
     for at in 0..count {
         spans.push((
-            place(line.as_slice(), begin(at)),
-            place(line.as_slice(), end(at)),
+            number_at(line.as_slice(), begin(at)),
+            number_at(line.as_slice(), end(at)),
         ))?;
     }
     Ok(spans)

@@ -1,7 +1,8 @@
 use Rattle.std.proofs.Common.{◌≡◌, ◌∙◌, ℕ, Bool, true, false, List, map, ap, ap₂, sym, subst}
-use Rattle.rel_graph.specs.Graphs.{Relations, NoneInsideItself, containment_pair, edge_pair}
+use Rattle.rel_graph.specs.Chains.{Paired}
+use Rattle.rel_graph.specs.Cycles.{HasNoCycle}
+use Rattle.rel_graph.specs.Graphs.{Relations, IsCyclic, containment_pair, edge_pair}
 use Rattle.rel_graph.specs.Pairs.{AllBelow}
-use Rattle.rel_graph.specs.Spans.{IsCyclic}
 use Rattle.rel_graph.proofs.graph.build.Goals as goal
 
 containers_are : (c : goal.In_ok-cyclic) → c.in_ok-containers.containers.items ≡ map containment_pair
@@ -19,12 +20,10 @@ cyclic_is c =
     c.in_ok-cyclic.ensures)
 
 pub invariant_of-result : goal.invariant_of-result
-invariant_of-result c = let is = cyclic_is c in record {
+invariant_of-result c = record {
   below = subst (λ ps. AllBelow ps c.args.count) (sym (containers_are c)) c.requires.below;
   edges_below = subst (λ ps. AllBelow ps c.args.count) (sym (edges_are c)) c.requires.edges_below;
-  contains = is.contains;
-  no = is.no;
-  yes = is.yes;
+  told = cyclic_is c;
 }
 
 pub returns : goal.returns
@@ -32,4 +31,4 @@ returns c =
     let made : List (ℕ × ℕ) → List (ℕ × ℕ) → Relations =
     λ cs es. record { count = c.args.count; containers = cs; edges = es } in
     let is = cyclic_is c in
-    (ap₂ made (containers_are c) (edges_are c), subst NoneInsideItself (containers_are c) is.contains)
+    (ap₂ made (containers_are c) (edges_are c), subst (λ ps. HasNoCycle (Paired ps)) (containers_are c) is.contains)

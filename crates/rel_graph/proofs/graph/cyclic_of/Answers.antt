@@ -1,10 +1,11 @@
 use Rattle.std.proofs.Common.{true≢false, sym}
+use Rattle.rel_graph.proofs.SpanLemmas.{no_inside, no_before}
 use Rattle.rel_graph.proofs.graph.cyclic_of.Goals as goal
 
-pub returns-then-laid_out : goal.returns-then-laid_out
-returns-then-laid_out c = let none = c.in_ok-laid_out.ensures c.if-laid_out.true in record {
-  contains = none.0;
-  no = λ _. none.1;
+pub returns-then-is_line : goal.returns-then-is_line
+returns-then-is_line c = let line = c.is_line.ensures.0 c.if-is_line.true in record {
+  contains = no_inside _ _ _ line;
+  no = λ _. no_before _ _ _ line;
   yes = λ h. absurd (true≢false (sym h));
 }
 

@@ -1,29 +1,12 @@
 -- The values of arguments, and of the members of a list.
 use Rattle.std.specs.Prelude.{ℕ, Bool, true, false, List, [], ◌∷◌, ◌++◌}
-use Rattle.pp_tree.specs.Building.{form_of}
-use Rattle.pp_tree.specs.Layers.{FormLayer}
-use Rattle.pp_tree.specs.declared.collector.Test.TheOpen.{Form-F}
 use Rattle.pp_tree.specs.declared.expr.Expr.{Expr}
-use Rattle.pp_tree.specs.declared.expr.Form.{out-Form}
-use Rattle.pp_tree.specs.declared.operators.PrefixOperator.{PrefixOperator}
-use Rattle.pp_tree.specs.declared.operators.PrefixOperator.TheVariants as prefix
 use Rattle.pp_values.specs.Datum.{Datum}
 use Rattle.expr_eval.specs.Spreading.{spliced}
 use Rattle.eval_world.specs.Inner.{Inner}
 use Rattle.eval_world.specs.Outcomes.{Step, ◌>>=◌, pure}
+use Rattle.eval_world.specs.Shapes.{is_splat}
 use Rattle.eval_world.specs.declared.here.Here.{Here}
-
-abbrev pub splices : PrefixOperator → Bool
-splices prefix.Splat = true
-splices _ = false
-
-abbrev pub is_splat_by : FormLayer → Bool
-is_splat_by (Form-F.Prefix o e) = splices o
-is_splat_by _ = false
-
--- it is written with `*`
-abbrev pub is_splat : Expr → Bool
-is_splat e = is_splat_by (out-Form (form_of e))
 
 -- what one argument adds: its value, or with `*` the members of its value
 abbrev pub given : Bool → Datum → List Datum

@@ -6,4 +6,5 @@ pub mod Leaves
 pub mod Nests
 pub mod Outcomes
 pub mod Owners
+pub mod Shapes
 pub mod Worlds

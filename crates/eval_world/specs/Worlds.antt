@@ -48,6 +48,14 @@ fault here line details = λ w. Err (faults.fault (place_at w here line) details
 abbrev pub not_built : {A : Type 0} → Here → ℕ → Step A
 not_built here line = fault here line what.NotBuilt
 
+-- the function of this name does not take what it is given
+abbrev pub wrong : {A : Type 0} → List ℕ → ℕ → Here → Step A
+wrong f line here = fault here line (what.WrongArguments f)
+
+-- an answer that changes nothing in the world, whose fault is placed at this line
+abbrev pub answered_at : {A : Type 0} → (Place → Result A Fault) → ℕ → Here → Step A
+answered_at answer line here = λ w. answered (answer (place_at w here line)) w
+
 -- ---- variables
 
 unfoldable pub read : Here → List ℕ → ℕ → Step Datum

@@ -10,10 +10,10 @@ use crate::forms::Forms;
 use crate::goal::Goal;
 use crate::here::Here;
 use crate::meaning::Meaning;
+use crate::shapes::is_splat;
 use crate::world::World;
 use expr_eval::splice;
-use pp_tree::expr::{Args, Expr, Form};
-use pp_tree::operators::PrefixOperator;
+use pp_tree::expr::{Args, Expr};
 use pp_values::{Memory, Stop, Value, Values};
 use std::alloc::Global;
 use std::mem;
@@ -60,16 +60,6 @@ impl<F: Fn(&mut World<'_>, Goal<'_>, Here, u32) -> Result<Evaluated, Stop>, M: M
             done.push(value.into_value())?;
         }
         Ok(())
-    }
-}
-
-/// Whether an argument is written with `*`.
-fn is_splat(arg: &Expr) -> bool
-    ensures { result ≡ spec.is_splat arg.now }
-{
-    match arg.form.get() {
-        Form::Prefix(PrefixOperator::Splat, _) => true,
-        _ => false,
     }
 }
 

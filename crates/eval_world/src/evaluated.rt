@@ -31,6 +31,7 @@ impl Model for Evaluated {
 }
 
 impl Evaluated {
+    /// What an evaluation gave: this value.
     pub fn new(value: Value) -> Evaluated
         ensures { result ≡ view value }
     {
@@ -48,12 +49,14 @@ impl Evaluated {
         }
     }
 
+    /// The value, lent.
     pub fn as_value(&self) -> &Value
         ensures { view result.now ≡ self.now }
     {
         &self.value
     }
 
+    /// The value, handed on without a copy.
     pub fn into_value(self) -> Value
         ensures { view result ≡ self }
     {

@@ -1,4 +1,4 @@
-ghost use Rattle.std.specs.Prelude.{◌≡◌, IfOk, IfSome, Ok};
+ghost use Rattle.std.specs.Prelude.{◌≡◌, IfOk, IfSome, Ok, option_map};
 ghost use Rattle.pp_tree.specs.Building.{form_of};
 ghost use Rattle.pp_tree.specs.declared.collector.Test.TheOpen.{Form-F};
 ghost use Rattle.pp_tree.specs.declared.expr.Form.{out-Form};
@@ -6,6 +6,7 @@ ghost use Rattle.pp_values.specs.Datum.{int, text};
 ghost use Rattle.pp_values.specs.Views.{view};
 ghost use Rattle.eval_world.specs.declared.here.Here.{Here};
 ghost use Rattle.eval_world.specs.declared.world.World.{World};
+ghost use Rattle.eval_world.specs.Leaves.{known_in, number_in};
 ghost use Rattle.eval_world.specs.Nests.{Nests};
 ghost use Rattle.eval_world.specs.Outcomes.{Gives, same};
 
@@ -60,8 +61,11 @@ impl<F: Fn(&mut World<'_>, Goal<'_>, Here, u32) -> Result<Evaluated, Stop>, M: M
 
     /// The value of an expression that is a variable, where that has one and does not stand too deep: without a copy.
     #[inline(always)]
+    #[tactic(auto, unfolding(crate::specs::Leaves::known_in))]
     pub fn known<'w>(&self, world: &'w World<'_>, expr: &Expr, here: Here) -> Option<&'w Value>
-        ensures { IfSome result (λ v. (M.within self.now.left).value expr.now here world.now
+        ensures which { option_map (λ v. view v.now) result
+            ≡ known_in self.now.left expr.now here world.now.scopes }
+        ensures said { IfSome result (λ v. (M.within self.now.left).value expr.now here world.now
             ≡ Ok (view v.now, world.now)) }
     {
         match expr.form.get() {
@@ -71,7 +75,9 @@ impl<F: Fn(&mut World<'_>, Goal<'_>, Here, u32) -> Result<Evaluated, Stop>, M: M
     }
 
     /// The integer that an expression is by itself, where it does not stand too deep.
+    #[tactic(auto, unfolding(crate::specs::Leaves::number_in))]
     pub fn number(&self, expr: &Expr) -> Option<i64>
+        ensures which { result ≡ number_in self.now.left expr.now }
         ensures form { IfSome result (λ z. out-Form (form_of expr.now) ≡ Form-F.Number z) }
         ensures said { IfSome result (λ z. (here : Here) → (w : World)
             → (M.within self.now.left).value expr.now here w ≡ Ok (int z, w)) }

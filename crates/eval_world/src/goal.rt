@@ -5,8 +5,11 @@ use pp_tree::statement::{Block, Words};
 /// refused where they stand too deep: that of the expression, statement or definition that they belong to.
 #[derive(Clone, Copy)]
 pub enum Goal<'t> {
+    /// An expression.
     Value(&'t Expr),
+    /// The statements of a block.
     Block(&'t Block, u32),
+    /// A call without parentheses.
     Words(&'t Words),
     /// The body of a class, by the number of its declaration.
     Class(u32, u32),

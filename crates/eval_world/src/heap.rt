@@ -16,10 +16,12 @@ impl Model for Heap {
 }
 
 impl Heap {
+    /// A heap over this allocator.
     pub fn new(alloc: Global) -> Heap {
         Heap { alloc }
     }
 
+    /// The allocator, which is handed to whatever takes memory for the compile.
     pub fn alloc(&self) -> Global {
         self.alloc
     }

@@ -7,7 +7,9 @@ use scope_core::ScopeId;
 /// A lambda has a scope of its own and the owner that it is within.
 #[derive(Clone, Copy, Debug, PartialEq, Eq)]
 pub struct Here {
+    /// The scope that names are read in and set in.
     pub scope: ScopeId,
+    /// The number of the owner: whose file faults are placed in, and who contains what is declared.
     pub owner: u32,
 }
 

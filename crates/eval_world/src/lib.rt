@@ -13,6 +13,7 @@ mod here;
 mod meaning;
 mod owner;
 mod owners;
+mod shapes;
 mod world;
 
 pub use environment::Environment;
@@ -24,4 +25,5 @@ pub use here::Here;
 pub use meaning::Meaning;
 pub use owner::Owner;
 pub use owners::{MAIN_SOURCE, Owners};
+pub use shapes::{is_default, is_splat, only};
 pub use world::World;

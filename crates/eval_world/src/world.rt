@@ -20,13 +20,21 @@ use std::alloc::Global;
 /// All that a compile has made so far. Nothing in it is replaced: its lists only grow, but for the scopes of calls of
 /// lambdas that have ended.
 pub struct World<'a> {
+    /// Where memory is taken from.
     pub heap: Heap,
+    /// What is read: the manifests and the data of the site.
     pub environment: Environment<'a>,
+    /// Where variables have their values.
     pub scopes: Scopes,
+    /// The owners of the code that is evaluated, by number.
     pub owners: Owners,
+    /// What was declared, by number.
     pub book: Book,
+    /// What was set on declarations, and by default.
     pub overrides: Overrides,
+    /// Relations, containments and collectors.
     pub relations: Relations,
+    /// What log functions wrote.
     pub log: LogLines,
 }
 

@@ -1,4 +1,4 @@
--- Where the body of a class, of an instance or of a node is evaluated.
+-- Where the body of an instance or of a node is evaluated.
 use Rattle.std.specs.Prelude.{ℕ, ◌+◌, length, Some, Ok}
 use Rattle.override_rules.specs.Meaning.{scope_opened}
 use Rattle.scope_core.specs.Scopes.{entered}

@@ -1,4 +1,4 @@
-//! Where the body of a class, an instance or a node is evaluated.
+//! Where the body of an instance or a node is evaluated.
 ghost use Rattle.eval_classes.specs.Entering as spec;
 ghost use Rattle.eval_world.specs.Outcomes.{Gives, same};
 

@@ -96,7 +96,3 @@ unfoldable pub LevelsTo : (behind levels further : ℕ) → Within
 LevelsTo behind zero zero = record { is_deepest = λ i. true; reads = λ g i p j. ⊥ }
 LevelsTo behind zero (suc further) = record { is_deepest = λ i. ltb behind (length i.left); reads = IsPart (LevelsTo behind zero further) }
 LevelsTo behind (suc levels) further = record { is_deepest = λ i. false; reads = IsPart (LevelsTo behind levels further) }
-
--- the same where so many may be opened everywhere
-abbrev pub Levels : ℕ → Within
-Levels n = LevelsTo 0 n 0

@@ -489,6 +489,14 @@ module _ (inner : Inner) where
   param_by bars at x (Some k.Variable) = typed_param bars x
   param_by bars at x _ = param_from at x
 
+  -- behind an expression at the beginning of a parameter
+  unfoldable pub param_behind : Bool → ℕ → Expr → Parser (Param Expr)
+  param_behind bars at x = peek >>= param_by bars at x
+
+  -- behind a variable of one segment there
+  unfoldable pub variable_param : Bool → ℕ → List ℕ → Parser (Param Expr)
+  variable_param bars at name = assigned false bars at name >>= param_behind bars at
+
   -- An expression and a variable, or an expression that is a variable or its assignment. Within bars, only what stands behind
   -- `=` may end before the last bar.
   unfoldable pub param_rule : Bool → Parser (Param Expr)

@@ -1,10 +1,10 @@
 -- What a rule of the grammar reads from, and the steps that every rule is made of. A rule looks at the next token and at no
 -- other, and takes tokens from the front, or says where it stops.
-use Rattle.std.specs.Prelude.{◌≡◌, ◌≢◌, ℕ, ℤ, zero, suc, ◌+◌, Bool, true, false, if◌then◌else◌, List, [], ◌∷◌, ◌++◌, length, Option, Some, None, Result, Ok, Err, refl}
+use Rattle.std.specs.Prelude.{◌≡◌, ◌≢◌, ℕ, zero, suc, ◌+◌, Bool, true, false, if◌then◌else◌, List, [], ◌∷◌, ◌++◌, length, Option, Some, None, Result, Ok, Err, refl}
 use Rattle.pp_lexer.specs.declared.kind.Kind.{Kind}
-use Rattle.std.specs.Coded.{Coded, code_by, coded×, coded_ℕ, coded_ℤ, coded_list, coded_option}
+use Rattle.std.specs.Coded.{Coded, code_by, coded×, coded_ℕ, coded_list, coded_option}
 use Rattle.pp_lexer.specs.contracts.kind.Kind as kinds
-use Rattle.pp_lexer.specs.Seen.{Token}
+use Rattle.pp_lexer.specs.Seen.{Token, token_code}
 use Rattle.pp_parser.specs.declared.refusal.Refusal.{Refusal}
 use Rattle.pp_parser.specs.declared.refusal.Refusal.TheVariants as refusals
 use Rattle.pp_parser.specs.Kinds.{is_kind}
@@ -15,12 +15,9 @@ pub record Input : Type 0 where
   -- the line of the first key that stands a second time in its hash literal, among the literals that were read
   pub doubled : Option ℕ
 
--- how a proof tells tokens apart, and inputs
-abbrev pub token_code : Coded Token
-token_code = code_by (Kind × (List ℕ × (ℕ × ℤ))) (coded× kinds.the_row.coded (coded× (coded_list coded_ℕ) (coded× coded_ℕ coded_ℤ))) (λ t. (t.kind, (t.text, (t.line, t.number)))) (λ p. record { kind = p.0; text = p.1.0; line = p.1.1.0; number = p.1.1.1 }) (λ _. refl)
-
+-- how a proof tells inputs apart
 abbrev pub input_code : Coded Input
-input_code = code_by (List Token × Option ℕ) (coded× (coded_list token_code) (coded_option coded_ℕ)) (λ i. (i.left, i.doubled)) (λ p. record { left = p.0; doubled = p.1 }) (λ _. refl)
+input_code = code_by (List Token × Option ℕ) (coded× (coded_list (token_code kinds.the_row.coded)) (coded_option coded_ℕ)) (λ i. (i.left, i.doubled)) (λ p. record { left = p.0; doubled = p.1 }) (λ _. refl)
 
 abbrev pub Outcome : Type 0 → Type 0
 Outcome A = Result (A × Input) Refusal

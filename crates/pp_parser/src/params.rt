@@ -6,15 +6,20 @@ ghost use Rattle.pp_parser.specs.Input.{Reads};
 ghost use Rattle.pp_parser.specs.Levels.{within};
 ghost use Rattle.pp_parser.specs.Nests.{Nests};
 ghost use Rattle.pp_parser.specs.Params as spec;
+ghost use Rattle.pp_tree.specs.Building.{expr_at};
+ghost use Rattle.pp_tree.specs.declared.expr.Form.TheVariants.{Assign};
 
 use crate::cursor::Cursor;
 use crate::goal::{Goal, Part};
+use crate::operators::LOOSEST;
 use crate::refusal::Refusal;
 use crate::rules::Rules;
+use crate::started::Started;
 use pp_lexer::kind::Kind;
 use pp_tree::expr::{Expr, Form};
 use pp_tree::param::Param;
 use pp_values::text::Text;
+use pp_values::{Boxed, Items};
 use std::alloc::Global;
 
 /// Whether a name has one segment and no leading `::`.
@@ -91,17 +96,97 @@ impl<F: Fn(Global, &mut Cursor<'_>, usize, Goal) -> Result<Part, Refusal>> Rules
         })
     }
 
+    /// Behind an expression: a variable whose type it is, or nothing where it is a variable itself or its assignment.
+    #[tactic(auto, unfolding(crate::specs::Expressions::param_behind))]
+    fn behind_expr(
+        &self,
+        tokens: &mut Cursor<'_>,
+        bars: bool,
+        at: u32,
+        x: Expr,
+    ) -> Result<Param, Refusal>
+        requires { Nests self.now.levels (F.pre self.now.inner) (F.post self.now.inner) }
+        ensures { Reads (rules.param_behind (within self.now.levels) bars at x tokens.old) result tokens.new }
+    {
+        match tokens.peek() {
+            Some(Kind::Variable) => self.typed_param(tokens, bars, x),
+            _ => param_from(tokens, at, x),
+        }
+    }
+
+    /// Behind a variable and its default. They become an expression only where another variable follows, whose type it is.
+    #[tactic(auto, unfolding(crate::specs::Expressions::param_behind, crate::specs::Params::param_from))]
+    fn behind_default(
+        &self,
+        tokens: &mut Cursor<'_>,
+        bars: bool,
+        at: u32,
+        name: Text,
+        default: Expr,
+    ) -> Result<Param, Refusal>
+        requires { Nests self.now.levels (F.pre self.now.inner) (F.post self.now.inner) }
+        ensures { Reads (rules.param_behind (within self.now.levels) bars at (expr_at at (Assign name default)) tokens.old) result tokens.new }
+    {
+        match tokens.peek() {
+            Some(Kind::Variable) => {
+                let form = Form::Assign(Boxed::new(self.alloc, name)?, default);
+                let kind = Expr::new(self.alloc, at, form)?;
+                self.typed_param(tokens, bars, kind)
+            }
+            _ => Ok(Param {
+                kind: None,
+                name,
+                default: Some(default),
+                at,
+            }),
+        }
+    }
+
+    /// Behind a variable at the beginning of a parameter.
+    #[tactic(auto, unfolding(crate::specs::Expressions::variable_param, crate::specs::Expressions::assigned))]
+    fn behind_variable(
+        &self,
+        tokens: &mut Cursor<'_>,
+        bars: bool,
+        at: u32,
+        name: Text,
+    ) -> Result<Param, Refusal>
+        requires { Nests self.now.levels (F.pre self.now.inner) (F.post self.now.inner) }
+        ensures { Reads (rules.variable_param (within self.now.levels) bars at name tokens.old) result tokens.new }
+    {
+        match tokens.peek() {
+            Some(Kind::Assign) => {
+                self.open(tokens, Kind::Assign)?;
+                let default = self.whole_in(tokens, bars)?;
+                self.behind_default(tokens, bars, at, name, default)
+            }
+            _ => {
+                let start = Started {
+                    base: Expr::new(self.alloc, at, Form::Variable(name))?,
+                    postfixes: Items::new(self.alloc),
+                };
+                let x = self.chain(tokens, false, LOOSEST, Some(start))?;
+                self.behind_expr(tokens, bars, at, x)
+            }
+        }
+    }
+
     /// An expression and a variable, or an expression that is a variable or its assignment.
-    #[tactic(auto, unfolding(crate::specs::Expressions::param_rule))]
+    #[tactic(auto, unfolding(crate::specs::Expressions::param_rule, crate::specs::Expressions::param_behind, crate::specs::Expressions::variable_param, crate::specs::Expressions::whole, crate::specs::Input::line_at, crate::specs::Input::take, crate::specs::Input::kind, crate::specs::Input::kind_at))]
     pub fn param(&self, tokens: &mut Cursor<'_>, bars: bool) -> Result<Param, Refusal>
         requires { Nests self.now.levels (F.pre self.now.inner) (F.post self.now.inner) }
         ensures { Reads (rules.param_rule (within self.now.levels) bars tokens.old) result tokens.new }
     {
         let at = tokens.line();
-        let x = self.whole(tokens, false, bars)?;
         match tokens.peek() {
-            Some(Kind::Variable) => self.typed_param(tokens, bars, x),
-            _ => param_from(tokens, at, x),
+            Some(Kind::Variable) => {
+                let name = tokens.take()?.text(self.alloc)?;
+                self.behind_variable(tokens, bars, at, name)
+            }
+            _ => {
+                let x = self.chain(tokens, false, LOOSEST, None)?;
+                self.behind_expr(tokens, bars, at, x)
+            }
         }
     }
 }

@@ -1,9 +1,9 @@
 -- That `same_name` tells names apart, and `name_cmp` puts them in order, so that a map may have them as its keys.
-use Rattle.std.specs.Prelude.{◌≡◌, ℕ, true, List, ◌∷◌, [], None, Some, nat_eq, refl}
-use Rattle.std.proofs.Common.{ap, subst, sym, ◌∙◌, true≢false}
+use Rattle.std.specs.Prelude.{◌≡◌, ℕ, List, ◌∷◌, [], None, Some, nat_eq, refl}
+use Rattle.std.proofs.Common.{ap, subst, sym, ◌∙◌}
 use Rattle.std.specs.Cmp.{IsEquivalence, IsTotalOrder, IsPartialOrder, on_equiv, on_total, po}
 use Rattle.std.specs.Ordering.{nat_cmp, eq_by_cmp, is_eq}
-use Rattle.std.specs.Cmp.Lexicographic.{pointwise, slice_cmp, nat_list_eq_equiv, nat_list_cmp_total, texts_ties, bytes_decides}
+use Rattle.std.specs.Cmp.Lexicographic.{pointwise, slice_cmp, nat_list_eq_equiv, nat_list_cmp_total, texts_ties}
 use Rattle.pp_tree.specs.declared.table.DefinitionName.{DefinitionName}
 use Rattle.pp_tree.specs.declared.table.DefinitionName.TheVariants.{Code, Node}
 use Rattle.pp_tree.specs.Names.{same_name, name_cmp}
@@ -27,17 +27,6 @@ same_key (Node (Some a)) (Node (Some b)) = refl
 
 pub same_name_equiv : IsEquivalence same_name
 same_name_equiv = subst IsEquivalence (λ i x y. same_key x y i) (on_equiv key nat_list_eq_equiv)
-
-pub same_name_same : (x y : DefinitionName) → same_name x y ≡ true → x ≡ y
-same_name_same (Code a) (Code b) h = ap Code ((bytes_decides a b).0 h)
-same_name_same (Code a) (Node None) h = absurd (true≢false (sym h))
-same_name_same (Code a) (Node (Some b)) h = absurd (true≢false (sym h))
-same_name_same (Node None) (Code b) h = absurd (true≢false (sym h))
-same_name_same (Node None) (Node None) h = refl
-same_name_same (Node None) (Node (Some b)) h = absurd (true≢false (sym h))
-same_name_same (Node (Some a)) (Code b) h = absurd (true≢false (sym h))
-same_name_same (Node (Some a)) (Node None) h = absurd (true≢false (sym h))
-same_name_same (Node (Some a)) (Node (Some b)) h = ap (λ t. Node (Some t)) ((bytes_decides a b).0 h)
 
 -- ---- their order
 

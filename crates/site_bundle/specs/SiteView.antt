@@ -1,5 +1,5 @@
 -- What a site says.
-use Rattle.std.specs.Prelude.{◌≡◌, ℕ, Bool, not, IsTrue, IsSome, List, [], ◌∷◌, filter, Option, refl}
+use Rattle.std.specs.Prelude.{◌≡◌, ℕ, Bool, not, List, [], ◌∷◌, filter, Option, refl}
 use Rattle.std.specs.Coded.{Coded, code_by, coded×, coded_list}
 use Rattle.std.specs.FinMap.{find, put, is_sorted}
 use Rattle.std.specs.List.{list_all}
@@ -44,13 +44,6 @@ are_rising es = is_sorted text_cmp es
 -- what each node has are facts
 abbrev pub have_facts : List Listed → Bool
 have_facts nodes = list_all (λ e. are_facts e.1) nodes
-
--- what is true of every site
-pub record IsSite (s : SiteView) : Type 0 where
-  pub paths : IsTrue (are_rising s.manifests)
-  pub names : IsTrue (are_rising s.nodes)
-  pub facts : IsTrue (have_facts s.nodes)
-  pub main : IsSome (text_at s MAIN_MANIFEST.now)
 
 -- ---- a site of pairs
 

@@ -1,7 +1,6 @@
 -- The attributes of resources in the catalog, and of those that are exported.
-use Rattle.std.specs.Prelude.{ℕ, Bool, true, false, not, ◌&&◌, ◌||◌, if◌then◌else◌, List, [], map, filter, is_some, unwrap_or, codes}
+use Rattle.std.specs.Prelude.{ℕ, Bool, not, ◌&&◌, ◌||◌, if◌then◌else◌, List, [], map, filter, is_some, unwrap_or, codes}
 use Rattle.std.specs.Str.{bytes_eq}
-use Rattle.pp_values.specs.Datum.{Datum, undef}
 use Rattle.pp_values.specs.Plain.{is_plain_value}
 use Rattle.pp_values.specs.Settings.{Setting}
 use Rattle.res_core.specs.Metaparameters.{is_relation_name}
@@ -10,11 +9,8 @@ use Rattle.res_core.specs.declared.declared.Declared.{Declared}
 use Rattle.res_book.specs.declared.row.Row.{Row}
 use Rattle.override_rules.specs.Meaning.{State}
 use Rattle.override_rules.specs.Names.{attributes_of}
+use Rattle.override_rules.specs.SetLines.{is_value}
 use Rattle.catalog_finish.specs.PlainForms.{plain_of}
-
-abbrev pub is_value : Datum → Bool
-is_value undef = false
-is_value d = true
 
 abbrev pub has_value : Setting → Bool
 has_value s = is_value s.1

@@ -12,12 +12,12 @@ use Rattle.pp_values.specs.declared.reference.Reference.{Reference}
 use Rattle.res_core.specs.AttributeViews.{set_in}
 use Rattle.res_core.specs.declared.operand.Operand.{Operand}
 use Rattle.res_core.specs.declared.operand.Operand.TheVariants as operand
-use Rattle.res_book.specs.Rows.{number_of}
+use Rattle.res_book.specs.Rows.{is_imported, number_of}
 use Rattle.res_book.specs.declared.collector.Collector.{Collector}
 use Rattle.res_book.specs.declared.relation_line.RelationLine.{RelationLine}
 use Rattle.res_book.specs.declared.row.Row.{Row}
 use Rattle.collector_query.specs.Matches.{matches}
-use Rattle.override_rules.specs.Meaning.{State, is_imported}
+use Rattle.override_rules.specs.Meaning.{State}
 use Rattle.override_rules.specs.Names.{attributes_of}
 use Rattle.catalog_finish.specs.EdgeTables.{Entry, joined}
 use Rattle.catalog_finish.specs.RelationParameters.{joined_by, name_of}

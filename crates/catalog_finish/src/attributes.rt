@@ -6,10 +6,10 @@ ghost use Rattle.res_core.specs.AttributeViews.{set_in, setting, settings};
 ghost use Rattle.res_core.specs.Metaparameters.{is_relation_name};
 ghost use Rattle.res_core.specs.PlainAttributes.{are_plain};
 ghost use Rattle.override_rules.specs.Names.{attributes_of};
-ghost use Rattle.catalog_finish.specs.Attributes.{bound_parameters, catalog_attributes as catalog_meant, exported_attributes as exported_meant, has_value, in_catalog, is_native as native_meant, is_tag as tag_meant, is_value as value_meant, stays as stays_meant};
+ghost use Rattle.catalog_finish.specs.Attributes.{bound_parameters, catalog_attributes as catalog_meant, exported_attributes as exported_meant, has_value, in_catalog, is_native as native_meant, is_tag as tag_meant, stays as stays_meant};
 
 use crate::plain_values::{plain_copy, plain_value};
-use override_rules::Overrides;
+use override_rules::{Overrides, is_value};
 use pp_values::{Memory, Text, Value, is_plain_value};
 use res_book::{Book, Row};
 use res_core::{Attribute, Attributes, Declared, is_relation_name, native};
@@ -26,15 +26,6 @@ fn is_taken_out(name: &Text) -> bool
     ensures { result ≡ (is_relation_name name.now || tag_meant name.now) }
 {
     is_relation_name(name) || is_tag(name)
-}
-
-fn is_value(value: &Value) -> bool
-    ensures { result ≡ value_meant (view value.now) }
-{
-    match value {
-        Value::Undef => false,
-        _ => true,
-    }
 }
 
 fn is_native(item: &Declared) -> bool

@@ -1,6 +1,5 @@
 //! What collectors stand for in relations.
 ghost use Rattle.std.specs.Prelude.{◌≡◌, ◌<◌, Some, IfOk, length, slice_get};
-ghost use Rattle.override_rules.specs.Meaning.{is_imported as imported_meant};
 ghost use Rattle.catalog_finish.specs.Relating.{is_matched as matched_meant, is_taken as taken_meant, taken_index, taken as all_taken, collected as collected_meant};
 ghost use Rattle.catalog_finish.specs.Sources.{sources_of};
 ghost use Rattle.catalog_finish.specs.Tables.{at_live};
@@ -9,18 +8,9 @@ use crate::exporting::is_exported;
 use crate::tables::Tables;
 use collector_query::matches;
 use pp_values::Memory;
-use res_book::{Collector, Mode, Row};
+use res_book::{Collector, Row};
 use res_core::Indexes;
 use std::alloc::Global;
-
-fn is_imported(mode: &Mode) -> bool
-    ensures { result ≡ imported_meant mode.now }
-{
-    match mode {
-        Mode::Imported { node: _, place: _ } => true,
-        Mode::Plain | Mode::Virtual | Mode::Exported => false,
-    }
-}
 
 fn is_matched(
     alloc: Global,
@@ -34,7 +24,7 @@ fn is_matched(
 {
     let item = &row.item.item;
     let query = collector.query.as_query();
-    if is_imported(&row.mode) {
+    if row.mode.is_imported() {
         return Ok(collector.exported && matches(query, &item.title, &item.tags, &item.attributes));
     }
     if collector.exported && !is_exported(&row.mode) {

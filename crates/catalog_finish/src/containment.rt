@@ -8,7 +8,7 @@ ghost use Rattle.catalog_finish.specs.Containing.{containment, rows_at as rows_a
 ghost use Rattle.catalog_finish.specs.FirstCycles.{first_cycle};
 ghost use Rattle.catalog_finish.specs.Layouts.{live_numbers};
 
-use pp_values::{Fault, Memory, Reference, Refs, Stop, What};
+use pp_values::{Fault, Memory, Refs, Stop, What};
 use rel_graph::{Containers, Containment, Graph, GraphStop, OrderStop, build};
 use res_book::{Book, Row};
 use res_core::{EdgeList, Held, Indexes};
@@ -85,20 +85,12 @@ fn rows_at<'a>(
     Ok(rows)
 }
 
-fn reference_of(alloc: Global, row: &Row) -> Result<Reference, Memory>
-    ensures { IfOk result (λ r. r ≡ reference_meant row.now.item) }
-{
-    let kind = row.item.item.kind.copy(alloc)?;
-    let title = row.item.item.title.copy(alloc)?;
-    Ok(Reference { kind, title })
-}
-
 fn references_of(alloc: Global, rows: &[&Row]) -> Result<Refs, Memory>
     ensures { IfOk result (λ l. l ≡ map (λ x. reference_meant x.now.item) rows.now) }
 {
     let mut items = Vec::new(alloc);
     for row in rows {
-        items.push(reference_of(alloc, row)?)?;
+        items.push(row.item.reference(alloc)?)?;
     }
     Ok(Refs::from_vec(items))
 }

@@ -16,15 +16,16 @@ use Rattle.pp_values.proofs.RisingLemmas.{is_rising-with_texts, has_text-with_te
 use Rattle.pp_values.specs.Datum.{Datum, undef, flag, int, text, list, hash, reference, kind, default}
 use Rattle.pp_values.specs.Rising.{text_cmp, precedes, is_rising, has_text, sorted}
 use Rattle.pp_values.specs.Settings.{Setting, setting_names}
-use Rattle.res_book.specs.Rows.{reference_of}
+use Rattle.res_book.specs.Rows.{is_imported, reference_of}
 use Rattle.res_book.specs.declared.row.Row.{Row}
+use Rattle.res_core.specs.AttributeViews.{set_in}
 use Rattle.override_rules.proofs.Among.{rising_all}
 use Rattle.override_rules.proofs.NoDefaults.{no_names, no_nearest}
 use Rattle.override_rules.specs.Changes.{set_to, set_by}
 use Rattle.override_rules.specs.Defaults.{defaults_for, nearest, or_else}
-use Rattle.override_rules.specs.Fold.{set_in, declared, after_lines}
+use Rattle.override_rules.specs.Fold.{declared, after_lines}
 use Rattle.override_rules.specs.Lines.{Line, lines_on}
-use Rattle.override_rules.specs.Meaning.{State, is_imported, defaulted, attribute_of, touched_by}
+use Rattle.override_rules.specs.Meaning.{State, defaulted, attribute_of, touched_by}
 use Rattle.override_rules.specs.Names.{attributes_of, default_names, is_set, line_names, names_of, names_within, settings_among}
 
 -- ---- names that rise stand once each

@@ -12,13 +12,14 @@ use Rattle.pp_values.proofs.RisingLemmas.{is_rising-with_texts, has_text-with_te
 use Rattle.pp_values.specs.Datum.{Datum}
 use Rattle.pp_values.specs.Rising.{text_cmp, precedes, is_rising, has_text, sorted}
 use Rattle.pp_values.specs.Settings.{Setting, setting_names}
-use Rattle.res_book.specs.Rows.{reference_of}
+use Rattle.res_book.specs.Rows.{is_imported, reference_of}
 use Rattle.res_book.specs.declared.row.Row.{Row}
+use Rattle.res_core.specs.AttributeViews.{set_in}
 use Rattle.override_rules.specs.Changes.{changed, set_by}
 use Rattle.override_rules.specs.Defaults.{Default, Scope, parent_of, default_in, from_scope, or_else, nearest, nearest_within}
-use Rattle.override_rules.specs.Fold.{set_in, declared, after_lines}
+use Rattle.override_rules.specs.Fold.{declared, after_lines}
 use Rattle.override_rules.specs.Lines.{Line, lines_on}
-use Rattle.override_rules.specs.Meaning.{State, is_imported, defaulted, attribute_of}
+use Rattle.override_rules.specs.Meaning.{State, defaulted, attribute_of}
 use Rattle.override_rules.specs.Names.{attributes_of, is_for, names_in, names_from, names_within, line_names, default_names, names_of, settings_among}
 
 -- ---- they rise

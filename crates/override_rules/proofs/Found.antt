@@ -1,24 +1,10 @@
--- What a search among attributes finds.
-use Rattle.std.proofs.Common.{◌≡◌, ℕ, Bool, true, false, cond, List, [], ◌∷◌, Option, None, Some, option_map, find, refl, ap}
+-- What a search among lines finds, and the members of a list.
+use Rattle.std.proofs.Common.{◌≡◌, Bool, true, false, cond, List, [], ◌∷◌, Option, None, Some, option_map, find, refl, ap}
 use Rattle.std.specs.Prelude.{option_copied}
-use Rattle.std.specs.Str.{bytes_eq}
 use denote.Ref.{Bor}
 use Rattle.pp_values.specs.Datum.{Datum, data_of, members_of}
-use Rattle.pp_values.specs.Views.{view}
-use Rattle.res_core.specs.AttributeViews.{setting, settings}
-use Rattle.res_core.specs.declared.attribute.Attribute.{Attribute}
-use Rattle.override_rules.specs.Fold.{set_in}
 use Rattle.override_rules.specs.Lines.{Line, line_of, lines_of}
 use Rattle.override_rules.specs.declared.override_line.OverrideLine.{OverrideLine}
-
-pub found_setting : (name : List ℕ) (xs : List Attribute) →
-    set_in (settings xs) name ≡ option_map (λ a. view a.value) (find (λ a. bytes_eq a.name name) xs)
-found_setting name [] = refl
-found_setting name (x ∷ xs) =
-    elim (bytes_eq x.name name) as (λ b. option_map (λ s. s.1) (cond b (Some (setting x))
-    (find (λ s. bytes_eq s.0 name) (settings xs)))
-    ≡ option_map (λ a. view a.value) (cond b (Some x) (find (λ a. bytes_eq a.name name) xs)))
-    [ true ↦ refl | false ↦ found_setting name xs ]
 
 pub members-data : (ds : List Datum) → members_of (data_of ds) ≡ ds
 members-data [] = refl

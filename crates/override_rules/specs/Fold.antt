@@ -1,16 +1,12 @@
 -- What a declaration and the override lines on it make of an attribute.
-use Rattle.std.specs.Prelude.{ℕ, if◌then◌else◌, List, [], ◌∷◌, Option, find, option_map}
+use Rattle.std.specs.Prelude.{ℕ, if◌then◌else◌, List, [], ◌∷◌, Option}
 use Rattle.std.specs.Str.{bytes_eq}
 use Rattle.pp_values.specs.Datum.{Datum}
-use Rattle.pp_values.specs.Settings.{Setting}
 use Rattle.res_book.specs.Rows.{reference_of}
+use Rattle.res_core.specs.AttributeViews.{set_in}
 use Rattle.res_core.specs.declared.declared.Declared.{Declared}
 use Rattle.override_rules.specs.Changes.{changed, set_by}
 use Rattle.override_rules.specs.Lines.{Line, lines_on}
-
--- what attributes have for this name
-abbrev pub set_in : List Setting → List ℕ → Option Datum
-set_in settings name = option_map (λ s. s.1) (find (λ s. bytes_eq s.0 name) settings)
 
 -- what a declaration sets: an attribute that it has as Undef is not set
 abbrev pub declared : Declared → List ℕ → Option Datum

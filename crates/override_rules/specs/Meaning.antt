@@ -1,5 +1,5 @@
 -- What the calls on overrides mean.
-use Rattle.std.specs.Prelude.{ℕ, ◌+◌, Bool, true, false, if◌then◌else◌, List, ◌∷◌, [], ◌++◌, length, find, slice_get, Option, None, Some, is_some, is_none, option_and_then, Result, Ok, Err, ◌||◌, codes}
+use Rattle.std.specs.Prelude.{ℕ, ◌+◌, Bool, if◌then◌else◌, List, ◌∷◌, [], ◌++◌, length, find, slice_get, Option, None, Some, is_some, is_none, option_and_then, Result, Ok, Err, ◌||◌, codes}
 use Rattle.std.specs.Str.{bytes_eq}
 use Rattle.pp_values.specs.Answers.{and_then}
 use Rattle.pp_values.specs.Datum.{Datum}
@@ -9,9 +9,7 @@ use Rattle.pp_values.specs.declared.fault.Subject.TheVariants as subject
 use Rattle.pp_values.specs.declared.fault.What.TheVariants.{AlreadySet}
 use Rattle.pp_values.specs.declared.place.Place.{Place}
 use Rattle.pp_values.specs.declared.reference.Reference.{Reference}
-use Rattle.res_book.specs.Rows.{reference_of, number_of}
-use Rattle.res_book.specs.declared.mode.Mode.{Mode}
-use Rattle.res_book.specs.declared.mode.Mode.TheVariants as mode
+use Rattle.res_book.specs.Rows.{is_imported, reference_of, number_of}
 use Rattle.res_book.specs.declared.row.Row.{Row}
 use Rattle.override_rules.specs.Changes.{set_by}
 use Rattle.override_rules.specs.Defaults.{Default, Scope, default_key, default_in, with_default, defaults_for, with_scope, nearest, or_else}
@@ -30,12 +28,6 @@ abbrev pub row_of : Reference → List Row → Option Row
 row_of q rows = option_and_then (slice_get rows) (number_of q rows)
 
 -- ---- attributes
-
-abbrev pub is_imported : Mode → Bool
-is_imported mode.Plain = false
-is_imported mode.Virtual = false
-is_imported mode.Exported = false
-is_imported (mode.Imported node place) = true
 
 -- What the default statements give. An Undef that is nearer hides what is further out, and sets nothing. Imported
 -- resources take none.

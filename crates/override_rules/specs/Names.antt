@@ -5,12 +5,12 @@ use Rattle.std.specs.Str.{bytes_eq}
 use Rattle.pp_values.specs.Datum.{Datum}
 use Rattle.pp_values.specs.Rising.{sorted}
 use Rattle.pp_values.specs.Settings.{Setting, setting_names}
-use Rattle.res_book.specs.Rows.{reference_of}
+use Rattle.res_book.specs.Rows.{is_imported, reference_of}
 use Rattle.res_book.specs.declared.row.Row.{Row}
 use Rattle.override_rules.specs.Changes.{set_to}
 use Rattle.override_rules.specs.Defaults.{Default, Scope, parent_of}
 use Rattle.override_rules.specs.Lines.{Line, lines_on}
-use Rattle.override_rules.specs.Meaning.{State, attribute_of, is_imported}
+use Rattle.override_rules.specs.Meaning.{State, attribute_of}
 use Rattle.override_rules.specs.declared.default_key.DefaultKey.{DefaultKey}
 
 abbrev pub is_for : List ℕ → ℕ → DefaultKey → Bool

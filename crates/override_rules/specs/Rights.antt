@@ -9,16 +9,12 @@ use Rattle.pp_values.specs.declared.fault.Fault.{Fault}
 use Rattle.pp_values.specs.declared.fault.Subject.TheVariants as subject
 use Rattle.pp_values.specs.declared.fault.What.TheVariants.{UnknownParameter, AlreadySet}
 use Rattle.res_book.specs.Rows.{reference_of, is_class}
-use Rattle.res_core.specs.Metaparameters.{is_metaparameter}
+use Rattle.res_core.specs.AttributeChecks.{is_known}
 use Rattle.res_core.specs.declared.declared.Declared.{Declared}
 use Rattle.override_rules.specs.Fold.{declared, after_lines}
 use Rattle.override_rules.specs.Lines.{Line}
 use Rattle.override_rules.specs.declared.override_line.Right.{Right}
 use Rattle.override_rules.specs.declared.override_line.Right.TheVariants as right
-
--- by its kind, or as each resource
-abbrev pub is_known : Declared → List ℕ → Bool
-is_known d name = has_text d.known name || is_metaparameter name
 
 abbrev pub is_set : Option Datum → Bool
 is_set None = false
@@ -43,7 +39,7 @@ already_set d l = fault l.at (AlreadySet (subject.Reference (reference_of d)) l.
 abbrev pub line_test : Declared → Bool → Bool → Line → Result (Unit {0}) Fault
 line_test d evaluated set l =
     if is_class d then Ok tt
-    else if not (is_known d l.name) then Err (unknown d l)
+    else if not (is_known d.known l.name) then Err (unknown d l)
     else if evaluated || not (may l.right d.class set) then Err (already_set d l)
     else Ok tt
 

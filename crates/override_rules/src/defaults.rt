@@ -1,4 +1,4 @@
-ghost use Rattle.std.specs.Prelude.{◌≡◌, ◌≤◌, ◌<◌, ◌^◌, [], None, true, length, if◌then◌else◌, is_ok, option_map, OnOk, IfOk};
+ghost use Rattle.std.specs.Prelude.{◌≡◌, ◌≤◌, ◌<◌, ◌^◌, ◌==◌, [], None, length, if◌then◌else◌, is_ok, option_map, OnOk, IfOk};
 ghost use Rattle.pp_values.specs.Rising.{with_texts};
 ghost use Rattle.pp_values.specs.Views.{view};
 ghost use Rattle.override_rules.specs.Defaults.{default_in, default_key, with_default, defaults_for};
@@ -62,7 +62,7 @@ impl Defaults {
 
     /// Whether no scope has one for a kind.
     pub fn has_none(&self, kind: &Kind) -> bool
-        ensures { result ≡ true → length (defaults_for kind.now self.now) ≡ 0 }
+        ensures { result ≡ (length (defaults_for kind.now self.now) == 0) }
     {
         self.count(kind) == 0
     }

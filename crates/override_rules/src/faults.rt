@@ -1,22 +1,13 @@
 //! Why a line is refused.
 ghost use Rattle.std.specs.Prelude.{◌≡◌, IfOk};
-ghost use Rattle.res_book.specs.Rows.{reference_of as reference_meant};
 ghost use Rattle.override_rules.specs.Lines.{line_of};
 ghost use Rattle.override_rules.specs.Meaning.{default_twice as default_twice_meant};
 ghost use Rattle.override_rules.specs.Rights.{unknown as unknown_meant, already_set as already_set_meant};
 
 use crate::override_line::OverrideLine;
-use pp_values::{Fault, Kind, Memory, Place, Reference, Subject, Text, What};
+use pp_values::{Fault, Kind, Memory, Place, Subject, Text, What};
 use res_core::Declared;
 use std::alloc::Global;
-
-fn reference_of(alloc: Global, item: &Declared) -> Result<Reference, Memory>
-    ensures { IfOk result (λ r. r ≡ reference_meant item.now) }
-{
-    let kind = item.item.kind.copy(alloc)?;
-    let title = item.item.title.copy(alloc)?;
-    Ok(Reference { kind, title })
-}
 
 /// The resource takes no attribute of this name.
 pub fn unknown(alloc: Global, item: &Declared, line: &OverrideLine) -> Result<Fault, Memory>
@@ -24,7 +15,7 @@ pub fn unknown(alloc: Global, item: &Declared, line: &OverrideLine) -> Result<Fa
 {
     let at = line.at.copy(alloc)?;
     let name = line.name.copy(alloc)?;
-    let reference = reference_of(alloc, item)?;
+    let reference = item.reference(alloc)?;
     Fault::new(alloc, at, What::UnknownParameter { reference, name })
 }
 
@@ -34,7 +25,7 @@ pub fn already_set(alloc: Global, item: &Declared, line: &OverrideLine) -> Resul
 {
     let at = line.at.copy(alloc)?;
     let name = line.name.copy(alloc)?;
-    let subject = Subject::Reference(reference_of(alloc, item)?);
+    let subject = Subject::Reference(item.reference(alloc)?);
     Fault::new(alloc, at, What::AlreadySet { subject, name })
 }
 

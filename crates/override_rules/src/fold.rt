@@ -1,6 +1,5 @@
 //! The value of an attribute after the lines on its resource. It is made anew for each question and never kept.
-ghost use Rattle.std.specs.Prelude.{◌≡◌, IfOk, find, option_copied, option_map, option_to_list, slice_get};
-ghost use Rattle.std.specs.Str.{bytes_eq};
+ghost use Rattle.std.specs.Prelude.{◌≡◌, IfOk, option_map, option_to_list, slice_get};
 ghost use Rattle.pp_values.specs.Views.{view};
 ghost use Rattle.override_rules.specs.Lines.{line_of};
 ghost use Rattle.override_rules.specs.Numbers.{lines_at};
@@ -10,7 +9,7 @@ use crate::changing::{changed, set_to};
 use crate::lines::Lines;
 use crate::override_line::OverrideLine;
 use pp_values::{Memory, Text, Value};
-use res_core::{Attribute, Declared};
+use res_core::Declared;
 use std::alloc::Global;
 
 /// What the declaration and the lines on it make of the attribute.
@@ -31,17 +30,10 @@ pub fn overridden(
 fn declared(alloc: Global, item: &Declared, name: &Text) -> Result<Option<Value>, Memory>
     ensures { IfOk result (λ o. option_map view o ≡ declared item.now name.now) }
 {
-    match named(item.item.attributes.as_slice(), name) {
-        Some(attribute) => set_to(alloc, &attribute.value),
+    match item.item.attributes.get(name) {
+        Some(value) => set_to(alloc, value),
         None => Ok(None),
     }
-}
-
-/// The attribute of this name.
-pub fn named<'a>(attributes: &'a [Attribute], name: &Text) -> Option<&'a Attribute>
-    ensures { option_copied result ≡ find (λ a. bytes_eq a.name name.now) attributes.now }
-{
-    attributes.iter().find(|a| a.name == *name)
 }
 
 fn after_lines(

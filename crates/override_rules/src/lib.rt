@@ -21,3 +21,4 @@ mod testing;
 
 pub use override_line::{OverrideLine, Right};
 pub use overrides::Overrides;
+pub use testing::is_value;

@@ -3,10 +3,9 @@ ghost use Rattle.pp_values.specs.Answers.{Answers};
 ghost use Rattle.pp_values.specs.Views.{view};
 ghost use Rattle.pp_values.specs.Rising.{sorted, with_texts};
 ghost use Rattle.res_book.specs.Outcomes.{Changes};
-ghost use Rattle.res_core.specs.AttributeViews.{settings};
-ghost use Rattle.override_rules.specs.Fold.{set_in};
+ghost use Rattle.res_core.specs.AttributeViews.{set_in, settings};
 ghost use Rattle.override_rules.specs.Lines.{line_of, lines_of};
-ghost use Rattle.override_rules.specs.Meaning.{State, attribute_of as attribute_meant, attribute_at, defaulted as defaulted_meant, is_imported as imported_meant, line_added, tested, test_of, row_of, stands, is_orphan as is_orphan_meant, orphan, default_added, scope_opened, touched_by};
+ghost use Rattle.override_rules.specs.Meaning.{State, attribute_of as attribute_meant, attribute_at, defaulted as defaulted_meant, line_added, tested, test_of, row_of, stands, is_orphan as is_orphan_meant, orphan, default_added, scope_opened, touched_by};
 ghost use Rattle.override_rules.specs.Names.{names_of, default_names, setting_for, settings_among, attributes_of};
 
 use crate::changing::set_to;
@@ -21,7 +20,7 @@ use crate::own::copy_set;
 use crate::scopes::Scopes;
 use crate::testing::{is_set_by, line_test, test_all};
 use pp_values::{Kind, Memory, Place, Stop, Text, Value};
-use res_book::{Book, Mode, Row};
+use res_book::{Book, Row};
 use res_core::{Attribute, Attributes};
 use std::alloc::Global;
 use std::collections::BTreeSet;
@@ -146,7 +145,7 @@ impl Overrides {
     fn defaulted(&self, alloc: Global, row: &Row, name: &Text) -> Result<Option<Value>, Memory>
         ensures { IfOk result (λ o. option_map view o ≡ defaulted_meant self.now row.now name.now) }
     {
-        if is_imported(&row.mode) {
+        if row.mode.is_imported() {
             return Ok(None);
         }
         let kind = &row.item.item.kind;
@@ -202,7 +201,7 @@ impl Overrides {
     ) -> Result<(), Memory>
         ensures { OnOk result (names.new.keys ≡ with_texts names.old.keys (default_names self.now row.now)) }
     {
-        if is_imported(&row.mode) {
+        if row.mode.is_imported() {
             return Ok(());
         }
         let item = &row.item;
@@ -307,15 +306,6 @@ impl Overrides {
         let item = &row.item.item;
         let lines = self.lines.on(&item.kind, &item.title).len();
         (lines + self.defaults.count(&item.kind)) as u32
-    }
-}
-
-fn is_imported(mode: &Mode) -> bool
-    ensures { result ≡ imported_meant mode.now }
-{
-    match mode {
-        Mode::Imported { node: _, place: _ } => true,
-        Mode::Plain | Mode::Virtual | Mode::Exported => false,
     }
 }
 

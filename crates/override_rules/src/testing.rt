@@ -11,12 +11,11 @@ ghost use Rattle.override_rules.specs.Rights.{is_set, is_set_by as is_set_by_mea
 ghost use Rattle.override_rules.specs.SetLines.{is_value as is_value_meant, set_after as set_after_meant, set_after_lines as set_after_lines_meant};
 
 use crate::faults::{already_set, unknown};
-use crate::fold::named;
 use crate::lines::Lines;
 use crate::override_line::OverrideLine;
-use crate::rights::{is_known, may};
+use crate::rights::may;
 use pp_values::{Stop, Text, Value};
-use res_core::Declared;
+use res_core::{Declared, is_known};
 use std::alloc::Global;
 
 /// The test of a line on a declaration, which is evaluated or not and has the attribute set or not.
@@ -32,7 +31,7 @@ pub fn line_test(
     if item.item.kind.is("class") {
         return Ok(());
     }
-    if !is_known(item, &line.name) {
+    if !is_known(&item.known, &line.name) {
         return Err(Stop::Fault(unknown(alloc, item, line)?));
     }
     if evaluated || !may(&line.right, &item.class, set) {
@@ -101,8 +100,8 @@ pub fn is_set_by(lines: &Lines, numbers: &[usize], item: &Declared, name: &Text)
 fn is_declared(item: &Declared, name: &Text) -> bool
     ensures { result ≡ is_set (declared item.now name.now) }
 {
-    match named(item.item.attributes.as_slice(), name) {
-        Some(attribute) => is_value(&attribute.value),
+    match item.item.attributes.get(name) {
+        Some(value) => is_value(value),
         None => false,
     }
 }
@@ -138,7 +137,8 @@ fn set_after(line: &OverrideLine, name: &Text, set: bool) -> bool
     is_value(&line.value)
 }
 
-fn is_value(value: &Value) -> bool
+/// Whether a value sets an attribute, which Undef does not.
+pub fn is_value(value: &Value) -> bool
     ensures { result ≡ is_value_meant (view value.now) }
 {
     match value {

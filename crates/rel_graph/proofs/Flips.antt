@@ -4,7 +4,7 @@ use Rattle.std.proofs.lemmas.List.Elements.{All-map}
 use lib.ListN.{get_or-map, length-map}
 use Rattle.rel_graph.specs.Chains.{Paired, Chain, Closure}
 use Rattle.rel_graph.specs.Before.{Belongs, Direct}
-use Rattle.rel_graph.specs.Marks.{Marked, Reached, Crossed, Followed, Preceded}
+use Rattle.rel_graph.specs.Marks.{Marked, Reached, Crossed, Followed}
 use Rattle.rel_graph.specs.Pairs.{AllBelow, flip}
 use Rattle.rel_graph.proofs.Chains.{closure_join}
 
@@ -92,21 +92,3 @@ followed_to containers edges marks sources targets x up across f =
       });
       leads = d.target;
     }
-
-pub preceded_from : (containers edges : List (ℕ × ℕ)) (marks : List Bool) (x : ℕ) →
-    Followed containers (map flip edges) marks x → Preceded containers edges marks x
-preceded_from containers edges marks x f = record {
-  to = f.from;
-  marked = f.marked;
-  direct =
-      direct_back containers edges x f.from f.direct;
-}
-
-pub preceded_to : (containers edges : List (ℕ × ℕ)) (marks : List Bool) (x : ℕ) → Preceded containers edges marks x →
-    Followed containers (map flip edges) marks x
-preceded_to containers edges marks x p = record {
-  from = p.to;
-  marked = p.marked;
-  direct =
-      direct_flip containers edges x p.to p.direct;
-}

@@ -1,11 +1,13 @@
 -- Distances, level by level.
-use Rattle.std.proofs.Common.{◌≡◌, ◌⊎◌, ◌↔◌, ℕ, zero, suc, Bool, true, false, ◌+◌, ◌<◌, ◌≤◌, List, [], ◌∷◌, length, get_or, set, replicate, Option, Some, None, inl, inr, refl, sym, subst, ap, ◌∙◌, arith, true≢false, add-one, take, drop, ◌++◌, cond, is_none, count_by}
+use Rattle.std.proofs.Common.{◌≡◌, ◌⊎◌, ◌↔◌, ℕ, zero, suc, Bool, true, false, ◌+◌, ◌<◌, ◌≤◌, List, [], ◌∷◌, length, map, get_or, set, replicate, Option, Some, None, inl, inr, refl, sym, subst, ap, ◌∙◌, arith, true≢false, add-one, take, drop, ◌++◌, cond, is_none, is_some, count_by}
 use Rattle.std.proofs.lemmas.Bool.{cases_lt}
 use Rattle.std.proofs.lemmas.List.{get_or_past}
 use lib.ListN.{get_or-replicate, length-replicate}
 use Rattle.rel_graph.proofs.Marking.{marked_set_cases, marked_set_here}
 use Rattle.rel_graph.specs.Chains.{Chain}
-use Rattle.rel_graph.specs.Marks.{Marked, Preceded}
+use Rattle.rel_graph.specs.Marks.{Marked, Followed}
+use Rattle.rel_graph.specs.Pairs.{flip}
+use Rattle.rel_graph.proofs.Flips.{direct_flip, direct_back}
 use Rattle.rel_graph.specs.Before.{Direct}
 use Rattle.rel_graph.specs.Distances.{distance, AreDistances, IsAdvance}
 
@@ -34,6 +36,10 @@ bool_cases false = inr refl
 option_cases : (o : Option ℕ) → (o ≡ None) ⊎ ((k : ℕ) × (o ≡ Some k))
 option_cases None = inl refl
 option_cases (Some k) = inr (k, refl)
+
+pub some_is : (o : Option ℕ) → is_some o ≡ true → (k : ℕ) × (o ≡ Some k)
+some_is None e = absurd (true≢false (sym e))
+some_is (Some k) e = (k, refl)
 
 none≢some : (o : Option ℕ) (k : ℕ) → o ≡ None → o ≡ Some k → ⊥
 none≢some o k e f = cc
@@ -140,7 +146,23 @@ module _ (R : ℕ → ℕ → Type 0) (numbers : List (Option ℕ)) (marks : Lis
       (n.0, n.1, let a = n.2 in let b = k.2 in omega (arith, a, b))
 
   pub levels_end : AreDistances R goal numbers
-  levels_end = record { sound = l.sound; least = least_at }
+  levels_end = record { sound = l.sound; least = λ x between h _. least_at x between h }
+
+-- where the goal has its number, what is no further away has one
+module _ (R : ℕ → ℕ → Type 0) (numbers : List (Option ℕ)) (marks : List Bool) (goal level : ℕ)
+    (l : Levels R numbers marks goal level) (n : ℕ) (is : distance numbers goal ≡ Some n) where
+  least_near : (x : ℕ) (between : List ℕ) → Chain R x between goal → length between ≤ n →
+      (k : ℕ) × (distance numbers x ≡ Some k) × (k ≤ length between)
+  least_near x [] r near = l.closed goal 0 x refl (let low = l.low goal n is in omega (arith, low)) r
+  least_near x (c ∷ between) h near =
+      let k = least_near c between h.1 (omega (arith, near)) in
+      let low = l.low goal n is in
+      let le = k.2 in
+      let m = l.closed c (suc k.0) x k.1 (omega (arith, low, le, near)) h.0 in
+      (m.0, m.1, let a = m.2 in omega (arith, a, le))
+
+  pub levels_back : AreDistances R goal numbers
+  levels_back = record { sound = l.sound; least = λ x between h near. least_near x between h (near n is) }
 
 same_everywhere : {A : Type 0} (n x : ℕ) (a : A) → get_or (replicate n a) x a ≡ a
 same_everywhere n x a = elim (cases_lt x n) [
@@ -175,21 +197,24 @@ pub written_back : {X : Type 0} (n : ℕ) (old new : List X) → length new ≡ 
 written_back n old new e = subst (λ m. take m (new ++ drop (length new) old) ≡ new) e
     (take_front new (drop (length new) old))
 
-pub distances_step : (containers edges : List (ℕ × ℕ)) (numbers numbers' after : List (Option ℕ))
+pub distances_step : (containers edges back : List (ℕ × ℕ)) (numbers numbers' after : List (Option ℕ))
     (marks marks' before before' left : List Bool) (goal level : ℕ) →
-    Levels (Direct containers edges) numbers marks goal level → numbers' ≡ numbers → marks' ≡ marks → before' ≡ before →
-    ((x : ℕ) → Marked before x ↔ Preceded containers edges marks' x) → IsAdvance level numbers' after before' left →
+    Levels (Direct containers edges) numbers marks goal level → back ≡ map flip edges → numbers' ≡ numbers →
+    marks' ≡ marks → before' ≡ before →
+    ((x : ℕ) → Marked before x ↔ Followed containers back marks' x) → IsAdvance level numbers' after before' left →
     Levels (Direct containers edges) after left goal (level + 1)
-distances_step containers edges numbers numbers' after marks marks' before before' left goal level l en em eb marked
-    steps =
-    let marked' : (x : ℕ) → Marked before x ↔ Preceded containers edges marks x = subst (λ m. (x : ℕ) →
-    Marked before x ↔ Preceded containers edges m x) em marked in
+distances_step containers edges back numbers numbers' after marks marks' before before' left goal level l turned en em
+    eb marked steps =
+    let marked' : (x : ℕ) → Marked before x ↔ Followed containers (map flip edges) marks x =
+    subst (λ es. (x : ℕ) → Marked before x ↔ Followed containers es marks x) turned
+    (subst (λ m. (x : ℕ) → Marked before x ↔ Followed containers back m x) em marked) in
     let steps' : IsAdvance level numbers after before left =
     subst (λ n. IsAdvance level n after before left) en
     (subst (λ m. IsAdvance level numbers' after m left) eb steps) in
     let leads : (x : ℕ) → Marked before x ↔ Leads (Direct containers edges) marks x = λ x. (
-      λ m. let p = (marked' x).0 m in (p.to, p.marked, p.direct),
-      λ p. (marked' x).1 (record { to = p.0; marked = p.1; direct = p.2 }),
+      λ m. let f = (marked' x).0 m in (f.from, f.marked, direct_back containers edges x f.from f.direct),
+      λ p. (marked' x).1
+          (record { from = p.0; marked = p.1; direct = direct_flip containers edges x p.0 p.2 }),
     ) in
     subst (λ n. Levels (Direct containers edges) after left goal n) (sym (add-one level))
     (levels_step (Direct containers edges) numbers after marks before left goal level l leads steps')

@@ -7,12 +7,16 @@ use Rattle.rel_graph.specs.Marks.{Marked}
 abbrev pub distance : List (Option ℕ) → ℕ → Option ℕ
 distance numbers x = slice_index_or numbers x None
 
+-- the goal comes not to itself again over fewer than n indexes
+abbrev pub IsNear : List (Option ℕ) → ℕ → ℕ → Type 0
+IsNear numbers goal n = (k : ℕ) → distance numbers goal ≡ Some k → n ≤ k
+
 -- At each index from which R leads to the goal, how many indexes stand between the two on a shortest chain; at the
--- others none.
+-- others none. Those that are further away than the goal is from itself may have none too.
 pub record AreDistances (R : ℕ → ℕ → Type 0) (goal : ℕ) (numbers : List (Option ℕ)) : Type 0 where
   pub sound : (x k : ℕ) → distance numbers x ≡ Some k →
       (between : List ℕ) × (length between ≡ k) × Chain R x between goal
-  pub least : (x : ℕ) (between : List ℕ) → Chain R x between goal →
+  pub least : (x : ℕ) (between : List ℕ) → Chain R x between goal → IsNear numbers goal (length between) →
       (k : ℕ) × (distance numbers x ≡ Some k) × (k ≤ length between)
 
 -- what one step does to the number n and the mark m of an index: where it is marked and has no number it is given the

@@ -24,12 +24,6 @@ pub record Followed (containers edges : List (ℕ × ℕ)) (marks : List Bool) (
   pub marked : Marked marks from
   pub direct : Direct containers edges from x
 
--- x stands directly before some marked one
-pub record Preceded (containers edges : List (ℕ × ℕ)) (marks : List Bool) (x : ℕ) : Type 0 where
-  pub to : ℕ
-  pub marked : Marked marks to
-  pub direct : Direct containers edges x to
-
 -- x is left and not blocked, and no lesser index is
 pub record IsLeastFree (left blocked : List Bool) (x : ℕ) : Type 0 where
   pub marked : Marked left x

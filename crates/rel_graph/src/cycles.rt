@@ -1,13 +1,13 @@
 //! The cycle that is told.
-ghost use Rattle.std.specs.Prelude.{◌≡◌, ◌↔◌, ℕ, ◌+◌, ◌<◌, Some, length, IsTrue, IfOk, IfNone, IfSome};
+ghost use Rattle.std.specs.Prelude.{◌≡◌, ◌↔◌, ℕ, ◌+◌, ◌<◌, Some, length, map, IsTrue, IfOk, IfNone, IfSome};
 ghost use Rattle.rel_graph.specs.Before.{Direct, Before};
 ghost use Rattle.rel_graph.specs.Cycles.{IsCycle, HasNoCycle, NoneBelow};
 ghost use Rattle.rel_graph.specs.Distances.{AreDistances, IsBestCycle, IsStep, IsLeastAt, distance};
 ghost use Rattle.rel_graph.specs.Marks.{Marked};
-ghost use Rattle.rel_graph.specs.Pairs.{AllBelow};
+ghost use Rattle.rel_graph.specs.Pairs.{AllBelow, flip};
 ghost use Rattle.rel_graph.specs.Spans.{span};
 
-use crate::direct::follow;
+use crate::direct::{flipped, follow};
 use crate::distances::distances;
 use crate::points::laid_out;
 use crate::spans::{is_line, span};
@@ -41,12 +41,14 @@ fn least_at(count: u32, marks: &[bool], numbers: &[Option<u32>], left: u32) -> u
 fn next_towards(
     alloc: Global,
     containers: &[(u32, u32)],
+    outward: &[(u32, u32)],
     edges: &[(u32, u32)],
     count: u32,
     numbers: &[Option<u32>],
     from: u32,
     left: u32,
 ) -> Result<u32, AllocError>
+    requires turned { outward.now ≡ map flip containers.now }
     requires below { AllBelow containers.now count }
     requires edges_below { AllBelow edges.now count }
     requires from { from < count }
@@ -56,7 +58,7 @@ fn next_towards(
 {
     let mut marks = vec![in alloc; false; count as usize]?;
     marks[from as usize] = true;
-    let after = follow(alloc, containers, edges, marks.as_slice())?;
+    let after = follow(alloc, containers, outward, edges, marks.as_slice())?;
     let next = least_at(count, after.as_slice(), numbers, left);
     Ok(next)
 }
@@ -79,13 +81,23 @@ fn trace(
     requires far { distance numbers.now goal ≡ Some between }
     ensures { IfOk result (λ v. IsBestCycle (Direct containers.now edges.now) goal between v.items) }
 {
+    let outward = flipped(alloc, containers)?;
     let mut cycle = Vec::new(alloc);
     cycle.push(goal)?;
     let mut at = goal;
     let mut left = between;
     while left > 0 {
         left -= 1;
-        at = next_towards(alloc, containers, edges, count, numbers, at, left)?;
+        at = next_towards(
+            alloc,
+            containers,
+            outward.as_slice(),
+            edges,
+            count,
+            numbers,
+            at,
+            left,
+        )?;
         cycle.push(at)?;
     }
     Ok(cycle)

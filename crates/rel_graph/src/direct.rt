@@ -1,13 +1,13 @@
 //! What stands directly before what.
 ghost use Rattle.std.specs.Prelude.{◌≡◌, ◌↔◌, ℕ, ◌<◌, Bool, length, map, IfOk};
-ghost use Rattle.rel_graph.specs.Marks.{Marked, Reached, Crossed, Followed, Preceded};
+ghost use Rattle.rel_graph.specs.Marks.{Marked, Reached, Crossed, Followed};
 ghost use Rattle.rel_graph.specs.Pairs.{AllBelow, flip};
 
 use crate::marks::spread;
 use std::alloc::{AllocError, Global};
 
 /// The pairs the other way round.
-fn flipped(alloc: Global, pairs: &[(u32, u32)]) -> Result<Vec<(u32, u32)>, AllocError>
+pub fn flipped(alloc: Global, pairs: &[(u32, u32)]) -> Result<Vec<(u32, u32)>, AllocError>
     ensures { IfOk result (λ v. v.items ≡ map flip pairs.now) }
 {
     pairs.iter().map(|pair| (pair.1, pair.0)).collect(alloc)
@@ -48,38 +48,23 @@ fn crossed(alloc: Global, edges: &[(u32, u32)], marks: &[bool]) -> Result<Vec<bo
     Ok(after)
 }
 
-/// All that a marked resource stands directly before.
+/// All that a marked resource stands directly before. It is called again and again with the same pairs, and so the
+/// containers are handed over the other way round as well.
 pub fn follow(
     alloc: Global,
     containers: &[(u32, u32)],
+    outward: &[(u32, u32)],
     edges: &[(u32, u32)],
     marks: &[bool],
 ) -> Result<Vec<bool>, AllocError>
+    requires turned { outward.now ≡ map flip containers.now }
     requires below { AllBelow containers.now (length marks.now) }
     requires edges_below { AllBelow edges.now (length marks.now) }
     ensures long { IfOk result (λ v. length v.items ≡ length marks.now) }
     ensures marked { IfOk result (λ v. (x : ℕ) → Marked v.items x ↔ Followed containers.now edges.now marks.now x) }
 {
-    let outward = flipped(alloc, containers)?;
-    let sources = reached(alloc, outward.as_slice(), marks)?;
+    let sources = reached(alloc, outward, marks)?;
     let targets = crossed(alloc, edges, sources.as_slice())?;
     let after = reached(alloc, containers, targets.as_slice())?;
     Ok(after)
-}
-
-/// All that stand directly before a marked resource.
-pub fn precede(
-    alloc: Global,
-    containers: &[(u32, u32)],
-    edges: &[(u32, u32)],
-    marks: &[bool],
-) -> Result<Vec<bool>, AllocError>
-    requires below { AllBelow containers.now (length marks.now) }
-    requires edges_below { AllBelow edges.now (length marks.now) }
-    ensures long { IfOk result (λ v. length v.items ≡ length marks.now) }
-    ensures marked { IfOk result (λ v. (x : ℕ) → Marked v.items x ↔ Preceded containers.now edges.now marks.now x) }
-{
-    let back = flipped(alloc, edges)?;
-    let before = follow(alloc, containers, back.as_slice(), marks)?;
-    Ok(before)
 }

@@ -5,7 +5,7 @@ ghost use Rattle.rel_graph.specs.Before.{Direct};
 ghost use Rattle.rel_graph.specs.Distances.{AreDistances, IsAdvance};
 ghost use Rattle.rel_graph.specs.Pairs.{AllBelow};
 
-use crate::direct::precede;
+use crate::direct::{flipped, follow};
 use std::alloc::{AllocError, Global};
 
 /// Gives the level to what is marked and has no number yet, and leaves just these marked. Tells whether there are any.
@@ -29,7 +29,8 @@ fn advance(numbers: &mut [Option<u32>], marks: &mut [bool], level: u32) -> bool
     any
 }
 
-/// How many resources stand between each one and the goal on a shortest chain.
+/// How many resources stand between each one and the goal on a shortest chain. The search ends when it comes to the goal
+/// again.
 pub fn distances(
     alloc: Global,
     containers: &[(u32, u32)],
@@ -43,13 +44,24 @@ pub fn distances(
     ensures long { IfOk result (λ v. length v.items ≡ count) }
     ensures distances { IfOk result (λ v. AreDistances (Direct containers.now edges.now) goal v.items) }
 {
+    let outward = flipped(alloc, containers)?;
+    let back = flipped(alloc, edges)?;
     let mut numbers = vec![in alloc; None; count as usize]?;
     let mut marks = vec![in alloc; false; count as usize]?;
     marks[goal as usize] = true;
     let mut level = 0;
     loop {
-        let mut before = precede(alloc, containers, edges, marks.as_slice())?;
+        let mut before = follow(
+            alloc,
+            containers,
+            outward.as_slice(),
+            back.as_slice(),
+            marks.as_slice(),
+        )?;
         if !advance(&mut numbers, &mut before, level) {
+            return Ok(numbers);
+        }
+        if numbers[goal as usize].is_some() {
             return Ok(numbers);
         }
         marks = before;

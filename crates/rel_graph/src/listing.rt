@@ -5,7 +5,7 @@ ghost use Rattle.rel_graph.specs.Listing.{Listing, IsStuck};
 ghost use Rattle.rel_graph.specs.Marks.{AllBlocked, IsLeastFree};
 ghost use Rattle.rel_graph.specs.Pairs.{AllBelow};
 
-use crate::direct::follow;
+use crate::direct::{flipped, follow};
 use crate::listed::Listed;
 use std::alloc::{AllocError, Global};
 
@@ -35,10 +35,17 @@ pub fn list_ready(
     ensures listing { IfOk result (λ v. Listing (Direct containers.now edges.now) count v.left.items v.order.items) }
     ensures stuck { IfOk result (λ v. IsStuck (Direct containers.now edges.now) v.left.items) }
 {
+    let outward = flipped(alloc, containers)?;
     let mut left = vec![in alloc; true; count as usize]?;
     let mut order = Vec::new(alloc);
     loop {
-        let blocked = follow(alloc, containers, edges, left.as_slice())?;
+        let blocked = follow(
+            alloc,
+            containers,
+            outward.as_slice(),
+            edges,
+            left.as_slice(),
+        )?;
         match least_free(count, left.as_slice(), blocked.as_slice()) {
             Some(next) => {
                 order.push(next)?;

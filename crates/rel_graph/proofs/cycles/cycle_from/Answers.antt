@@ -11,8 +11,8 @@ returns-in-Some-clause-some c = λ none.
     let far : distance c.in_ok-numbers.numbers.items c.args.start ≡ Some c.in-Some.between =
     sym (get_or_read c.in_ok-numbers.numbers.items c.args.start _ within c.index.ensures None) ∙
     c.in-Some.is in
-    is_cycle _ _ c.in_ok-numbers.numbers.items c.in_ok-numbers.ensures.distances c.in-Some.between _
-    c.in_ok-cycle-in-Some.ensures.0 none c.in_ok-cycle-in-Some.ensures.1 c.in_ok-cycle-in-Some.ensures.2 far
+    is_cycle _ _ c.in_ok-numbers.numbers.items c.in_ok-numbers.ensures.distances c.in-Some.between far _
+    c.in_ok-cycle-in-Some.ensures.0 none c.in_ok-cycle-in-Some.ensures.1 c.in_ok-cycle-in-Some.ensures.2
 
 pub returns-clause-none : goal.returns-clause-none
 returns-clause-none c =

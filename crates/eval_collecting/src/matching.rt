@@ -21,7 +21,7 @@ pub fn local_match(world: &mut World<'_>, collector: u32, number: u32) -> Result
         return Ok(false);
     }
     if takes_at(world, collector, number)? {
-        return Ok(world.book.realize(number));
+        return Ok(world.book.realize(number)?);
     }
     Ok(false)
 }

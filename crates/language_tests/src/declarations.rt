@@ -144,7 +144,7 @@ fn is_live(book: &Book, number: u32) -> bool {
 
 fn realize(book: &mut Book, number: u32) -> Result<bool, Memory> {
     if number < book.count() {
-        return Ok(book.realize(number));
+        return book.realize(number);
     }
     Ok(false)
 }

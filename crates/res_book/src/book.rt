@@ -7,7 +7,7 @@ use crate::faults::{class_virtual, duplicate, too_many};
 use crate::mode::Mode;
 use crate::numbers::Numbers;
 use crate::row::Row;
-use pp_values::{Reference, Stop};
+use pp_values::{Memory, Reference, Stop};
 use res_core::{Attributes, Declared, native};
 use std::alloc::Global;
 use std::marker::Model;
@@ -205,15 +205,15 @@ impl Book {
     }
 
     /// Marks a declaration as taken by a collector. True exactly where that makes it live.
-    pub fn realize(&mut self, number: u32) -> bool
+    pub fn realize(&mut self, number: u32) -> Result<bool, Memory>
         requires { number < length self.old }
-        ensures was { result ≡ not (is_live_at self.old number) }
+        ensures was { result ≡ Ok (not (is_live_at self.old number)) }
         ensures rows { self.new ≡ with_mark number self.old }
     {
         let was_live = self.live(number);
         let row = &mut self.rows[number as usize];
         row.marked = true;
-        !was_live
+        Ok(!was_live)
     }
 
     /// Keeps the parameters of a class or instance. An instance is evaluated from then on.

@@ -259,6 +259,11 @@ impl<L: Language + Drop> SharedSite<L> {
         pass.count = pass.count.max(count);
     }
 
+    /// Lends the language. Contracts see a site as the lock that it has, and what a language means as its type's own.
+    pub fn language(&self) -> &L {
+        &self.language
+    }
+
     /// The history, once all passes that were split are joined again.
     pub fn close(self, pass: SitePass<L>) -> History<L::Site>
         requires site { pass.site ≡ self }

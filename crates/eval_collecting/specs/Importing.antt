@@ -10,7 +10,6 @@ use Rattle.pp_values.specs.declared.fault.Fault.{Fault}
 use Rattle.pp_values.specs.declared.fault.What.TheVariants as what
 use Rattle.pp_values.specs.declared.place.Place.{Place}
 use Rattle.pp_values.specs.declared.reference.Reference.{Reference}
-use Rattle.res_book.specs.Rows as rows
 use Rattle.res_book.specs.declared.collector.Collector.{Collector}
 use Rattle.res_book.specs.declared.mode.Mode.{Mode}
 use Rattle.res_book.specs.declared.mode.Mode.TheVariants as mode
@@ -21,9 +20,10 @@ use Rattle.res_core.specs.declared.declared.Declared.{Declared}
 use Rattle.res_core.specs.declared.exported.Exported.{Exported}
 use Rattle.res_core.specs.declared.resource.Resource.{Resource}
 use Rattle.res_core.specs.declared.native_type.NativeType.{NativeType}
-use Rattle.eval_resources.specs.Declaring.{container_in, with_book}
+use Rattle.eval_resources.specs.Declaring.{container_in}
 use Rattle.eval_world.specs.Outcomes.{Step, ◌>>=◌, ◌>>◌, pure, answered}
 use Rattle.eval_world.specs.Owners.{owner_at}
+use Rattle.eval_world.specs.Worlds.{put}
 use Rattle.eval_world.specs.declared.owner.Owner.{Owner}
 use Rattle.eval_world.specs.declared.world.World.{World}
 use Rattle.eval_collecting.specs.Matching.{asks, reference_of}
@@ -88,7 +88,7 @@ item_of owner book n e = record {
 -- F14, F28
 unfoldable pub declare_rule : ℕ → List ℕ → ℕ → NativeType → Exported → Step ℕ
 declare_rule owner node place n e = λ w.
-    with_book (rows.declared (item_of (owner_at owner w.owners) w.book n e) (mode.Imported node place) w.book) w
+    put (item_of (owner_at owner w.owners) w.book n e) (mode.Imported node place) w
 
 -- after the tests the override lines that came before it
 unfoldable pub import_rule : ℕ → List ℕ → ℕ → Exported → Step Bool

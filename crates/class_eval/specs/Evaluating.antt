@@ -13,17 +13,14 @@ use Rattle.pp_tree.specs.declared.file.File.{File}
 use Rattle.pp_tree.specs.declared.statement.Statement.{Statement}
 use Rattle.pp_tree.specs.declared.table.DefinitionName.{DefinitionName}
 use Rattle.pp_tree.specs.declared.table.DefinitionName.TheVariants as name
-use Rattle.pp_values.specs.Answers.{and_then}
 use Rattle.pp_values.specs.Datum as d
 use Rattle.pp_values.specs.Datum.{Datum}
-use Rattle.pp_values.specs.Settings.{Setting, setting_names}
+use Rattle.pp_values.specs.Settings.{Setting}
 use Rattle.pp_values.specs.declared.fault.Fault.{Fault}
 use Rattle.pp_values.specs.declared.fault.What.TheVariants as what
 use Rattle.pp_values.specs.declared.place.Place.{Place}
 use Rattle.pp_values.specs.declared.place.TheConstants.{MAIN_MANIFEST}
-use Rattle.pp_values.specs.declared.reference.Reference.{Reference}
 use Rattle.res_book.specs.Rows.{number_of}
-use Rattle.res_core.specs.AttributeChecks.{known_checked}
 use Rattle.scope_core.specs.declared.scope_kind.ScopeKind.TheVariants as kind
 use Rattle.class_eval.specs.Meaning.{within}
 use Rattle.class_eval.specs.Statements.{statements_from}
@@ -33,6 +30,7 @@ use Rattle.eval_classes.specs.Entering.{enter_rule}
 use Rattle.eval_classes.specs.Included.{declared_once}
 use Rattle.eval_classes.specs.Listing.{class_declared, class_reference}
 use Rattle.eval_classes.specs.declared.body_owner.BodyOwner.{BodyOwner}
+use Rattle.eval_resources.specs.Checks.{settings_known}
 use Rattle.eval_world.specs.Inner.{Inner}
 use Rattle.eval_world.specs.Outcomes.{Step, ◌>>=◌, ◌>>◌, pure, answered}
 use Rattle.eval_world.specs.Worlds.{fault, top}
@@ -142,14 +140,9 @@ number_in c w = unwrap_or (number_of (class_reference (class_name c)) w.book) 0
 abbrev pub class_number : Class → Step ℕ
 class_number c = λ w. Ok (number_in c w, w)
 
--- F10 at the first of these names that a resource does not take
-unfoldable pub names_checked : Reference → List (List ℕ) → List (List ℕ) → Place → Result ⊤ Fault
-names_checked of known [] at = Ok tt
-names_checked of known (x ∷ xs) at = and_then (known_checked of known x at) (λ _. names_checked of known xs at)
-
+-- F10 at the first name that the class does not take
 abbrev pub given_checked : Class → List Setting → Place → Result ⊤ Fault
-given_checked c given at =
-    names_checked (class_reference (class_name c)) (param_names c.params) (setting_names given) at
+given_checked c given at = settings_known (class_reference (class_name c)) (param_names c.params) at given
 
 -- A class is declared at a depth, where some code stands: as by `include`, or with what is given as by `class { }`,
 -- where it must not be declared already.

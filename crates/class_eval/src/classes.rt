@@ -4,17 +4,16 @@ ghost use Rattle.class_eval.specs.Evaluating as spec;
 ghost use Rattle.class_eval.specs.Meaning.{within};
 ghost use Rattle.eval_world.specs.Outcomes.{Gives, nothing, same};
 ghost use Rattle.pp_values.specs.Answers.{Answers};
-ghost use Rattle.pp_values.specs.Settings.{setting_names};
-ghost use Rattle.res_core.specs.AttributeViews.{settings};
 
 use crate::knot::{Whole, evaluate};
 use eval_classes::{
     class_found, class_reference, declare_class, declare_once, normal_name, param_names,
 };
+use eval_resources::check_attributes;
 use eval_world::{Forms, Here, World};
 use pp_tree::definition::Class;
-use pp_values::{Memory, Place, Reference, Stop, Text};
-use res_core::{Attribute, Attributes, KnownNames, check_known};
+use pp_values::{Memory, Place, Stop, Text};
+use res_core::{Attributes, KnownNames};
 use std::alloc::Global;
 use std::marker::PhantomData;
 
@@ -79,24 +78,5 @@ fn check_given(alloc: Global, class: &Class, given: &Attributes, at: &Place) -> 
     let name = normal_name(alloc, &class.name.text)?;
     let what = class_reference(alloc, &name)?;
     let known = KnownNames::listed(param_names(alloc, class.params.as_slice())?);
-    check_names(alloc, &what, &known, given.as_slice(), at)
-}
-
-#[tactic(auto, unfolding(crate::specs::Evaluating::names_checked))]
-fn check_names(
-    alloc: Global,
-    what: &Reference,
-    known: &KnownNames,
-    attributes: &[Attribute],
-    at: &Place,
-) -> Result<(), Stop>
-    ensures { Answers result
-        (spec.names_checked what.now known.now (setting_names (settings attributes.now)) at.now) }
-{
-    let mut rest = attributes;
-    while let Some((attribute, more)) = rest.split_first() {
-        check_known(alloc, what, known, &attribute.name, at)?;
-        rest = more;
-    }
-    Ok(())
+    check_attributes(alloc, &what, &known, at, given.as_slice())
 }

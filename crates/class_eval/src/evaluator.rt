@@ -68,7 +68,8 @@ impl<'a> Evaluator<'a> {
 
     /// The value of an expression that stands at this depth.
     pub fn value_of(&mut self, expr: &Expr, here: Here, depth: u32) -> Result<Evaluated, Stop>
-        ensures { Gives same (spec.value_at expr.now here depth self.old.world) result self.new.world }
+        ensures world { Gives same (spec.value_at expr.now here depth self.old.world) result self.new.world }
+        ensures node { self.new.node ≡ self.old.node }
     {
         evaluate(&mut self.world, Goal::Value(expr), here, levels_left(depth))
     }
@@ -81,7 +82,8 @@ impl<'a> Evaluator<'a> {
         here: Here,
         depth: u32,
     ) -> Result<Evaluated, Stop>
-        ensures { Gives same (spec.block_at block.now line here depth self.old.world) result self.new.world }
+        ensures world { Gives same (spec.block_at block.now line here depth self.old.world) result self.new.world }
+        ensures node { self.new.node ≡ self.old.node }
     {
         evaluate(
             &mut self.world,
@@ -93,8 +95,9 @@ impl<'a> Evaluator<'a> {
 
     /// Runs the statements of the main manifest, and then the node's definition, where nodes are defined.
     pub fn run_main(&mut self) -> Result<(), Stop>
-        ensures { Gives nothing (spec.main_rule self.old.world.environment.main self.old.node self.old.world) result
-            self.new.world }
+        ensures world { Gives nothing (spec.main_rule self.old.world.environment.main self.old.node self.old.world)
+            result self.new.world }
+        ensures node { self.new.node ≡ self.old.node }
     {
         let main = self.world.environment.main();
         run_file(&mut self.world, main, &self.node)
@@ -110,14 +113,16 @@ impl<'a> Evaluator<'a> {
         at: &Place,
         depth: u32,
     ) -> Result<u32, Stop>
-        ensures { Gives same (spec.class_at name.now given at.now here depth self.old.world) result self.new.world }
+        ensures world { Gives same (spec.class_at name.now given at.now here depth self.old.world) result self.new.world }
+        ensures node { self.new.node ≡ self.old.node }
     {
         class_at(&mut self.world, name, given, here, at, levels_left(depth))
     }
 
     /// Evaluates the instance of this declaration, which stands at this depth.
     pub fn run_instance(&mut self, number: u32, depth: u32) -> Result<(), Stop>
-        ensures { Gives nothing (spec.instance_at number depth self.old.world) result self.new.world }
+        ensures world { Gives nothing (spec.instance_at number depth self.old.world) result self.new.world }
+        ensures node { self.new.node ≡ self.old.node }
     {
         let forms: Forms<_, Whole> = Forms {
             left: levels_left(depth),

@@ -18,7 +18,8 @@ use Rattle.res_core.specs.Criteria.{Criterion, all, by_tag}
 use Rattle.res_core.specs.NativeTypes as natives
 use Rattle.res_core.specs.NativeTypes.{native_of}
 use Rattle.res_core.specs.declared.resource.Resource.{Resource}
-use Rattle.eval_collecting.specs.Importing.{finds, tested, names_known, declare_rule, import_rule, import_match}
+use Rattle.eval_collecting.specs.Importing.{finds, tested, declare_rule, import_rule, import_match}
+use Rattle.eval_resources.specs.Checks.{settings_known}
 use Rattle.eval_collecting.specs.Matching.{takes, local_match}
 use Rattle.eval_world.specs.Environment.{Environment}
 use Rattle.eval_world.specs.Outcomes.{Outcome}
@@ -88,13 +89,13 @@ imports_in_order : (m : Environment)
     → shown (take_imports 0 false (from_other 0 (codes "y") ∷ from_other 1 (codes "x") ∷ from_other 0 (codes "y") ∷ [])
     (with_two (collector true all ∷ []) m))
     ≡ Ok (true, (codes "a", false) ∷ (codes "b", false) ∷ (codes "y", false) ∷ (codes "x", false) ∷ [])
-unfolding take_imports import_match finds import_rule tested native_of natives.attributes_of names_known known_checked declare_rule owner_at line_tests
+unfolding take_imports import_match finds import_rule tested native_of natives.attributes_of settings_known known_checked declare_rule owner_at line_tests
 imports_in_order m = refl
 
 import_twice : (m : Environment)
     → shown (take_imports 0 false (from_other 0 (codes "a") ∷ []) (with_two (collector true all ∷ []) m))
     ≡ Err (faults.fault (place 5) (what.Duplicate (record { kind = codes "notify"; title = codes "a" }) (place 1)))
-unfolding take_imports import_match finds import_rule tested native_of natives.attributes_of names_known known_checked declare_rule owner_at line_tests
+unfolding take_imports import_match finds import_rule tested native_of natives.attributes_of settings_known known_checked declare_rule owner_at line_tests
 import_twice m = refl
 
 -- `<| |>` imports nothing

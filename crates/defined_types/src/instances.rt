@@ -10,8 +10,9 @@ use std::alloc::Global;
 
 /// Evaluates the instances that are pending now. `added` says whether something was added before.
 pub fn run_pending(evaluator: &mut Evaluator<'_>, added: bool) -> Result<bool, Stop>
-    ensures { Gives same
+    ensures world { Gives same
         (spec.run_instances added (spec.pending evaluator.old.world.book) evaluator.old.world) result evaluator.new.world }
+    ensures node { evaluator.new.node ≡ evaluator.old.node }
 {
     let alloc = evaluator.world.heap.alloc();
     let numbers = pending(alloc, &evaluator.world.book)?;
@@ -20,8 +21,9 @@ pub fn run_pending(evaluator: &mut Evaluator<'_>, added: bool) -> Result<bool, S
 
 #[tactic(auto, unfolding(crate::specs::Rounds::run_instances))]
 fn run_instances(evaluator: &mut Evaluator<'_>, before: bool, numbers: &[u32]) -> Result<bool, Stop>
-    ensures { Gives same
+    ensures world { Gives same
         (spec.run_instances before numbers.now evaluator.old.world) result evaluator.new.world }
+    ensures node { evaluator.new.node ≡ evaluator.old.node }
 {
     let mut added = before;
     let mut left = numbers;

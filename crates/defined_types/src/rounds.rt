@@ -18,7 +18,8 @@ pub const ROUND_LIMIT: u32 = 1_000;
 /// round adds nothing. Where the last round that is allowed still adds something it is F27.
 #[tactic(auto, using(crate::proofs::Counts::one_round, crate::proofs::Counts::no_round))]
 pub fn run_rounds(evaluator: &mut Evaluator<'_>, sets: &Version, node: &Text) -> Result<(), Stop>
-    ensures { Gives nothing (spec.rounds node.now sets.now evaluator.old.world) result evaluator.new.world }
+    ensures world { Gives nothing (spec.rounds node.now sets.now evaluator.old.world) result evaluator.new.world }
+    ensures node { evaluator.new.node ≡ evaluator.old.node }
 {
     let mut left = ROUND_LIMIT;
     while left > 0 {
@@ -33,7 +34,8 @@ pub fn run_rounds(evaluator: &mut Evaluator<'_>, sets: &Version, node: &Text) ->
 /// One round: whether it added something.
 #[tactic(auto, unfolding(crate::specs::Rounds::round))]
 fn round(evaluator: &mut Evaluator<'_>, sets: &Version, node: &Text) -> Result<bool, Stop>
-    ensures { Gives same (spec.round node.now sets.now evaluator.old.world) result evaluator.new.world }
+    ensures world { Gives same (spec.round node.now sets.now evaluator.old.world) result evaluator.new.world }
+    ensures node { evaluator.new.node ≡ evaluator.old.node }
 {
     let added = all_turns(&mut evaluator.world, sets, node)?;
     run_pending(evaluator, added)

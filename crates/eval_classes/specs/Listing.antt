@@ -1,14 +1,12 @@
 -- Declaring a class. It is listed, then its parents are, from the nearest on; then they are evaluated, from the last
 -- parent on.
 use Rattle.std.specs.Prelude.{ℕ, zero, suc, ◌+◌, ◌==◌, Bool, if◌then◌else◌, List, [], ◌∷◌, ◌++◌, length}
-use Rattle.std.specs.Prelude.{Option, None, Some, is_some, Result, Ok, Err, codes}
+use Rattle.std.specs.Prelude.{Option, None, Some, is_some, Ok, codes}
 use Rattle.pp_tree.specs.declared.definition.Class.{Class}
 use Rattle.pp_values.specs.Settings.{Setting}
-use Rattle.pp_values.specs.declared.fault.Fault.{Fault}
 use Rattle.pp_values.specs.declared.place.Place.{Place}
 use Rattle.pp_values.specs.declared.reference.Reference.{Reference}
 use Rattle.override_rules.specs.Meaning.{scope_opened}
-use Rattle.res_book.specs.Rows as rows
 use Rattle.res_book.specs.Rows.{number_of}
 use Rattle.res_book.specs.declared.mode.Mode.TheVariants as mode
 use Rattle.res_book.specs.declared.row.Row.{Row}
@@ -21,6 +19,7 @@ use Rattle.eval_world.specs.Inner.{Inner}
 use Rattle.eval_world.specs.Outcomes.{Step, ◌>>=◌, ◌>>◌, pure, answered}
 use Rattle.eval_world.specs.Owners.{Owners, owner_at, with_owner}
 use Rattle.eval_world.specs.Environment.{Environment}
+use Rattle.eval_world.specs.Worlds.{put}
 use Rattle.eval_world.specs.declared.owner.Owner.{Owner}
 use Rattle.eval_world.specs.declared.world.World.{World}
 use Rattle.eval_classes.specs.declared.listed.Listed.{Listed}
@@ -58,14 +57,9 @@ class_item from book c given at = record {
   known = param_names c.params;
 }
 
-abbrev pub with_book : Result (ℕ × List Row) Fault → Step ℕ
-with_book (Ok p) = λ w. Ok (p.0, record w { book = p.1 })
-with_book (Err f) = λ w. Err f
-
 -- it is put into the book: F14, F28; its number
 unfoldable pub declare_rule : Class → List Setting → Place → ℕ → Step ℕ
-declare_rule c given at from = λ w.
-    with_book (rows.declared (class_item (owner_at from w.owners) w.book c given at) mode.Plain w.book) w
+declare_rule c given at from = λ w. put (class_item (owner_at from w.owners) w.book c given at) mode.Plain w
 
 -- ---- which classes are declared together
 

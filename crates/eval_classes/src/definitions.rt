@@ -179,7 +179,8 @@ pub fn define_among<'a>(
     }
 }
 
-fn unknown_type(alloc: Global, kind: &Text, at: &Place) -> Result<Fault, Memory>
+/// F5 at this place.
+pub fn unknown_type(alloc: Global, kind: &Text, at: &Place) -> Result<Fault, Memory>
     ensures { IfOk result (λ f. f ≡ fault at.now (what.UnknownType kind.now)) }
 {
     let at = at.copy(alloc)?;

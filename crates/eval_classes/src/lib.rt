@@ -31,7 +31,7 @@ pub use attribute_set::AttributeSet;
 pub use attributes::is_value;
 pub use bodies::{class_body, instance_body};
 pub use body_owner::BodyOwner;
-pub use definitions::{class_found, define_found};
+pub use definitions::{class_found, define_found, unknown_type};
 pub use entering::enter_body;
 pub use flattening::{flat, flattened};
 pub use included::{declare_class, declare_once, include};

@@ -30,7 +30,8 @@ use Rattle.eval_world.specs.Outcomes.{Outcome, go_on}
 use Rattle.eval_world.specs.Owners.{owner_at}
 use Rattle.eval_world.specs.Worlds.{empty}
 use Rattle.eval_world.specs.declared.world.World.{World}
-use Rattle.eval_collecting.specs.Importing.{finds, was_imported, tested, names_known, declare_rule, import_rule, import_match}
+use Rattle.eval_collecting.specs.Importing.{finds, was_imported, tested, declare_rule, import_rule, import_match}
+use Rattle.eval_resources.specs.Checks.{settings_known}
 use Rattle.eval_collecting.specs.Matching.{takes, local_match}
 
 -- ---- samples
@@ -184,18 +185,18 @@ unknown_attribute : (m : Environment)
     (export (resource (codes "notify") (codes "a") ((codes "nope", d.undef) ∷ [])))
     (with_rows (row mode.Plain ∷ []) (collector true all) m))
     ≡ refuses (what.UnknownParameter (record { kind = codes "notify"; title = codes "a" }) (codes "nope"))
-unfolding import_match finds import_rule tested native_of natives.attributes_of is_metaparameter names_known known_checked
+unfolding import_match finds import_rule tested native_of natives.attributes_of is_metaparameter settings_known known_checked
 unknown_attribute m = refl
 
 twice : (m : Environment)
     → shown (import_match 0 (codes "web1") 2 (export a) (with_rows (row mode.Plain ∷ []) (collector true all) m))
     ≡ refuses (what.Duplicate (record { kind = codes "notify"; title = codes "a" }) (place 3))
-unfolding import_match finds import_rule tested native_of natives.attributes_of names_known known_checked declare_rule owner_at line_tests
+unfolding import_match finds import_rule tested native_of natives.attributes_of settings_known known_checked declare_rule owner_at line_tests
 twice m = refl
 
 declared_once : (m : Environment)
     → shown (go_on (import_match 0 (codes "web1") 2 (export a) (with_rows [] (collector true all) m))
     (λ b. import_match 0 (codes "web1") 2 (export a)))
     ≡ Ok (false, false ∷ [])
-unfolding import_match finds import_rule tested native_of natives.attributes_of names_known known_checked declare_rule owner_at line_tests
+unfolding import_match finds import_rule tested native_of natives.attributes_of settings_known known_checked declare_rule owner_at line_tests
 declared_once m = refl

@@ -1,29 +1,26 @@
 -- Which resources that other nodes export a collector imports.
-use Rattle.std.specs.Prelude.{ℕ, ⊤, Bool, true, false, not, ◌&&◌, ◌==◌, if◌then◌else◌, List, [], ◌∷◌, Option, None, Some}
+use Rattle.std.specs.Prelude.{ℕ, Bool, true, false, not, ◌&&◌, ◌==◌, if◌then◌else◌, List, Option, None, Some}
 use Rattle.std.specs.Prelude.{Result, Ok, Err, slice_get}
 use Rattle.std.specs.Str.{bytes_eq}
 use Rattle.override_rules.specs.Meaning.{row_of, stands}
 use Rattle.pp_values.specs.Answers.{and_then}
 use Rattle.pp_values.specs.Faults.{fault}
-use Rattle.pp_values.specs.Settings.{Setting}
 use Rattle.pp_values.specs.declared.fault.Fault.{Fault}
 use Rattle.pp_values.specs.declared.fault.What.TheVariants as what
-use Rattle.pp_values.specs.declared.place.Place.{Place}
-use Rattle.pp_values.specs.declared.reference.Reference.{Reference}
-use Rattle.res_book.specs.Rows as rows
 use Rattle.res_book.specs.declared.collector.Collector.{Collector}
 use Rattle.res_book.specs.declared.mode.Mode.{Mode}
 use Rattle.res_book.specs.declared.mode.Mode.TheVariants as mode
 use Rattle.res_book.specs.declared.row.Row.{Row}
-use Rattle.res_core.specs.AttributeChecks.{known_checked}
 use Rattle.res_core.specs.NativeTypes.{native_of, attributes_of}
 use Rattle.res_core.specs.declared.declared.Declared.{Declared}
 use Rattle.res_core.specs.declared.exported.Exported.{Exported}
 use Rattle.res_core.specs.declared.resource.Resource.{Resource}
 use Rattle.res_core.specs.declared.native_type.NativeType.{NativeType}
-use Rattle.eval_resources.specs.Declaring.{container_in, with_book}
+use Rattle.eval_resources.specs.Checks.{settings_known}
+use Rattle.eval_resources.specs.Declaring.{container_in}
 use Rattle.eval_world.specs.Outcomes.{Step, ◌>>=◌, ◌>>◌, pure, answered}
 use Rattle.eval_world.specs.Owners.{owner_at}
+use Rattle.eval_world.specs.Worlds.{put}
 use Rattle.eval_world.specs.declared.owner.Owner.{Owner}
 use Rattle.eval_world.specs.declared.world.World.{World}
 use Rattle.eval_collecting.specs.Matching.{asks, reference_of}
@@ -60,13 +57,9 @@ native_or_unknown e None = Err (unknown_type e)
 native_or_unknown e (Some n) = Ok n
 
 -- F10 at the first attribute that the resource does not take
-unfoldable pub names_known : Reference → List (List ℕ) → Place → List Setting → Result ⊤ Fault
-names_known r known at [] = Ok tt
-names_known r known at (s ∷ ss) = and_then (known_checked r known s.0 at) (λ _. names_known r known at ss)
-
 abbrev pub attributes_checked : Exported → NativeType → Result NativeType Fault
 attributes_checked e n =
-    and_then (names_known (reference_of e.item) (attributes_of n) e.node_place e.item.attributes) (λ _. Ok n)
+    and_then (settings_known (reference_of e.item) (attributes_of n) e.node_place e.item.attributes) (λ _. Ok n)
 
 -- F5, then F10
 unfoldable pub tested : Exported → Result NativeType Fault
@@ -88,7 +81,7 @@ item_of owner book n e = record {
 -- F14, F28
 unfoldable pub declare_rule : ℕ → List ℕ → ℕ → NativeType → Exported → Step ℕ
 declare_rule owner node place n e = λ w.
-    with_book (rows.declared (item_of (owner_at owner w.owners) w.book n e) (mode.Imported node place) w.book) w
+    put (item_of (owner_at owner w.owners) w.book n e) (mode.Imported node place) w
 
 -- after the tests the override lines that came before it
 unfoldable pub import_rule : ℕ → List ℕ → ℕ → Exported → Step Bool

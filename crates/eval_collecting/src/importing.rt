@@ -4,17 +4,13 @@ ghost use Rattle.eval_collecting.specs.Importing as spec;
 ghost use Rattle.eval_collecting.specs.Matching as matched;
 ghost use Rattle.eval_world.specs.Outcomes.{Gives, same};
 ghost use Rattle.pp_values.specs.Answers.{Answers};
-ghost use Rattle.res_core.specs.AttributeViews.{settings};
 
 use crate::matching::asks;
-use eval_resources::container_in;
+use eval_resources::{check_attributes, container_in};
 use eval_world::{Owner, World};
-use pp_values::{Fault, Memory, Place, Reference, Stop, Text, What};
+use pp_values::{Fault, Memory, Reference, Stop, Text, What};
 use res_book::{Book, Collector, Mode};
-use res_core::{
-    Attribute, Declared, Exported, KnownNames, NativeType, Resource, check_known, copy_resource,
-    native,
-};
+use res_core::{Declared, Exported, KnownNames, NativeType, Resource, copy_resource, native};
 use std::alloc::Global;
 
 /// Whether one collector imports the resource that a node exports at this place of its set: true exactly where it is
@@ -155,7 +151,7 @@ fn checked(alloc: Global, exported: &Exported, native: NativeType) -> Result<Nat
     let item = exported.item.as_resource();
     let known = KnownNames::of_native(native);
     let reference = reference_of(alloc, item)?;
-    check_names(
+    check_attributes(
         alloc,
         &reference,
         &known,
@@ -163,24 +159,6 @@ fn checked(alloc: Global, exported: &Exported, native: NativeType) -> Result<Nat
         item.attributes.as_slice(),
     )?;
     Ok(native)
-}
-
-#[tactic(auto, unfolding(crate::specs::Importing::names_known))]
-fn check_names(
-    alloc: Global,
-    reference: &Reference,
-    known: &KnownNames,
-    at: &Place,
-    attributes: &[Attribute],
-) -> Result<(), Stop>
-    ensures { Answers result (spec.names_known reference.now known.now at.now (settings attributes.now)) }
-{
-    let mut left = attributes;
-    while let [attribute, after @ ..] = left {
-        check_known(alloc, reference, known, &attribute.name, at)?;
-        left = after;
-    }
-    Ok(())
 }
 
 /// Declares the import. The answer is its number.

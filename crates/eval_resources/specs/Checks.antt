@@ -10,6 +10,7 @@ use Rattle.pp_values.specs.Datum.{Datum}
 use Rattle.pp_values.specs.Faults.{fault}
 use Rattle.pp_values.specs.Kinds.{is_kind}
 use Rattle.pp_values.specs.Rising.{has_text, with_texts}
+use Rattle.pp_values.specs.Settings.{Setting}
 use Rattle.pp_values.specs.declared.fault.Fault.{Fault}
 use Rattle.pp_values.specs.declared.fault.Subject.{Subject}
 use Rattle.pp_values.specs.declared.fault.Subject.TheVariants as subject
@@ -77,6 +78,11 @@ title_checked _ at = Err (no_title at)
 unfoldable pub names_known : Reference → List (List ℕ) → List Line → Result ⊤ Fault
 names_known r known [] = Ok tt
 names_known r known (l ∷ ls) = and_then (known_checked r known l.name l.at) (λ _. names_known r known ls)
+
+-- the same of attributes that all stand at one place
+unfoldable pub settings_known : Reference → List (List ℕ) → Place → List Setting → Result ⊤ Fault
+settings_known r known at [] = Ok tt
+settings_known r known at (s ∷ ss) = and_then (known_checked r known s.0 at) (λ _. settings_known r known at ss)
 
 abbrev pub already_set : Reference → Line → Fault
 already_set r l = fault l.at (what.AlreadySet (subject.Reference r) l.name)

@@ -1,10 +1,8 @@
 -- What a title of a body declares.
-use Rattle.std.specs.Prelude.{ℕ, if◌then◌else◌, List, [], ◌∷◌, Option, None, Some, Result, Ok, Err}
+use Rattle.std.specs.Prelude.{ℕ, if◌then◌else◌, List, [], ◌∷◌, Option, None, Some}
 use Rattle.std.specs.BTreeMap.{insert_entry}
 use Rattle.pp_values.specs.Rising.{text_cmp}
 use Rattle.pp_values.specs.Settings.{Setting}
-use Rattle.pp_values.specs.declared.fault.Fault.{Fault}
-use Rattle.res_book.specs.Rows as rows
 use Rattle.res_book.specs.Rows.{is_live_at}
 use Rattle.res_book.specs.declared.mode.Mode.{Mode}
 use Rattle.res_book.specs.declared.mode.Mode.TheVariants as mode
@@ -17,6 +15,7 @@ use Rattle.res_core.specs.declared.form.Form.TheVariants as form
 use Rattle.eval_classes.specs.Attributes.{given_tags, is_value, tags_in}
 use Rattle.eval_world.specs.Outcomes.{Step}
 use Rattle.eval_world.specs.Owners.{owner_at}
+use Rattle.eval_world.specs.Worlds.{put}
 use Rattle.eval_world.specs.declared.here.Here.{Here}
 use Rattle.eval_world.specs.declared.owner.Owner.{Owner}
 use Rattle.eval_resources.specs.declared.named.Named.{Named}
@@ -66,14 +65,7 @@ mode_of form.Plain = mode.Plain
 mode_of form.Virtual = mode.Virtual
 mode_of form.Exported = mode.Exported
 
-abbrev pub with_book : Result (ℕ × List Row) Fault → Step ℕ
-with_book (Ok p) = λ w. Ok (p.0, record w { book = p.1 })
-with_book (Err f) = λ w. Err f
-
 -- it is put into the book: F14, F28; its number
-abbrev pub put : Declared → Mode → Step ℕ
-put item m = λ w. with_book (rows.declared item m w.book) w
-
 unfoldable pub declare_rule : Form → Named → Body → Here → Step ℕ
 declare_rule written named b here = λ w.
     put (item_of (owner_at here.owner w.owners) w.book named b) (mode_of written) w

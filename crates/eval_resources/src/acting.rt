@@ -4,6 +4,7 @@ ghost use Rattle.eval_resources.specs.Lines.{bodies_of, body_of, line_of, lines_
 ghost use Rattle.eval_resources.specs.Resources as spec;
 ghost use Rattle.eval_world.specs.Nests.{Nests};
 ghost use Rattle.eval_world.specs.Outcomes.{Gives, nothing};
+ghost use Rattle.eval_world.specs.Worlds as worlds;
 ghost use Rattle.pp_values.specs.Answers.{Answers};
 ghost use Rattle.pp_values.specs.Views.{view, views};
 
@@ -31,35 +32,32 @@ pub fn act<F: Fn(&mut World<'_>, Goal<'_>, Here, u32) -> Result<Evaluated, Stop>
     ensures { Gives nothing (spec.act_rule (M.within forms.now.left) action.now line here world.old) result world.new }
 {
     match action {
-        Action::Resource { form, kind, bodies } => declare_bodies(
-            forms,
-            world,
-            *form,
-            kind,
-            bodies.as_slice(),
-            here,
-        ),
+        Action::Resource { form, kind, bodies } => {
+            declare_bodies(forms, world, *form, kind, bodies.as_slice(), here)
+        }
         Action::Override {
             target: _,
             lines: _,
-        } => Err(Stop::Fault(world.fault(here, line, What::NotBuilt)?)),
-        Action::Defaults { kind: _, lines: _ } => Err(Stop::Fault(world.fault(
-            here,
-            line,
-            What::NotBuilt,
-        )?)),
+        } => not_built(world, line, here),
+        Action::Defaults { kind: _, lines: _ } => not_built(world, line, here),
         Action::Collect {
             exported: _,
             kind: _,
             query: _,
             lines: _,
-        } => Err(Stop::Fault(world.fault(here, line, What::NotBuilt)?)),
+        } => not_built(world, line, here),
         Action::Relate {
             left: _,
             right: _,
             signal: _,
-        } => Err(Stop::Fault(world.fault(here, line, What::NotBuilt)?)),
+        } => not_built(world, line, here),
     }
+}
+
+fn not_built(world: &World<'_>, line: u32, here: Here) -> Result<(), Stop>
+    ensures { Gives nothing (worlds.not_built here line world.now) result world.now }
+{
+    Err(Stop::Fault(world.fault(here, line, What::NotBuilt)?))
 }
 
 #[tactic(auto, unfolding(crate::specs::Resources::declare_bodies))]

@@ -5,6 +5,7 @@ ghost use Rattle.eval_resources.specs.GoodLines as good;
 ghost use Rattle.eval_resources.specs.Lines.{body_of, line_of, lines_of};
 ghost use Rattle.pp_values.specs.Answers.{Answers};
 ghost use Rattle.pp_values.specs.Views.{view};
+ghost use Rattle.res_core.specs.AttributeViews.{settings};
 
 use crate::filling::has_name;
 use crate::kinds::check_kind;
@@ -12,7 +13,7 @@ use crate::known_kind::KnownKind;
 use crate::named::Named;
 use eval_world::Environment;
 use pp_values::{Fault, Memory, Place, Reference, Stop, Subject, Text, Value, What};
-use res_core::{Body, KnownNames, Line, check_known, is_known};
+use res_core::{Attribute, Body, KnownNames, Line, check_known, is_known};
 use std::alloc::Global;
 use std::collections::BTreeSet;
 
@@ -178,6 +179,25 @@ fn check_names(
     let mut rest = lines;
     while let Some((line, more)) = rest.split_first() {
         check_known(alloc, what, known, &line.name, &line.at)?;
+        rest = more;
+    }
+    Ok(())
+}
+
+/// F10 at the first attribute that the resource does not take. All stand at one place.
+#[tactic(auto, unfolding(crate::specs::Checks::settings_known))]
+pub fn check_attributes(
+    alloc: Global,
+    what: &Reference,
+    known: &KnownNames,
+    at: &Place,
+    attributes: &[Attribute],
+) -> Result<(), Stop>
+    ensures { Answers result (spec.settings_known what.now known.now at.now (settings attributes.now)) }
+{
+    let mut rest = attributes;
+    while let Some((attribute, more)) = rest.split_first() {
+        check_known(alloc, what, known, &attribute.name, at)?;
         rest = more;
     }
     Ok(())

@@ -3,6 +3,7 @@ ghost use Rattle.std.specs.Prelude.{◌≡◌, ◌<◌, length, IfOk, IsTrue};
 ghost use Rattle.eval_resources.specs.Declaring as spec;
 ghost use Rattle.eval_resources.specs.Lines.{body_of};
 ghost use Rattle.eval_world.specs.Outcomes.{Gives, same};
+ghost use Rattle.eval_world.specs.Worlds.{put};
 ghost use Rattle.res_book.specs.Rows.{is_contained};
 
 use crate::attributes::attributes;
@@ -34,7 +35,7 @@ pub fn declare(
 #[tactic(auto, using(crate::proofs::Containers::numbered))]
 fn put(world: &mut World<'_>, item: Declared, mode: Mode) -> Result<u32, Stop>
     requires { IsTrue (is_contained item.container world.old.book) }
-    ensures number { Gives same (spec.put item mode world.old) result world.new }
+    ensures number { Gives same (put item mode world.old) result world.new }
     ensures within { IfOk result (λ n. n < length world.new.book) }
 {
     let alloc = world.heap.alloc();

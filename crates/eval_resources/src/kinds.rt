@@ -2,15 +2,13 @@
 ghost use Rattle.std.specs.Prelude.{◌≡◌, IfOk};
 ghost use Rattle.eval_resources.specs.Checks as spec;
 ghost use Rattle.pp_values.specs.Answers.{Answers};
-ghost use Rattle.pp_values.specs.Faults.{fault};
-ghost use Rattle.pp_values.specs.declared.fault.What.TheVariants as what;
 ghost use Rattle.res_core.specs.NativeTypes.{row};
 
 use crate::known_kind::KnownKind;
-use eval_classes::{define_found, param_names};
+use eval_classes::{define_found, param_names, unknown_type};
 use eval_world::Environment;
 use pp_tree::Param;
-use pp_values::{Fault, Kind, Memory, Place, Stop, Text, What};
+use pp_values::{Kind, Memory, Place, Stop, Text};
 use res_core::{KnownNames, NativeType, native};
 use std::alloc::Global;
 
@@ -64,14 +62,6 @@ fn with_params(alloc: Global, kind: Kind, params: &[Param]) -> Result<KnownKind,
 {
     let known = KnownNames::listed(param_names(alloc, params)?);
     Ok(KnownKind { kind, known })
-}
-
-fn unknown_type(alloc: Global, kind: &Text, at: &Place) -> Result<Fault, Memory>
-    ensures { IfOk result (λ f. f ≡ fault at.now (what.UnknownType kind.now)) }
-{
-    let at = at.copy(alloc)?;
-    let kind = kind.copy(alloc)?;
-    Fault::new(alloc, at, What::UnknownType(kind))
 }
 
 /// The kind of a native type.

@@ -16,6 +16,7 @@ mod reading;
 mod resources;
 
 pub use acting::act;
+pub use checks::check_attributes;
 pub use collecting::collector;
 pub use declaring::container_in;
 pub use reading::lines;

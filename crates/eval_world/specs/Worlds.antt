@@ -8,6 +8,10 @@ use Rattle.pp_values.specs.declared.fault.What.{What}
 use Rattle.pp_values.specs.declared.fault.What.TheVariants as what
 use Rattle.pp_values.specs.declared.place.Place.{Place}
 use Rattle.res_book.specs.Relations.{no_relations}
+use Rattle.res_book.specs.Rows as rows
+use Rattle.res_book.specs.declared.mode.Mode.{Mode}
+use Rattle.res_book.specs.declared.row.Row.{Row}
+use Rattle.res_core.specs.declared.declared.Declared.{Declared}
 use Rattle.scope_core.specs.Scopes as scopes
 use Rattle.scope_core.specs.Scopes.{Scopes}
 use Rattle.scope_core.specs.declared.scope_kind.ScopeKind.TheVariants as kind
@@ -87,3 +91,13 @@ leave here = λ w. Ok (tt, left here w)
 
 unfoldable pub write_log : List ℕ → List ℕ → Step (Unit {0})
 write_log level text = λ w. Ok (tt, record w { log = w.log ++ record { level = level; text = text } ∷ [] })
+
+-- ---- the book
+
+abbrev pub with_book : Result (ℕ × List Row) Fault → Step ℕ
+with_book (Ok p) = λ w. Ok (p.0, record w { book = p.1 })
+with_book (Err f) = λ w. Err f
+
+-- a declaration is put into it: F14, F28; its number
+abbrev pub put : Declared → Mode → Step ℕ
+put item m = λ w. with_book (rows.declared item m w.book) w

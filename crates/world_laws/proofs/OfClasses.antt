@@ -1,7 +1,6 @@
 -- Classes and defines: how a class is declared, and the bodies of classes and instances.
-use Rattle.std.proofs.Common.{◌≡◌, ℕ, zero, suc, Bool, true, false, cond, List, [], ◌∷◌, ◌++◌, length, refl}
-use Rattle.std.proofs.Common.{Option, None, Some, Result, Ok, Err}
-use Rattle.std.specs.Prelude.{codes}
+use Rattle.std.proofs.Common.{ℕ, Bool, true, false, List, [], ◌∷◌, length}
+use Rattle.std.proofs.Common.{Option, None, Some}
 use Rattle.pp_tree.specs.declared.definition.Class.{Class}
 use Rattle.pp_tree.specs.declared.expr.Expr.{Expr}
 use Rattle.pp_tree.specs.declared.param.Param.{Param}
@@ -9,17 +8,13 @@ use Rattle.pp_tree.specs.declared.statement.Statement.{Statement}
 use Rattle.pp_values.specs.Datum.{Datum}
 use Rattle.res_core.specs.AttributeViews.{set_in}
 use Rattle.pp_values.specs.Settings.{Setting}
-use Rattle.pp_values.specs.declared.fault.Fault.{Fault}
 use Rattle.pp_values.specs.declared.place.Place.{Place}
 use Rattle.pp_values.specs.declared.reference.Reference.{Reference}
-use Rattle.res_book.proofs.Growth.{grows-declared, grows-bound}
+use Rattle.res_book.proofs.Growth.{grows-bound}
 use Rattle.res_book.specs.Relations.{Related, with_containment}
-use Rattle.res_book.specs.Rows as rows
 use Rattle.res_book.specs.Rows.{item_at, number_of, reference_of}
 use Rattle.res_book.specs.declared.containment.Containment.{Containment}
-use Rattle.res_book.specs.declared.mode.Mode.{Mode}
 use Rattle.res_book.specs.declared.mode.Mode.TheVariants as mode
-use Rattle.res_book.specs.declared.row.Row.{Row}
 use Rattle.res_core.specs.declared.declared.Declared.{Declared}
 use Rattle.scope_core.specs.Scopes.{entered}
 use Rattle.scope_core.specs.declared.scope_kind.ScopeKind.{ScopeKind}
@@ -27,9 +22,8 @@ use Rattle.scope_core.specs.declared.scope_kind.ScopeKind.TheVariants as kind
 use Rattle.eval_world.specs.Inner.{Inner}
 use Rattle.eval_world.specs.Outcomes.{Step}
 use Rattle.eval_world.specs.Owners.{owner_at}
-use Rattle.eval_world.specs.Worlds.{place_at}
+use Rattle.eval_world.specs.Worlds.{place_at, put}
 use Rattle.eval_world.specs.declared.here.Here.{Here}
-use Rattle.eval_world.specs.declared.world.World.{World}
 use Rattle.eval_classes.specs.Bodies.{name_rule, names_rule, keep, body_rule, class_body, class_by, class_rule}
 use Rattle.eval_classes.specs.Bodies.{instance_body, attributes_at, instance_by, instance_rule, instance_owner, run_item}
 use Rattle.eval_classes.specs.Bodies.{run_by, run_rule}
@@ -37,7 +31,7 @@ use Rattle.eval_classes.specs.Definitions.{class_name, longest_way, module_of, p
 use Rattle.eval_classes.specs.Entering.{enter_rule, with_body}
 use Rattle.eval_classes.specs.Included.{contain_by, contain_rule, unless_there, declared_once, include_rule, include_from}
 use Rattle.eval_classes.specs.Included.{include_names, included_by, included, names_asked}
-use Rattle.eval_classes.specs.Listing.{with_book, class_item, class_reference, is_declared, declare_rule, chain_from}
+use Rattle.eval_classes.specs.Listing.{class_item, class_reference, is_declared, declare_rule, chain_from}
 use Rattle.eval_classes.specs.Listing.{outer_scope, class_owner, enter_scope, enter_all, enter_chain, own_rule, list_rule, list_all}
 use Rattle.eval_classes.specs.Listing.{known_parent, last_checked, run_all, chain_declared, class_declared}
 use Rattle.eval_classes.specs.Parameters.{Given, is_class, data_by, default_rule, counted, or_else, data_or_default}
@@ -48,9 +42,9 @@ use Rattle.eval_classes.specs.declared.including.Including.{Including}
 use Rattle.eval_classes.specs.declared.including.Including.TheVariants as including
 use Rattle.eval_classes.specs.declared.listed.Listed.{Listed}
 use Rattle.world_laws.specs.Extends.{RelationsGoOn}
-use Rattle.world_laws.specs.Growing.{Reaches, Grows, GrowsInner}
+use Rattle.world_laws.specs.Growing.{Grows, GrowsInner}
 use Rattle.world_laws.proofs.Lists.{goes_on, stays}
-use Rattle.world_laws.proofs.OfWorld.{assign_grows, look_up_grows}
+use Rattle.world_laws.proofs.OfWorld.{assign_grows, look_up_grows, put_grows}
 use Rattle.world_laws.proofs.Steps.{and_then, pure_grows, answer_grows, fault_grows, either, told}
 use Rattle.world_laws.proofs.Worlds.{extends_on, scope_entered, book_grows, relations_grow, owner_added}
 
@@ -64,20 +58,11 @@ enter_grows k parent outer owner = record {
       (owner_added (record w { scopes = entered k parent w.scopes }) _ (length w.scopes.scopes) (Some outer));
 }
 
--- a declaration that is not refused stands behind the others
-pub declares : (d : Declared) (m : Mode) (w : World) (r : Result (ℕ × List Row) Fault) → rows.declared d m w.book ≡ r →
-    Reaches w (with_book r w)
-declares d m w (Ok p) is = book_grows w p.1 (grows-declared d m w.book p.1 p.0 is)
-declares d m w (Err f) is = tt
-
-declared_grows : (d : Declared) (m : Mode) (w : World) → Reaches w (with_book (rows.declared d m w.book) w)
-declared_grows d m w = declares d m w (rows.declared d m w.book) refl
-
 pub declare_grows : (c : Class) (given : List Setting) (at : Place) (from : ℕ) → Grows (declare_rule c given at from)
 unfolding declare_rule
-declare_grows c given at from = record {
-  reaches = λ w. declared_grows (class_item (owner_at from w.owners) w.book c given at) mode.Plain w;
-}
+declare_grows c given at from =
+    told (λ w. put (class_item (owner_at from w.owners) w.book c given at) mode.Plain)
+    (λ w. put_grows (class_item (owner_at from w.owners) w.book c given at) mode.Plain)
 
 keep_grows : (number : ℕ) (bound : List Setting) → Grows (keep number bound)
 keep_grows number bound = record { reaches = λ w. book_grows w _ (grows-bound number bound w.book) }

@@ -1,5 +1,5 @@
 -- Resource expressions and collectors.
-use Rattle.std.proofs.Common.{◌≡◌, ℕ, Bool, true, false, List, [], ◌∷◌, ◌++◌, Option, None, Some, Result, Ok, Err, refl}
+use Rattle.std.proofs.Common.{ℕ, Bool, true, false, List, [], ◌∷◌, Option, None, Some}
 use Rattle.std.specs.Prelude.{codes}
 use Rattle.std.specs.Str.{bytes_eq}
 use Rattle.pp_tree.specs.Names.{normal}
@@ -14,28 +14,22 @@ use Rattle.pp_tree.specs.declared.resource.Setting.{Setting}
 use Rattle.pp_tree.specs.declared.resource.Splat.{Splat}
 use Rattle.pp_values.specs.Datum as datum
 use Rattle.pp_values.specs.Datum.{Datum}
-use Rattle.pp_values.specs.declared.fault.Fault.{Fault}
-use Rattle.res_book.proofs.Growth.{grows-declared}
 use Rattle.res_book.specs.Relations.{Related, with_collector}
-use Rattle.res_book.specs.Rows as rows
 use Rattle.res_book.specs.declared.collector.Collector.{Collector}
-use Rattle.res_book.specs.declared.mode.Mode.{Mode}
-use Rattle.res_book.specs.declared.row.Row.{Row}
 use Rattle.res_core.specs.Criteria.{Criterion}
 use Rattle.res_core.specs.NativeTypes.{native_of}
-use Rattle.res_core.specs.declared.declared.Declared.{Declared}
 use Rattle.res_core.specs.declared.form.Form.{Form}
 use Rattle.res_core.specs.declared.native_type.NativeType.{NativeType}
 use Rattle.eval_world.specs.Inner.{Inner}
 use Rattle.eval_world.specs.Owners.{owner_at}
+use Rattle.eval_world.specs.Worlds.{put}
 use Rattle.eval_world.specs.declared.here.Here.{Here}
-use Rattle.eval_world.specs.declared.world.World.{World}
 use Rattle.override_rules.specs.Meaning.{stands}
 use Rattle.eval_resources.specs.Bodies.{is_default, default_rule, default_more, defaults_from, body_rule, body_more}
 use Rattle.eval_resources.specs.Bodies.{bodies_from, bodies_rule}
 use Rattle.eval_resources.specs.Collectors.{native_asked, tag_of, tag_asked, asked_by, register, collected_by}
 use Rattle.eval_resources.specs.Collectors.{collector_rule}
-use Rattle.eval_resources.specs.Declaring.{set_from, item_of, mode_of, with_book, put, declare_rule}
+use Rattle.eval_resources.specs.Declaring.{set_from, item_of, mode_of, declare_rule}
 use Rattle.eval_resources.specs.Lines.{Line, Body}
 use Rattle.eval_resources.specs.Reading.{setting_rule, splat_by, splat_rule, attribute_rule, lines_from}
 use Rattle.eval_resources.specs.Resources.{declared_rule, class_title_rule, title_rule, titles_rule, declare_bodies}
@@ -43,11 +37,12 @@ use Rattle.eval_resources.specs.Resources.{relations_checked}
 use Rattle.eval_resources.specs.Resources.{form_of, resource_rule}
 use Rattle.eval_resources.specs.declared.named.Named.{Named}
 use Rattle.world_laws.specs.Extends.{RelationsGoOn}
-use Rattle.world_laws.specs.Growing.{Reaches, Grows, GrowsInner}
+use Rattle.world_laws.specs.Growing.{Grows, GrowsInner}
 use Rattle.world_laws.proofs.Lists.{goes_on, stays}
 use Rattle.world_laws.proofs.OfClasses.{class_declared_grows}
+use Rattle.world_laws.proofs.OfWorld.{put_grows}
 use Rattle.world_laws.proofs.Steps.{and_then, pure_grows, answer_grows, fault_grows, either, told}
-use Rattle.world_laws.proofs.Worlds.{same_world, book_grows, relations_grow}
+use Rattle.world_laws.proofs.Worlds.{same_world, relations_grow}
 
 -- ---- lines
 
@@ -56,14 +51,6 @@ splat_by_grows done (datum.hash es) at here = record { reaches = same_world }
 splat_by_grows done _ at here = record { reaches = λ w. tt }
 
 -- ---- the declaration
-
-declares : (d : Declared) (m : Mode) (w : World) (r : Result (ℕ × List Row) Fault) → rows.declared d m w.book ≡ r →
-    Reaches w (with_book r w)
-declares d m w (Ok p) is = book_grows w p.1 (grows-declared d m w.book p.1 p.0 is)
-declares d m w (Err f) is = tt
-
-pub put_grows : (d : Declared) (m : Mode) → Grows (put d m)
-put_grows d m = record { reaches = λ w. declares d m w (rows.declared d m w.book) refl }
 
 declare_grows : (written : Form) (named : Named) (b : Body) (here : Here) → Grows (declare_rule written named b here)
 unfolding declare_rule

@@ -8,9 +8,9 @@ use Rattle.res_book.specs.Rows.{is_live_at, with_mark}
 use Rattle.res_book.specs.declared.mode.Mode.TheVariants as mode
 use Rattle.res_core.specs.declared.exported.Exported.{Exported}
 use Rattle.res_core.specs.declared.native_type.NativeType.{NativeType}
-use Rattle.eval_resources.specs.Declaring.{put}
 use Rattle.eval_world.specs.Outcomes.{Outcome, Step}
 use Rattle.eval_world.specs.Owners.{owner_at}
+use Rattle.eval_world.specs.Worlds.{put}
 use Rattle.eval_world.specs.declared.world.World.{World}
 use Rattle.eval_collecting.specs.Importing.{item_of, declare_rule, import_rule, new_owner, import_for, import_match}
 use Rattle.eval_collecting.specs.Matching.{takes_at, local_match}
@@ -19,7 +19,7 @@ use Rattle.defined_types.specs.Rounds.{collector_turn, turns_from, all_turns, pe
 use Rattle.defined_types.specs.Rounds.{rounds_left, rounds, limit}
 use Rattle.world_laws.specs.Growing.{Reaches, Grows}
 use Rattle.world_laws.proofs.OfEvaluator.{instance_at_grows}
-use Rattle.world_laws.proofs.OfResources.{put_grows}
+use Rattle.world_laws.proofs.OfWorld.{put_grows}
 use Rattle.world_laws.proofs.Steps.{and_then, pure_grows, answer_grows, fault_grows, told}
 use Rattle.world_laws.proofs.Worlds.{same_world, book_grows}
 

@@ -9,6 +9,11 @@ use Rattle.pp_values.specs.Faults as faults
 use Rattle.pp_values.specs.declared.fault.Fault.{Fault}
 use Rattle.pp_values.specs.declared.fault.What.TheVariants as what
 use Rattle.pp_values.specs.declared.place.Place.{Place}
+use Rattle.res_book.proofs.Growth.{grows-declared}
+use Rattle.res_book.specs.Rows as rows
+use Rattle.res_book.specs.declared.mode.Mode.{Mode}
+use Rattle.res_book.specs.declared.row.Row.{Row}
+use Rattle.res_core.specs.declared.declared.Declared.{Declared}
 use Rattle.scope_core.specs.Names.{Name}
 use Rattle.scope_core.specs.Scopes as scopes
 use Rattle.scope_core.specs.Scopes.{Scopes, own, is_set, is_kept, with_name}
@@ -16,13 +21,13 @@ use Rattle.eval_world.specs.Arguments.{argument_rule, values_from}
 use Rattle.eval_world.specs.Data.{look_up}
 use Rattle.eval_world.specs.Inner.{Inner}
 use Rattle.eval_world.specs.Outcomes.{Outcome}
-use Rattle.eval_world.specs.Worlds.{read, with_scopes, assign, write_log, place_at}
+use Rattle.eval_world.specs.Worlds.{read, with_scopes, assign, write_log, place_at, with_book, put}
 use Rattle.eval_world.specs.declared.here.Here.{Here}
 use Rattle.eval_world.specs.declared.world.World.{World}
 use Rattle.world_laws.specs.Growing.{Reaches, Grows, GrowsInner}
 use Rattle.world_laws.proofs.Lists.{name_set}
 use Rattle.world_laws.proofs.Steps.{and_then, pure_grows, answer_grows}
-use Rattle.world_laws.proofs.Worlds.{scopes_kept, log_goes_on}
+use Rattle.world_laws.proofs.Worlds.{scopes_kept, book_grows, log_goes_on}
 
 -- ---- variables
 
@@ -58,6 +63,17 @@ log_grows level text = record { reaches = λ w. log_goes_on w _ }
 pub look_up_grows : (scope : ℕ) (key : List ℕ) (merge : Option Merge) (at : Place) → Grows (look_up scope key merge at)
 unfolding look_up
 look_up_grows scope key merge at = answer_grows _
+
+-- ---- the book
+
+-- a declaration that is not refused stands behind the others
+declares : (d : Declared) (m : Mode) (w : World) (r : Result (ℕ × List Row) Fault) → rows.declared d m w.book ≡ r →
+    Reaches w (with_book r w)
+declares d m w (Ok p) is = book_grows w p.1 (grows-declared d m w.book p.1 p.0 is)
+declares d m w (Err f) is = tt
+
+pub put_grows : (d : Declared) (m : Mode) → Grows (put d m)
+put_grows d m = record { reaches = λ w. declares d m w (rows.declared d m w.book) refl }
 
 -- ---- arguments
 

@@ -1,7 +1,8 @@
 use Rattle.std.proofs.Common.{ap, subst, ◌∙◌}
-use Rattle.eval_resources.specs.Declaring.{declare_rule, item_of, mode_of, put}
+use Rattle.eval_resources.specs.Declaring.{declare_rule, item_of, mode_of}
 use Rattle.eval_resources.specs.Lines.{body_of}
 use Rattle.eval_world.specs.Outcomes.{Gives, same}
+use Rattle.eval_world.specs.Worlds.{put}
 use Rattle.eval_resources.proofs.declaring.declare.Goals as goal
 
 pub returns-clause-number : goal.returns-clause-number

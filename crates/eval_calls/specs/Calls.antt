@@ -9,7 +9,7 @@ use Rattle.pp_tree.specs.declared.statement.Words.{Words}
 use Rattle.pp_values.specs.Datum.{Datum, undef}
 use Rattle.pp_values.specs.declared.fault.What.TheVariants as what
 use Rattle.expr_eval.specs.Names.{lambda_function}
-use Rattle.expr_eval.specs.Texts.{joined}
+use Rattle.pp_funcs.specs.Texts.{joined}
 use Rattle.expr_eval.specs.declared.functions.LambdaFunction.{LambdaFunction}
 use Rattle.eval_classes.specs.Included.{included, including_of}
 use Rattle.eval_classes.specs.declared.including.Including.{Including}

@@ -1,6 +1,5 @@
 //! The functions that take a lambda.
-ghost use Rattle.std.specs.Prelude.{◌≡◌, [], map, IfOk, IfSome};
-ghost use Rattle.expr_eval.specs.Gathering.{gathered};
+ghost use Rattle.std.specs.Prelude.{◌≡◌, [], map, IfSome};
 ghost use Rattle.expr_eval.specs.Turns.{only};
 ghost use Rattle.eval_calls.specs.Iterating as spec;
 ghost use Rattle.eval_calls.specs.Lambdas.{opened};
@@ -15,8 +14,7 @@ use expr_eval::{
     wrong_arguments,
 };
 use pp_tree::Lambda;
-use pp_values::{Memory, Stop, Value, Values};
-use std::alloc::Global;
+use pp_values::{Stop, Value, Values};
 
 /// A call of a function that takes a lambda.
 #[tactic(auto, unfolding(crate::specs::Iterating::lambda_function_rule))]
@@ -122,22 +120,7 @@ fn over_members<F: Fn(&mut World<'_>, Goal<'_>, Here, u32) -> Result<Evaluated, 
         (map only (views members.now)) line here world.old) result world.new }
 {
     let results = take_members(forms, world, function, lambda, members, line, here)?;
-    Ok(Evaluated::new(made_of(world.heap.alloc(), function, value, results)?))
-}
-
-/// What the function makes of these results. For `map` they move into the list.
-fn made_of(
-    alloc: Global,
-    function: Iteration,
-    value: &Value,
-    results: Values,
-) -> Result<Value, Memory>
-    ensures { IfOk result (λ v. view v ≡ gathered function (view value.now) results) }
-{
-    match function {
-        Iteration::Map => Ok(Value::List(results)),
-        _ => gather(alloc, function, value, &results),
-    }
+    Ok(Evaluated::new(gather(world.heap.alloc(), function, value, results)?))
 }
 
 #[tactic(auto, unfolding(crate::specs::Iterating::over_rule))]
@@ -158,7 +141,7 @@ fn over_turns<F: Fn(&mut World<'_>, Goal<'_>, Here, u32) -> Result<Evaluated, St
     let count = param_count(lambda)?;
     let turns = turns_of(world.heap.alloc(), function, value, count, &at)?;
     let results = take_turns(forms, world, function, lambda, turns.as_slice(), line, here)?;
-    Ok(Evaluated::new(made_of(world.heap.alloc(), function, value, results)?))
+    Ok(Evaluated::new(gather(world.heap.alloc(), function, value, results)?))
 }
 
 /// What the lambda gives for each member, up to the one that decides.

@@ -24,7 +24,7 @@ use Rattle.expr_eval.specs.Gathering.{gathered, decides}
 use Rattle.expr_eval.specs.Names.{lambda_function, name}
 use Rattle.expr_eval.specs.Spreading.{spliced, spread}
 use Rattle.expr_eval.specs.Testing.{is_of, option_takes}
-use Rattle.expr_eval.specs.Texts.{joined}
+use Rattle.pp_funcs.specs.Texts.{joined}
 use Rattle.expr_eval.specs.Truth.{is_true}
 use Rattle.expr_eval.specs.Turns.{Turn, turns_of, reduced_over, turn_of_with}
 use Rattle.expr_eval.specs.TypeValues.{bare_type}

@@ -8,4 +8,3 @@ pub mod Spreading
 pub mod Names
 pub mod Turns
 pub mod Gathering
-pub mod Texts

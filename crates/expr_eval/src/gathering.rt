@@ -7,7 +7,7 @@ ghost use Rattle.expr_eval.specs.Truth.{is_true};
 
 use crate::functions::Iteration;
 use crate::truth::is_true;
-use pp_values::copying::{copy, copy_values};
+use pp_values::copying::copy;
 use pp_values::memory::Memory;
 use pp_values::pairs::Pairs;
 use pp_values::value::Value;
@@ -15,18 +15,18 @@ use pp_values::values::Values;
 use std::alloc::Global;
 
 /// The value of `each`, `map`, `filter`, `any` or `all` of this value, where the lambda gave these results, in the order
-/// of the turns: all of them, or for `any` and `all` those up to the one that decides.
+/// of the turns: all of them, or for `any` and `all` those up to the one that decides. For `map` they move into the list.
 pub fn gather(
     alloc: Global,
     function: Iteration,
     value: &Value,
-    results: &Values,
+    results: Values,
 ) -> Result<Value, Memory>
-    ensures { IfOk result (λ v. view v ≡ gathered function (view value.now) results.now) }
+    ensures { IfOk result (λ v. view v ≡ gathered function (view value.now) results) }
 {
     match function {
         Iteration::Each => copy(alloc, value),
-        Iteration::Map => Ok(Value::List(copy_values(alloc, results)?)),
+        Iteration::Map => Ok(Value::List(results)),
         Iteration::Filter => filtered(alloc, value, results.as_slice()),
         Iteration::Any => Ok(Value::Flag(some_true(results.as_slice()))),
         Iteration::All => Ok(Value::Flag(all_true(results.as_slice()))),

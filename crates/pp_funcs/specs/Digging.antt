@@ -1,8 +1,8 @@
 -- Access step by step.
 use denote.Ref.{Bor}
 use Rattle.std.specs.Prelude.{◌≡◌, Option, Result, Ok, Err, List, [], ◌∷◌, option_map}
+use Rattle.std.specs.Option.{unwrap_or}
 use Rattle.pp_ops.specs.Accesses.{member_at}
-use Rattle.pp_ops.specs.Hashes.{or_else}
 use Rattle.pp_values.specs.declared.value.Value.{Value}
 use Rattle.pp_values.specs.Answers.{in_turn}
 use Rattle.pp_values.specs.Datum.{Datum, undef, int, list, hash, members_of, pairs_of}
@@ -15,8 +15,8 @@ use Rattle.pp_funcs.specs.declared.refusal.Refusal.TheVariants.{Arguments}
 -- not there is Undef, and Undef stays so whatever the key.
 abbrev pub further : Datum → Datum → Result Datum Refusal
 further undef key = Ok undef
-further (list ds) (int at) = Ok (or_else undef (member_at at (members_of ds)))
-further (hash es) key = Ok (or_else undef (value_at key (pairs_of es)))
+further (list ds) (int at) = Ok (unwrap_or (member_at at (members_of ds)) undef)
+further (hash es) key = Ok (unwrap_or (value_at key (pairs_of es)) undef)
 further d key = Err Arguments
 
 -- a value, and the keys of the steps in turn
@@ -26,5 +26,5 @@ dig (whole ∷ keys) = in_turn further whole keys
 
 -- what is found says what is meant; where nothing is found, Undef is meant
 abbrev pub Finds : Result (Option (Bor Value)) Refusal → Result Datum Refusal → Type 0
-Finds (Ok o) meant = meant ≡ Ok (or_else undef (option_map (λ v. view v.now) o))
+Finds (Ok o) meant = meant ≡ Ok (unwrap_or (option_map (λ v. view v.now) o) undef)
 Finds (Err r) meant = meant ≡ Err r

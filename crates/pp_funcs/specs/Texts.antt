@@ -11,9 +11,13 @@ use Rattle.pp_funcs.specs.declared.refusal.Refusal.TheVariants.{Arguments, Faile
 abbrev pub led : List ℕ → List Datum → List ℕ
 led between ds = flat_map (λ d. between ++ text_of d) ds
 
--- a failure, whose message is the texts of the arguments with one space between each two
+-- the texts of the values, with one space between each two
+abbrev pub joined : List Datum → List ℕ
+joined ds = join_by text_of (codes " ") ds
+
+-- a failure, whose message is the texts of the arguments
 abbrev pub failure : List Datum → Result Datum Refusal
-failure arguments = Err (Failed (join_by text_of (codes " ") arguments))
+failure arguments = Err (Failed (joined arguments))
 
 -- a function of a text
 abbrev pub of_text : (List ℕ → List ℕ) → Datum → Result Datum Refusal

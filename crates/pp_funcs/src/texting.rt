@@ -1,10 +1,9 @@
 //! Functions of texts.
 ghost use Rattle.std.specs.Prelude.{◌≡◌, ◌++◌, IfOk, OnOk, string_bytes, codes};
-ghost use Rattle.std.specs.List.{join_by};
 ghost use Rattle.std.specs.Str.{str_to_ascii_uppercase, str_to_ascii_lowercase};
 ghost use Rattle.pp_values.specs.TextOf.{text_of};
 ghost use Rattle.pp_values.specs.Views.{view, views};
-ghost use Rattle.pp_funcs.specs.Texts.{led, failure, upcase, downcase, strip};
+ghost use Rattle.pp_funcs.specs.Texts.{led, joined, failure, upcase, downcase, strip};
 ghost use Rattle.pp_funcs.specs.Refusals.{Gives, of_one};
 
 use crate::refusal::{Halt, Refusal};
@@ -22,8 +21,8 @@ pub fn failure(alloc: Global, args: &[Value]) -> Result<Value, Halt>
 }
 
 /// The texts of the values, with one space between each two.
-fn joined(alloc: Global, values: &[Value]) -> Result<Text, Memory>
-    ensures { IfOk result (λ t. t ≡ join_by text_of (codes " ") (views values.now)) }
+pub fn joined(alloc: Global, values: &[Value]) -> Result<Text, Memory>
+    ensures { IfOk result (λ t. t ≡ joined (views values.now)) }
 {
     let mut out = String::new(alloc);
     match values {

@@ -5,6 +5,7 @@ use Rattle.std.proofs.Common.{Ordering, Less, Equal, Greater}
 use Rattle.std.proofs.lemmas.Cmp.{int_cmp_total, nat_list_cmp_total}
 use Rattle.std.proofs.lemmas.Map.Text.{is_eq-slice_cmp}
 use Rattle.std.specs.BTreeMap.{BTreeMap, get, is_at}
+use Rattle.std.specs.Option.{unwrap_or}
 use Rattle.std.specs.Ordering.{int_cmp, int_eq, is_eq, ordering_reverse}
 use Rattle.std.specs.Prelude.{is_none}
 use Rattle.std.specs.Str.{bytes_eq}
@@ -14,15 +15,15 @@ use Rattle.pp_values.specs.Datum as d
 use Rattle.pp_values.specs.Keys.{same_key, value_at}
 use Rattle.pp_values.specs.Rising.{text_cmp}
 use Rattle.pp_values.specs.Views.{view}
-use Rattle.pp_ops.specs.Hashes.{or_else, overridden, added}
+use Rattle.pp_ops.specs.Hashes.{overridden, added}
 use Rattle.pp_ops.specs.Indexes.{said, number_at, text_at, indexed, overridden_by, added_by}
 
 pub same_overridden : (at : Datum → Option Datum) (others ps : List Pair) → ((k : Datum) → at k ≡ value_at k others) →
     overridden_by at ps ≡ overridden others ps
 same_overridden at others [] tells = refl
 same_overridden at others (p ∷ ps) tells =
-    ap (λ o. (p.0, or_else p.1 o) ∷ overridden_by at ps) (tells p.0)
-    ∙ ap (λ qs. (p.0, or_else p.1 (value_at p.0 others)) ∷ qs) (same_overridden at others ps tells)
+    ap (λ o. (p.0, unwrap_or o p.1) ∷ overridden_by at ps) (tells p.0)
+    ∙ ap (λ qs. (p.0, unwrap_or (value_at p.0 others) p.1) ∷ qs) (same_overridden at others ps tells)
 
 pub same_added : (at : Datum → Option Datum) (had ps : List Pair) → ((k : Datum) → at k ≡ value_at k had) →
     added_by at ps ≡ added had ps

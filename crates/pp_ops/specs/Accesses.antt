@@ -1,11 +1,11 @@
 -- Access to a list or a hash: `value[arguments]`.
 use Rattle.std.specs.Prelude.{ℕ, suc, ◌+◌, ◌-◌, nat_lt, if◌then◌else◌, Option, None, Result, Ok, Err, List, [], ◌∷◌, length, ℤ, pos, negsuc, slice_get}
+use Rattle.std.specs.Option.{unwrap_or}
 use Rattle.std.proofs.Common.{take, drop}
 use Rattle.pp_values.specs.Datum.{Datum, undef, int, list, hash, Pair, members_of, pairs_of}
 use Rattle.pp_values.specs.Keys.{value_at}
 use Rattle.pp_ops.specs.declared.refusal.Refusal.{Refusal}
 use Rattle.pp_ops.specs.declared.refusal.Refusal.TheVariants.{Operand}
-use Rattle.pp_ops.specs.Hashes.{or_else}
 use Rattle.pp_ops.specs.Lists.{as_list}
 
 -- the member at a place, which is negative from the end on; `negsuc n` is the integer -1 - n
@@ -30,12 +30,12 @@ part from count ds =
     take (end_place from count (length ds) - first_place from (length ds)) (drop (first_place from (length ds)) ds)
 
 abbrev pub of_list : List Datum → List Datum → Result Datum Refusal
-of_list ds (int at ∷ []) = Ok (or_else undef (member_at at ds))
+of_list ds (int at ∷ []) = Ok (unwrap_or (member_at at ds) undef)
 of_list ds (int from ∷ int count ∷ []) = Ok (as_list (part from count ds))
 of_list ds arguments = Err Operand
 
 abbrev pub of_hash : List Pair → List Datum → Result Datum Refusal
-of_hash ps (key ∷ []) = Ok (or_else undef (value_at key ps))
+of_hash ps (key ∷ []) = Ok (unwrap_or (value_at key ps) undef)
 of_hash ps arguments = Err Operand
 
 abbrev pub accessed : Datum → Datum → Result Datum Refusal

@@ -1,17 +1,14 @@
 -- Hashes under operators.
-use Rattle.std.specs.Prelude.{not, is_none, Option, None, Some, List, [], ◌∷◌, ◌++◌, map, filter}
+use Rattle.std.specs.Prelude.{not, is_none, List, [], ◌∷◌, ◌++◌, map, filter}
 use Rattle.std.specs.List.{list_any}
+use Rattle.std.specs.Option.{unwrap_or}
 use Rattle.pp_values.specs.Datum.{Datum, list, hash, Pair, members_of, pairs_of}
 use Rattle.pp_values.specs.Keys.{same_key, value_at}
-
-abbrev pub or_else : Datum → Option Datum → Datum
-or_else d None = d
-or_else d (Some v) = v
 
 -- the pairs in their places, each with the other hash's value where that has the key
 abbrev pub overridden : List Pair → List Pair → List Pair
 overridden others [] = []
-overridden others (p ∷ ps) = (p.0, or_else p.1 (value_at p.0 others)) ∷ overridden others ps
+overridden others (p ∷ ps) = (p.0, unwrap_or (value_at p.0 others) p.1) ∷ overridden others ps
 
 -- the pairs whose keys are new
 abbrev pub added : List Pair → List Pair → List Pair

@@ -2,13 +2,13 @@
 use denote.Ref.{Bor}
 use Rattle.std.specs.Prelude.{ℕ, ℤ, is_none, Option, None, option_map, List, [], ◌∷◌, filter}
 use Rattle.std.specs.BTreeMap.{BTreeMap, get}
+use Rattle.std.specs.Option.{unwrap_or}
 use Rattle.std.specs.Ordering.{int_cmp}
 use Rattle.pp_values.specs.declared.value.Value.{Value}
 use Rattle.pp_values.specs.Datum.{Datum, int, text, Pair}
 use Rattle.pp_values.specs.Keys.{value_at}
 use Rattle.pp_values.specs.Rising.{text_cmp}
 use Rattle.pp_values.specs.Views.{view}
-use Rattle.pp_ops.specs.Hashes.{or_else}
 use Rattle.pp_ops.specs.declared.key_index.Keyed.{Keyed}
 use Rattle.pp_ops.specs.declared.key_index.Keyed.TheVariants as keyed
 
@@ -35,7 +35,7 @@ told (keyed.Many x) k = indexed k x.numbers x.texts
 -- the pairs in their places, each with the other hash's value where that has the key, as a function tells them
 abbrev pub overridden_by : (Datum → Option Datum) → List Pair → List Pair
 overridden_by at [] = []
-overridden_by at (p ∷ ps) = (p.0, or_else p.1 (at p.0)) ∷ overridden_by at ps
+overridden_by at (p ∷ ps) = (p.0, unwrap_or (at p.0) p.1) ∷ overridden_by at ps
 
 -- the pairs whose keys are new
 abbrev pub added_by : (Datum → Option Datum) → List Pair → List Pair

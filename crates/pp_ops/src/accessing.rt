@@ -1,8 +1,8 @@
 //! Access to a list or a hash.
 ghost use Rattle.std.specs.Prelude.{◌≡◌, ◌+◌, ◌-◌, IfOk, min, option_map};
+ghost use Rattle.std.specs.Option.{unwrap_or};
 ghost use Rattle.pp_values.specs.Views.{view, views};
 ghost use Rattle.pp_ops.specs.Accesses.{accessed, of_list, of_hash, member_at, first_place, end_place, part};
-ghost use Rattle.pp_ops.specs.Hashes.{or_else};
 ghost use Rattle.pp_ops.specs.Refusals.{Gives};
 ghost use Rattle.pp_values.specs.Datum as d;
 
@@ -53,7 +53,7 @@ fn of_hash(alloc: Global, pairs: &Pairs, arguments: &[Value]) -> Result<Value, H
 
 /// A copy of the value, or Undef where there is none.
 pub fn copy_or_undef(alloc: Global, value: Option<&Value>) -> Result<Value, Memory>
-    ensures { IfOk result (λ v. view v ≡ or_else d.undef (option_map (λ w. view w.now) value.entry)) }
+    ensures { IfOk result (λ v. view v ≡ unwrap_or (option_map (λ w. view w.now) value.entry) d.undef) }
 {
     match value {
         Some(value) => copy(alloc, value),

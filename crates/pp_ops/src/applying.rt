@@ -28,7 +28,7 @@ use std::cmp::Ordering;
 /// The value of an operator, or its fault at this place, which names the operator as it is written.
 ///
 /// `Op::Negate` takes its value on the left and ignores the right; `Op::Access` takes the list of its arguments on the
-/// right. `in` and access with a data type on the left are the caller's: `needs_types` tells.
+/// right. `in` and access with a data type on the left are the caller's.
 pub fn apply_op(
     alloc: Global,
     op: Op,
@@ -43,17 +43,6 @@ pub fn apply_op(
         Ok(value) => Ok(value),
         Err(Halt::Memory) => Err(Stop::Memory),
         Err(Halt::Refused(refusal)) => Err(Stop::Fault(refusal_fault(alloc, op, at, refusal)?)),
-    }
-}
-
-/// Whether the operator is `in` or access with a data type on the left.
-pub fn needs_types(op: Op, left: &Value) -> bool
-    ensures { result ≡ needs_types op (view left.now) }
-{
-    match (op, left) {
-        (Op::Member, Value::Kind(_)) => true,
-        (Op::Access, Value::Kind(_)) => true,
-        _ => false,
     }
 }
 

@@ -12,6 +12,6 @@ pub mod op;
 pub mod refusal;
 pub mod sameness;
 
-pub use applying::{apply_op, needs_types};
+pub use applying::apply_op;
 pub use op::Op;
 pub use sameness::is_same;

@@ -1,3 +1,4 @@
+pub mod Ascii
 pub mod Cases
 mod Examples
 pub mod Fuel

@@ -1,4 +1,4 @@
-//! The types of a `Variant`, by their places.
+//! The types of a `Variant` or a `Tuple`, by their places.
 ghost use Rattle.std.specs.Prelude.{◌≡◌, ◌<◌, [], ◌∷◌, length, map, slice_get};
 ghost use Rattle.pp_values.specs.PTypes.{sorts};
 ghost use Rattle.pp_types.specs.Forms as f;

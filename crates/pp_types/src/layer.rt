@@ -37,7 +37,7 @@ pub enum Layer<'a> {
     Resource(&'a Kind, Option<&'a Text>),
 }
 
-/// The types of a `Variant`, given or made.
+/// The types of a `Variant` or a `Tuple`, given or made.
 #[derive(Clone, Copy)]
 pub enum Choices<'a> {
     Given(&'a Types),

@@ -7,8 +7,18 @@ ghost use Rattle.pp_types.specs.Lengths.{character_count, has_length};
 use crate::range::Range;
 use pp_values::text::Text;
 
-/// How many characters the text has.
+/// How many characters the text has: one for each byte, where all are ASCII.
+#[tactic(auto, using(crate::proofs::Ascii::ascii_count))]
 pub fn character_count(text: &str) -> usize
+    ensures { result ≡ character_count text.now }
+{
+    if text.is_ascii() {
+        return text.len();
+    }
+    decoded_count(text)
+}
+
+fn decoded_count(text: &str) -> usize
     ensures { result ≡ character_count text.now }
 {
     text.chars().count()

@@ -1,8 +1,8 @@
 -- What the step of one key gives: a value to go on from, nothing, or a refusal.
 use denote.Ref.{Bor}
 use Rattle.std.proofs.Common.{Option, Ok, Result, arith, ap, sym, ◌∙◌}
+use Rattle.std.specs.Option.{unwrap_or}
 use Rattle.std.specs.Prelude.{option_map}
-use Rattle.pp_ops.specs.Hashes.{or_else}
 use Rattle.pp_values.specs.declared.value.Value.{Value}
 use Rattle.pp_values.specs.Datum.{Datum, undef}
 use Rattle.pp_values.specs.Views.{view}
@@ -11,7 +11,7 @@ use Rattle.pp_funcs.proofs.Steps.{goes_on, finds_none, refuses, ends}
 use Rattle.pp_funcs.proofs.digging.found.Goals as goal
 
 abbrev told : Option (Bor Value) → Result Datum Refusal
-told o = Ok (or_else undef (option_map (λ v. view v.now) o))
+told o = Ok (unwrap_or (option_map (λ v. view v.now) o) undef)
 
 pub returns-in-Ok-None : goal.returns-in-Ok-None
 returns-in-Ok-None c =

@@ -1,7 +1,7 @@
 -- The characters that the text's bytes encode.
 use Rattle.std.proofs.Common.{rules}
 use Rattle.std.proofs.lemmas.Str.{chars_from_encodes}
-use Rattle.pp_types.proofs.lengths.character_count.Goals as goal
+use Rattle.pp_types.proofs.lengths.decoded_count.Goals as goal
 
 pub returns : goal.returns
 returns c = search (rules, chars_from_encodes)

@@ -1,7 +1,10 @@
 -- What a run of the program means, from the words that the system hands to it to the status that it exits with.
-use Rattle.std.specs.Prelude.{◌≡◌, ◌⊎◌, ℕ, List, [], ◌∷◌, Result, Ok, Err, codes}
+use Rattle.std.specs.Prelude.{◌≡◌, ◌≢◌, ℕ, List, [], ◌∷◌, Result, Ok, Err, codes}
 use Rattle.std.specs.declared.alloc.Global.{Global}
+use Rattle.std.specs.IoError.{error_kind}
 use Rattle.std.specs.declared.io.Error.{Error}
+use Rattle.std.specs.declared.io.ErrorKind.{ErrorKind}
+use Rattle.std.specs.declared.io.ErrorKind.TheVariants.{OutOfMemory}
 use Rattle.std.specs.declared.string.String.{String}
 use Rattle.std.specs.declared.vec.Vec.{Vec}
 use Rattle.site_commands.specs.declared.ending.Ending.{Ending}
@@ -28,9 +31,13 @@ abbrev pub without_name : {T : Type 0} → List T → List T
 without_name [] = []
 without_name (name ∷ words) = words
 
+-- There are no words, by an error of this kind.
+pub record HasFailedOn (status : ℕ) (kind : ErrorKind) (before after : World) : Type 0 where
+  pub memory : kind ≡ OutOfMemory → LacksMemory status before after
+  pub no_texts : kind ≢ OutOfMemory → HasEnded status [] before after
+
 -- The program ran on the words of its command line, without its name. Words that are no texts are those of no command;
--- there may be
--- no memory for them.
+-- where there was no memory for them, that was said.
 abbrev pub HasRunOn : ℕ → Result (Vec (String Global) Global) Error → World → World → Type 0
 HasRunOn status (Ok line) before after = HasEnded status (texts_of (without_name line.items)) before after
-HasRunOn status (Err e) before after = HasEnded status [] before after ⊎ LacksMemory status before after
+HasRunOn status (Err error) before after = HasFailedOn status (error_kind error) before after

@@ -12,10 +12,10 @@ use Rattle.pp_values.specs.Answers.{and_then}
 use Rattle.pp_values.specs.Datum.{Datum, list, kind, reference, members_of}
 use Rattle.pp_values.specs.Sort.{Name, Sort}
 use Rattle.pp_values.specs.declared.place.Place.{Place}
-use Rattle.eval_world.specs.Worlds.{place_at}
+use Rattle.eval_world.specs.Worlds.{answered_at, place_at}
 use Rattle.eval_world.specs.declared.here.Here.{Here}
 use Rattle.eval_world.specs.declared.world.World.{World}
-use Rattle.eval_forms.specs.Answering.{answered_at, combined}
+use Rattle.eval_forms.specs.Answering.{combined}
 
 module _ (p q : Place) where
   computed_there : (o : Op) (r : Result Datum Refusal) {d : Datum} → at_place o p r ≡ Ok d → at_place o q r ≡ Ok d

@@ -4,3 +4,4 @@ mod Elsewhere
 mod Numbers
 mod Operations
 mod Integers
+mod Placing

@@ -1,18 +1,12 @@
 -- Steps over values that are there already, at the place of an expression.
-use Rattle.std.specs.Prelude.{ℕ, Result, List}
+use Rattle.std.specs.Prelude.{ℕ, List}
 use Rattle.expr_eval.specs.Combining as steps
-use Rattle.eval_world.specs.Outcomes.{Step, answered}
-use Rattle.eval_world.specs.Worlds.{fault, place_at}
+use Rattle.eval_world.specs.Outcomes.{Step}
+use Rattle.eval_world.specs.Worlds.{answered_at, fault}
 use Rattle.eval_world.specs.declared.here.Here.{Here}
 use Rattle.pp_ops.specs.declared.op.Op.{Op}
 use Rattle.pp_values.specs.Datum.{Datum}
-use Rattle.pp_values.specs.declared.fault.Fault.{Fault}
 use Rattle.pp_values.specs.declared.fault.What.TheVariants as what
-use Rattle.pp_values.specs.declared.place.Place.{Place}
-
--- what a step answers at this line of the file whose code is evaluated
-abbrev pub answered_at : {A : Type 0} → (Place → Result A Fault) → ℕ → Here → Step A
-answered_at step line here = λ w. answered (step (place_at w here line)) w
 
 -- an operator over two values
 unfoldable pub combined : Op → Datum → Datum → ℕ → Here → Step Datum

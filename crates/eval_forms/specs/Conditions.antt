@@ -11,11 +11,10 @@ use Rattle.pp_tree.specs.declared.conditions.Unless.{Unless, out-Unless}
 use Rattle.pp_tree.specs.declared.expr.Expr.{Expr}
 use Rattle.pp_tree.specs.declared.statement.Statement.{Statement}
 use Rattle.pp_values.specs.Datum.{Datum, undef}
-use Rattle.eval_world.specs.Arguments.{is_splat}
 use Rattle.eval_world.specs.Inner.{Inner}
 use Rattle.eval_world.specs.Outcomes.{Step, ◌>>=◌, pure}
+use Rattle.eval_world.specs.Shapes.{is_default, is_splat}
 use Rattle.eval_world.specs.declared.here.Here.{Here}
-use Rattle.eval_forms.specs.Defaults.{is_default}
 use Rattle.eval_forms.specs.Operators.{truth_rule}
 
 -- ---- `if` and `unless`
@@ -64,7 +63,7 @@ any_takes inner control (e ∷ es) here = do
   takes ← takes_rule inner control e here
   if takes then pure true else any_takes inner control es here
 
--- the option for what no option takes
+-- the option for what no option takes: the word `default` stands in it, wherever it stands; of several the first
 unfoldable pub default_option : List CaseOption → Option CaseOption
 default_option = find (λ o. list_any is_default (out-CaseOption o).values)
 

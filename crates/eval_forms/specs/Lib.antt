@@ -1,7 +1,9 @@
 pub mod Answering
 pub mod Literals
+pub mod KeyPlaces
+pub mod GrowingPairs
 pub mod Operators
-pub mod Defaults
+pub mod Known
 pub mod Conditions
 pub mod Selectors
 pub mod Accesses

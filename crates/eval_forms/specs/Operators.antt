@@ -1,5 +1,5 @@
 -- Operators before and between values, and assignments.
-use Rattle.std.specs.Prelude.{◌≡◌, ℕ, Bool, true, false, not, List, [], ◌∷◌}
+use Rattle.std.specs.Prelude.{ℕ, Bool, true, false, not, List, [], ◌∷◌}
 use Rattle.expr_eval.specs.Spreading.{spread}
 use Rattle.expr_eval.specs.Testing.{is_of}
 use Rattle.expr_eval.specs.Truth.{is_true}
@@ -14,9 +14,9 @@ use Rattle.pp_tree.specs.declared.operators.PrefixOperator.TheVariants as prefix
 use Rattle.pp_values.specs.Datum.{Datum, undef, flag}
 use Rattle.eval_world.specs.Inner.{Inner}
 use Rattle.eval_world.specs.Outcomes.{Step, ◌>>=◌, ◌>>◌, pure}
-use Rattle.eval_world.specs.Worlds.{assign}
+use Rattle.eval_world.specs.Worlds.{answered_at, assign}
 use Rattle.eval_world.specs.declared.here.Here.{Here}
-use Rattle.eval_forms.specs.Answering.{answered_at, combined}
+use Rattle.eval_forms.specs.Answering.{combined}
 use Rattle.eval_forms.specs.declared.operator_kind.OperatorKind.{OperatorKind}
 use Rattle.eval_forms.specs.declared.operator_kind.OperatorKind.TheVariants as kind
 
@@ -98,11 +98,6 @@ operations_from inner done [] line here = pure done
 operations_from inner done (o ∷ os) line here = do
   more ← operation_rule inner done o line here
   operations_from inner more os line here
-
--- it is the only operation
-abbrev pub IsOnly : Operation Expr → List (Operation Expr) → Type 0
-IsOnly o (p ∷ []) = p ≡ o
-IsOnly o _ = ⊥
 
 -- `$a + 1 - $b`
 unfoldable pub binary_rule : Inner → Expr → List (Operation Expr) → ℕ → Here → Step Datum

@@ -6,9 +6,9 @@ use Rattle.pp_tree.specs.declared.expr.Pair.{Pair}
 use Rattle.pp_values.specs.Datum.{Datum}
 use Rattle.eval_world.specs.Inner.{Inner}
 use Rattle.eval_world.specs.Outcomes.{Step, ◌>>=◌, pure}
+use Rattle.eval_world.specs.Shapes.{is_default}
 use Rattle.eval_world.specs.declared.here.Here.{Here}
 use Rattle.eval_forms.specs.Answering.{bad_operand}
-use Rattle.eval_forms.specs.Defaults.{is_default}
 
 -- the key of an option of a selector takes the control value
 unfoldable pub key_rule : Inner → Datum → Expr → Here → Step Bool
@@ -16,6 +16,7 @@ key_rule inner control e here = if is_default e then pure false else (do
   option ← inner.value e here
   pure (option_takes option control))
 
+-- the pair for what no option takes: its key is the word `default`, wherever it stands; of several the first
 unfoldable pub default_pair : List (Pair Expr) → Option (Pair Expr)
 default_pair = find (λ p. is_default p.key)
 

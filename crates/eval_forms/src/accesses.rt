@@ -9,9 +9,8 @@ use pp_ops::op::Op;
 use pp_tree::expr::Args;
 use pp_values::{Stop, Value};
 
-/// `[1]` behind a value that is there: the arguments are evaluated first. A type takes them as its own, so
-/// `File['/a']` is
-/// a reference.
+/// `[1]` behind a value that is there: the arguments are evaluated first. A type takes them as its own, so `File['/a']`
+/// is a reference.
 #[tactic(auto, unfolding(crate::specs::Accesses::accessed_rule))]
 pub fn accessed<F: Fn(&mut World<'_>, Goal<'_>, Here, u32) -> Result<Evaluated, Stop>, M: Meaning>(
     forms: &Forms<F, M>,

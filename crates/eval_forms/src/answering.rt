@@ -1,5 +1,5 @@
 //! Steps over values that are there already.
-ghost use Rattle.std.specs.Prelude.{◌≡◌, IfOk, IfSome, Ok};
+ghost use Rattle.std.specs.Prelude.{◌≡◌, is_some, IfOk, IfSome, Ok};
 ghost use Rattle.expr_eval.specs.Combining as steps;
 ghost use Rattle.expr_eval.specs.Faults.{bad_operand};
 ghost use Rattle.expr_eval.specs.Testing.{is_of};
@@ -7,8 +7,9 @@ ghost use Rattle.pp_values.specs.Datum.{int};
 ghost use Rattle.pp_values.specs.Views.{view};
 ghost use Rattle.pp_values.specs.declared.place.Place.{Place};
 ghost use Rattle.eval_forms.specs.Answering as spec;
+ghost use Rattle.eval_forms.specs.Known.{is_of_integers};
 ghost use Rattle.eval_world.specs.Outcomes.{Gives, same};
-ghost use Rattle.eval_world.specs.Worlds.{place_at};
+ghost use Rattle.eval_world.specs.Worlds.{answered_at, place_at};
 
 use eval_world::{Evaluated, Here, World};
 use expr_eval::{combine, is_of};
@@ -58,9 +59,10 @@ fn combined_otherwise(
 
 /// The sum or the difference of two integers, where it has 64 bits.
 #[inline(always)]
-#[tactic(auto, using(crate::proofs::Integers::integer_told))]
+#[tactic(auto, using(crate::proofs::Integers::integer_told, crate::proofs::Integers::integer_which))]
 fn of_integers(op: Op, left: &Value, right: &Value) -> Option<i64>
-    ensures { IfSome result (λ z. (p : Place) → steps.combined op (view left.now) (view right.now) p ≡ Ok (int z)) }
+    ensures which { is_some result ≡ is_of_integers op (view left.now) (view right.now) }
+    ensures said { IfSome result (λ z. (p : Place) → steps.combined op (view left.now) (view right.now) p ≡ Ok (int z)) }
 {
     match (op, left, right) {
         (Op::Add, Value::Int(a), Value::Int(b)) => a.checked_add(*b),
@@ -95,7 +97,7 @@ pub fn is_of_type(
     line: u32,
     here: Here,
 ) -> Result<bool, Stop>
-    ensures { Gives same (spec.answered_at (is_of value.now kind.now) line here world.now) result world.now }
+    ensures { Gives same (answered_at (is_of value.now kind.now) line here world.now) result world.now }
 {
     let nowhere = world.nowhere();
     match is_of(
@@ -117,7 +119,7 @@ fn is_of_type_at(
     line: u32,
     here: Here,
 ) -> Result<bool, Stop>
-    ensures { Gives same (spec.answered_at (is_of value.now kind.now) line here world.now) result world.now }
+    ensures { Gives same (answered_at (is_of value.now kind.now) line here world.now) result world.now }
 {
     let at = world.place(here, line)?;
     is_of(world.heap.alloc(), value.as_value(), kind.as_value(), &at)

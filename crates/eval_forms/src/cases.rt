@@ -6,17 +6,14 @@ ghost use Rattle.expr_eval.specs.Testing.{option_takes};
 ghost use Rattle.pp_values.specs.Datum.{int};
 ghost use Rattle.pp_values.specs.Views.{view, views};
 ghost use Rattle.eval_forms.specs.Conditions as spec;
-ghost use Rattle.eval_forms.specs.Defaults.{is_default};
-ghost use Rattle.eval_world.specs.Arguments.{is_splat};
 ghost use Rattle.eval_world.specs.Nests.{Nests};
 ghost use Rattle.eval_world.specs.Outcomes.{Gives, same};
+ghost use Rattle.eval_world.specs.Shapes.{is_default};
 
-use crate::defaults::is_default;
-use eval_world::{Evaluated, Forms, Goal, Here, Meaning, World};
+use eval_world::{Evaluated, Forms, Goal, Here, Meaning, World, is_default, is_splat};
 use expr_eval::{option_takes, splice};
 use pp_tree::conditions::{Case, CaseOption};
-use pp_tree::expr::{Args, Expr, Form};
-use pp_tree::operators::PrefixOperator;
+use pp_tree::expr::{Args, Expr};
 use pp_values::{Items, Memory, Stop, Value};
 use std::alloc::Global;
 
@@ -177,14 +174,4 @@ fn has_default(values: &Args) -> bool
     ensures { result ≡ list_any is_default values.now }
 {
     values.as_slice().iter().any(|value| is_default(value))
-}
-
-/// Whether a value of an option is written with `*`.
-fn is_splat(expr: &Expr) -> bool
-    ensures { result ≡ is_splat expr.now }
-{
-    match expr.form.get() {
-        Form::Prefix(PrefixOperator::Splat, _) => true,
-        _ => false,
-    }
 }

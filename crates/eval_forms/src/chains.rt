@@ -1,6 +1,7 @@
 //! Chains of operators between values.
-ghost use Rattle.std.specs.Prelude.{◌≡◌, IfSome};
+ghost use Rattle.std.specs.Prelude.{◌≡◌, is_some, IfSome};
 ghost use Rattle.pp_values.specs.Views.{view};
+ghost use Rattle.eval_forms.specs.Known.{is_over_known};
 ghost use Rattle.eval_forms.specs.Operators as spec;
 ghost use Rattle.eval_world.specs.Nests.{Nests};
 ghost use Rattle.eval_world.specs.Outcomes.{Gives, same};
@@ -8,7 +9,7 @@ ghost use Rattle.eval_world.specs.Outcomes.{Gives, same};
 use crate::answering::{combined, is_of_type};
 use crate::operator_kind::OperatorKind;
 use crate::prefixes::truth;
-use eval_world::{Evaluated, Forms, Goal, Here, Meaning, World};
+use eval_world::{Evaluated, Forms, Goal, Here, Meaning, World, only};
 use expr_eval::is_true;
 use pp_ops::op::Op;
 use pp_tree::expr::{Expr, Operation};
@@ -45,29 +46,22 @@ fn over_known<F: Fn(&mut World<'_>, Goal<'_>, Here, u32) -> Result<Evaluated, St
     line: u32,
     here: Here,
 ) -> Option<Result<Evaluated, Stop>>
-    ensures { IfSome result (λ r. Gives same
+    ensures which { is_some result
+        ≡ is_over_known forms.now.left first.now operations.now here world.now.scopes }
+    ensures said { IfSome result (λ r. Gives same
         (spec.binary_rule (M.within forms.now.left) first.now operations.now line here world.now) r world.now) }
 {
-    let only = only_one(operations)?;
-    let OperatorKind::Combine(op) = OperatorKind::of(only.operator) else {
+    let operation = only(operations.as_slice())?;
+    let OperatorKind::Combine(op) = OperatorKind::of(operation.operator) else {
         return None;
     };
-    if let Some(number) = forms.number(&only.right) {
+    if let Some(number) = forms.number(&operation.right) {
         let left = forms.known(world, first, here)?;
         return Some(combined(world, op, left, &Value::Int(number), line, here));
     }
-    let right = forms.known(world, &only.right, here)?;
+    let right = forms.known(world, &operation.right, here)?;
     let left = forms.known(world, first, here)?;
     Some(combined(world, op, left, right, line, here))
-}
-
-fn only_one(operations: &Items<Operation>) -> Option<&Operation>
-    ensures { IfSome result (λ o. spec.IsOnly o.now operations.now) }
-{
-    match operations.as_slice() {
-        [only] => Some(only),
-        _ => None,
-    }
 }
 
 /// Operations behind a value, from the left.

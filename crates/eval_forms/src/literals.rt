@@ -5,9 +5,10 @@ ghost use Rattle.eval_world.specs.Nests.{Nests};
 ghost use Rattle.eval_world.specs.Outcomes.{Gives, same};
 
 use crate::answering::bad_operand;
+use crate::growing::Growing;
 use eval_world::{Evaluated, Forms, Goal, Here, Meaning, World};
 use pp_tree::expr::{Args, Pair, Piece};
-use pp_values::{Items, Pairs, Stop, Text, Value, is_key, write_value};
+use pp_values::{Items, Stop, Text, Value, is_key, write_value};
 
 /// `[1, *$a]`
 #[tactic(auto, unfolding(crate::specs::Literals::list_rule))]
@@ -36,37 +37,37 @@ pub fn hash<F: Fn(&mut World<'_>, Goal<'_>, Here, u32) -> Result<Evaluated, Stop
     requires { Nests (M.within forms.now.left) forms.now.left (F.pre forms.now.inner) (F.post forms.now.inner) }
     ensures { Gives same (spec.hash_rule (M.within forms.now.left) pairs.now line here world.old) result world.new }
 {
-    let mut done = Pairs::new(world.heap.alloc());
+    let mut done = Growing::for_count(world.heap.alloc(), pairs.len());
     let mut rest = pairs.as_slice();
     while let Some((pair, more)) = rest.split_first() {
-        add_pair(forms, world, &mut done, pair, line, here)?;
+        done = with_one_more(forms, world, done, pair, line, here)?;
         rest = more;
     }
-    Ok(Evaluated::new(Value::Hash(done)))
+    Ok(Evaluated::new(Value::Hash(done.into_pairs())))
 }
 
 /// `a => 1` behind the pairs that are there. A value that can be no key is refused before the pair's value is
 /// evaluated.
 #[tactic(auto, unfolding(crate::specs::Literals::pair_rule, crate::specs::Literals::value_rule))]
-fn add_pair<F: Fn(&mut World<'_>, Goal<'_>, Here, u32) -> Result<Evaluated, Stop>, M: Meaning>(
+fn with_one_more<F: Fn(&mut World<'_>, Goal<'_>, Here, u32) -> Result<Evaluated, Stop>, M: Meaning>(
     forms: &Forms<F, M>,
     world: &mut World<'_>,
-    done: &mut Pairs,
+    done: Growing,
     pair: &Pair,
     line: u32,
     here: Here,
-) -> Result<(), Stop>
+) -> Result<Growing, Stop>
     requires { Nests (M.within forms.now.left) forms.now.left (F.pre forms.now.inner) (F.post forms.now.inner) }
-    ensures { Gives (λ _. done.new)
-        (spec.pair_rule (M.within forms.now.left) done.old pair.now line here world.old) result world.new }
+    ensures { Gives same (spec.pair_rule (M.within forms.now.left) done pair.now line here world.old)
+        result world.new }
 {
     let key = forms.value(world, &pair.key, here)?;
     if !is_key(key.as_value()) {
         return Err(Stop::Fault(bad_operand(world, "=>", line, here)?));
     }
     let value = forms.value(world, &pair.value, here)?;
-    done.put(key.into_value(), value.into_value())?;
-    Ok(())
+    let alloc = world.heap.alloc();
+    Ok(done.with(alloc, key.into_value(), value.into_value())?)
 }
 
 /// How many bytes a text with interpolation begins with room for, so that most of them are taken from memory once. With

@@ -6,15 +6,13 @@ ghost use Rattle.eval_world.specs.Nests.{Nests};
 ghost use Rattle.eval_world.specs.Outcomes.{Gives, same};
 
 use crate::answering::bad_operand;
-use crate::defaults::is_default;
-use eval_world::{Evaluated, Forms, Goal, Here, Meaning, World};
+use eval_world::{Evaluated, Forms, Goal, Here, Meaning, World, is_default};
 use expr_eval::option_takes;
 use pp_tree::expr::{Expr, Pair};
 use pp_values::{Items, Stop};
 
-/// `? { 1 => 'a', default => 'b' }` behind a value that is there: the value of the first option that takes it, or
-/// else that
-/// of `default`. No other value is evaluated.
+/// `? { 1 => 'a', default => 'b' }` behind a value that is there: the value of the first option that takes it, or else
+/// that of `default`. No other value is evaluated.
 #[tactic(auto, unfolding(crate::specs::Selectors::selected_rule, crate::specs::Selectors::selected_from))]
 pub fn selected<F: Fn(&mut World<'_>, Goal<'_>, Here, u32) -> Result<Evaluated, Stop>, M: Meaning>(
     forms: &Forms<F, M>,

@@ -26,7 +26,7 @@ use Rattle.eval_forms.specs.Accesses.{accessed_rule}
 use Rattle.eval_forms.specs.Answering.{combined}
 use Rattle.eval_forms.specs.Conditions.{otherwise_rule, elsifs_from, if_rule, unless_rule, takes_rule, any_takes}
 use Rattle.eval_forms.specs.Conditions.{default_option, default_rule, options_from, case_rule}
-use Rattle.eval_forms.specs.Defaults.{is_default}
+use Rattle.eval_world.specs.Shapes.{is_default}
 use Rattle.eval_forms.specs.Literals.{list_rule, value_rule, pair_rule, pairs_from, hash_rule, piece_rule, pieces_from}
 use Rattle.eval_forms.specs.Literals.{interpolated_rule}
 use Rattle.eval_forms.specs.Operators.{prefixed, prefix_rule, truth_rule, open_rule, match_rule, both_rule, kind_of}

@@ -322,7 +322,7 @@ fn cycles(rt: HostRuntime) -> Result<(), Fail> {
 }
 
 /// How many resources stand beside each other or within each other, each pair made of an index and the next one.
-const MANY: u32 = 2_000;
+const MANY: u32 = 5_000;
 
 /// A graph of many resources, by which of the two of a pair comes first.
 struct Shape {
@@ -397,6 +397,13 @@ const SHAPES: &[Shape] = &[
         closed: true,
         cyclic: false,
     },
+    Shape {
+        word: "a ring one way",
+        containers: Side::None,
+        edges: Side::Lesser,
+        closed: true,
+        cyclic: true,
+    },
 ];
 
 fn pair(side: Side, at: u32) -> Option<(u32, u32)> {
@@ -466,5 +473,74 @@ fn many(rt: HostRuntime) -> Result<(), Fail> {
         let word = shape.word;
         assert!(rt; is_cyclic_as_told(rt.alloc(), shape)?, "{word}");
     }
+    Ok(())
+}
+
+fn is_of_the_last_two(cycle: &Indexes) -> bool {
+    is_list(cycle, &[MANY - 2, MANY - 1])
+}
+
+/// Whether it is told that the last two contain each other, beside a long chain of containment.
+fn contains_at_the_end(alloc: Global, side: Side) -> Result<bool, Memory> {
+    let mut containers = many_containers(alloc, side)?;
+    for (container, member) in [(MANY - 1, MANY - 2), (MANY - 2, MANY - 1)] {
+        containers.push(Containment { container, member })?;
+    }
+    let edges = Edges::new(alloc);
+    if !are_below(MANY, &containers, &edges) {
+        return Ok(false);
+    }
+    match build(alloc, MANY, &containers, &edges) {
+        Ok(_graph) => Ok(false),
+        Err(GraphStop::Contains(cycle)) => Ok(is_of_the_last_two(&cycle)),
+        Err(GraphStop::Memory) => Err(Memory),
+    }
+}
+
+/// Whether it is told that the last two come before each other, beside a long chain of containment and one of edges.
+fn comes_before_at_the_end(alloc: Global, inside: Side, side: Side) -> Result<bool, Memory> {
+    let containers = many_containers(alloc, inside)?;
+    let mut edges = many_edges(alloc, side, false)?;
+    for (from, to) in [(MANY - 1, MANY - 2), (MANY - 2, MANY - 1)] {
+        edges.push(Edge {
+            from,
+            to,
+            signal: false,
+        })?;
+    }
+    if !are_below(MANY, &containers, &edges) {
+        return Ok(false);
+    }
+    let graph = match build(alloc, MANY, &containers, &edges) {
+        Ok(graph) => graph,
+        Err(GraphStop::Memory) => return Err(Memory),
+        Err(GraphStop::Contains(_cycle)) => return Ok(false),
+    };
+    match graph.order(alloc) {
+        Ok(_order) => Ok(false),
+        Err(OrderStop::Cycle(cycle)) => Ok(is_of_the_last_two(&cycle)),
+        Err(OrderStop::Memory) => Err(Memory),
+    }
+}
+
+// Each took minutes or more when every index before the cycle's was searched from.
+#[test]
+fn cycles_at_the_end(rt: HostRuntime) -> Result<(), Fail> {
+    assert!(rt;
+        contains_at_the_end(rt.alloc(), Side::Lesser)?,
+        "each in the one before"
+    );
+    assert!(rt;
+        contains_at_the_end(rt.alloc(), Side::Greater)?,
+        "each in the one behind"
+    );
+    assert!(rt;
+        comes_before_at_the_end(rt.alloc(), Side::None, Side::Lesser)?,
+        "forwards"
+    );
+    assert!(rt;
+        comes_before_at_the_end(rt.alloc(), Side::None, Side::Greater)?,
+        "backwards"
+    );
     Ok(())
 }

@@ -3,3 +3,4 @@ mod Examples
 mod LookUpExamples
 mod Members
 mod OneVariable
+mod Turned

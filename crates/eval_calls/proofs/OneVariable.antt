@@ -1,27 +1,28 @@
 -- A function of its arguments alone whose one argument has its value.
-use Rattle.std.proofs.Common.{◌≡◌, ℕ, false, List, [], ◌∷◌, None, Result, Ok, ap, sym}
+use Rattle.std.proofs.Common.{◌≡◌, ℕ, false, List, [], ◌∷◌, None, Some, Result, Ok, sym}
 use Rattle.pp_funcs.specs.Functions.{applied}
 use Rattle.pp_funcs.specs.Names.{needs_evaluator}
 use Rattle.pp_tree.specs.declared.expr.Expr.{Expr}
 use Rattle.pp_values.specs.Datum.{Datum}
 use Rattle.pp_values.specs.declared.fault.Stop.{Stop}
-use Rattle.eval_world.specs.Arguments.{argument_rule, is_splat, values_from}
+use Rattle.eval_world.specs.Arguments.{argument_rule, values_from}
 use Rattle.eval_world.specs.Inner.{Inner}
 use Rattle.eval_world.specs.Outcomes.{Gives, same}
+use Rattle.eval_world.specs.Shapes.{is_splat, only}
+use Rattle.eval_world.specs.Worlds.{answered_at}
 use Rattle.eval_world.specs.declared.here.Here.{Here}
 use Rattle.eval_world.specs.declared.world.World.{World}
-use Rattle.eval_calls.specs.Calls.{IsOnly, invoked, plain_rule}
-use Rattle.eval_calls.specs.Places.{at_line}
+use Rattle.eval_calls.specs.Calls.{invoked, plain_rule}
 
-only_is : (e : Expr) (args : List Expr) → IsOnly e args → args ≡ e ∷ []
-only_is e [] is = absurd is
-only_is e (a ∷ []) is = ap (λ x. x ∷ []) is
-only_is e (a ∷ b ∷ args) is = absurd is
+only_is : (e : Expr) (args : List Expr) → Some e ≡ only args → args ≡ e ∷ []
+only_is e [] is = cc
+only_is e (a ∷ []) is = cc
+only_is e (a ∷ b ∷ args) is = cc
 
 pub of_known : (inner : Inner) (line : ℕ) (here : Here) (w : World) (f : List ℕ) (args : List Expr) (e : Expr)
-    (a : Datum) (ds : List Datum) (r : Result Datum Stop) → IsOnly e args → is_splat e ≡ false
+    (a : Datum) (ds : List Datum) (r : Result Datum Stop) → Some e ≡ only args → is_splat e ≡ false
     → inner.value e here w ≡ Ok (a, w) → needs_evaluator f ≡ false → ds ≡ a ∷ []
-    → Gives same (at_line (applied f ds) line here w) r w → Gives same (invoked inner f args None line here w) r w
+    → Gives same (answered_at (applied f ds) line here w) r w → Gives same (invoked inner f args None line here w) r w
 unfolding invoked values_from argument_rule plain_rule
-of_known inner line here w f args e a ds r only plain known computed alone gives =
-    rw (only_is e args only, known, plain, computed) (rw (sym alone) gives)
+of_known inner line here w f args e a ds r one plain known computed alone gives =
+    rw (only_is e args one, known, plain, computed) (rw (sym alone) gives)

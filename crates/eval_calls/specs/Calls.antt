@@ -1,5 +1,5 @@
 -- Calls: `f(1, $a) |$x| { }`, `$a.f(1)` and `notice $a`.
-use Rattle.std.specs.Prelude.{◌≡◌, ℕ, if◌then◌else◌, List, [], ◌∷◌, Option, None, Some, option_map, codes}
+use Rattle.std.specs.Prelude.{ℕ, if◌then◌else◌, List, [], ◌∷◌, Option, None, Some, option_map, codes}
 use Rattle.std.specs.Str.{bytes_eq}
 use Rattle.pp_funcs.specs.Functions.{applied}
 use Rattle.pp_funcs.specs.Names.{needs_evaluator}
@@ -16,13 +16,12 @@ use Rattle.eval_classes.specs.declared.including.Including.{Including}
 use Rattle.eval_world.specs.Arguments.{values_from}
 use Rattle.eval_world.specs.Inner.{Inner}
 use Rattle.eval_world.specs.Outcomes.{Step, ◌>>=◌, ◌>>◌, pure}
-use Rattle.eval_world.specs.Worlds.{fault, not_built, write_log}
+use Rattle.eval_world.specs.Worlds.{answered_at, fault, not_built, write_log, wrong}
 use Rattle.eval_world.specs.declared.here.Here.{Here}
 use Rattle.eval_calls.specs.Iterating.{lambda_function_rule}
 use Rattle.eval_calls.specs.Lambdas.{Opened, opened}
 use Rattle.eval_calls.specs.LookUps.{lookup_rule}
 use Rattle.eval_calls.specs.Names.{is_function, is_log}
-use Rattle.eval_calls.specs.Places.{at_line, wrong}
 
 -- ---- without a lambda, once the arguments have their values
 
@@ -61,7 +60,7 @@ evaluated_rule inner f arguments line here =
 unfoldable pub plain_rule : Inner → List ℕ → List Datum → ℕ → Here → Step Datum
 plain_rule inner f arguments line here =
     if needs_evaluator f then evaluated_rule inner f arguments line here
-    else at_line (applied f arguments) line here
+    else answered_at (applied f arguments) line here
 
 -- ---- with a lambda
 
@@ -78,11 +77,6 @@ unfoldable pub with_lambda_rule : Inner → List ℕ → Opened → List Datum �
 with_lambda_rule inner f l arguments line here = with_lambda_by inner (lambda_function f) f l arguments line here
 
 -- ---- calls
-
--- it is the only argument
-abbrev pub IsOnly : Expr → List Expr → Type 0
-IsOnly e (a ∷ []) = a ≡ e
-IsOnly e _ = ⊥
 
 -- the function of these arguments, and the lambda where there is one
 abbrev pub called : Inner → List ℕ → Option Opened → List Datum → ℕ → Here → Step Datum

@@ -1,6 +1,6 @@
 -- The functions that take a lambda.
-use Rattle.std.specs.Prelude.{◌≡◌, ℕ, if◌then◌else◌, List, [], ◌∷◌, ◌++◌}
-use Rattle.pp_values.specs.Datum.{Datum, undef, list, data_of}
+use Rattle.std.specs.Prelude.{ℕ, if◌then◌else◌, Option, None, Some, option_map, List, [], ◌∷◌, ◌++◌}
+use Rattle.pp_values.specs.Datum.{Datum, undef, list, members_of}
 use Rattle.expr_eval.specs.declared.functions.Iteration.{Iteration}
 use Rattle.expr_eval.specs.declared.functions.LambdaFunction.{LambdaFunction}
 use Rattle.expr_eval.specs.declared.functions.LambdaFunction.TheVariants as function
@@ -9,9 +9,9 @@ use Rattle.expr_eval.specs.Names.{name}
 use Rattle.expr_eval.specs.Turns.{Turn, turns_of, reduced_over, turn_of_with}
 use Rattle.eval_world.specs.Inner.{Inner}
 use Rattle.eval_world.specs.Outcomes.{Step, ◌>>=◌, pure}
+use Rattle.eval_world.specs.Worlds.{answered_at, wrong}
 use Rattle.eval_world.specs.declared.here.Here.{Here}
 use Rattle.eval_calls.specs.Lambdas.{Opened, lambda_rule, param_count}
-use Rattle.eval_calls.specs.Places.{at_line, wrong}
 
 -- ---- `each`, `map`, `filter`, `any`, `all`
 
@@ -30,7 +30,7 @@ gathered_rule inner f l d ts line here = do
 
 unfoldable pub over_rule : Inner → Iteration → Opened → Datum → ℕ → Here → Step Datum
 over_rule inner f l d line here = do
-  ts ← at_line (turns_of f d (param_count l)) line here
+  ts ← answered_at (turns_of f d (param_count l)) line here
   ds ← turns_from inner f l [] ts line here
   pure (gathered f d ds)
 
@@ -59,23 +59,29 @@ reduced inner l (d ∷ ds) line here = reduce_from inner l d ds line here
 
 unfoldable pub reduce_rule : Inner → Opened → List Datum → ℕ → Here → Step Datum
 reduce_rule inner l arguments line here = do
-  ds ← at_line (reduced_over arguments (param_count l)) line here
+  ds ← answered_at (reduced_over arguments (param_count l)) line here
   reduced inner l ds line here
 
--- the arguments are one list, or a list and a start value
-abbrev pub IsListAlone : List Datum → List Datum → Type 0
-IsListAlone ds (x ∷ []) = x ≡ list (data_of ds)
-IsListAlone ds _ = ⊥
+-- the members of a list
+abbrev pub list_members : Datum → Option (List Datum)
+list_members (list ds) = Some (members_of ds)
+list_members d = None
 
-abbrev pub IsListAndStart : List Datum → Datum → List Datum → Type 0
-IsListAndStart ds start (x ∷ y ∷ []) = (x ≡ list (data_of ds)) × (y ≡ start)
-IsListAndStart ds start _ = ⊥
+-- those of a list that is the only argument
+abbrev pub list_alone : List Datum → Option (List Datum)
+list_alone (d ∷ []) = list_members d
+list_alone ds = None
+
+-- those of a list, and the start value behind it
+abbrev pub list_and_start : List Datum → Option (List Datum × Datum)
+list_and_start (d ∷ start ∷ []) = option_map (λ ds. (ds, start)) (list_members d)
+list_and_start ds = None
 
 -- ---- `with`
 
 unfoldable pub with_rule : Inner → Opened → List Datum → ℕ → Here → Step Datum
 with_rule inner l arguments line here = do
-  t ← at_line (turn_of_with arguments (param_count l)) line here
+  t ← answered_at (turn_of_with arguments (param_count l)) line here
   lambda_rule inner l t line here
 
 -- ---- all of them

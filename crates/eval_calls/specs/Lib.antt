@@ -3,4 +3,4 @@ pub mod Iterating
 pub mod Lambdas
 pub mod LookUps
 pub mod Names
-pub mod Places
+pub mod Known

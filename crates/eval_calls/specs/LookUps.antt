@@ -15,9 +15,8 @@ use Rattle.pp_values.specs.declared.place.Place.{Place}
 use Rattle.pp_values.specs.declared.value.Value.{Value}
 use Rattle.eval_world.specs.Data.{look_up}
 use Rattle.eval_world.specs.Outcomes.{Step, ◌>>=◌, pure}
-use Rattle.eval_world.specs.Worlds.{fault, not_built, place_at}
+use Rattle.eval_world.specs.Worlds.{fault, not_built, place_at, wrong}
 use Rattle.eval_world.specs.declared.here.Here.{Here}
-use Rattle.eval_calls.specs.Places.{wrong}
 use Rattle.eval_calls.specs.declared.request.Options as held_options
 use Rattle.eval_calls.specs.declared.request.Request as held_request
 

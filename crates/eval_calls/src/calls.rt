@@ -1,6 +1,7 @@
 //! Calls: `f(1, $a) |$x| { }`, `$a.f(1)` and `notice $a`.
-ghost use Rattle.std.specs.Prelude.{◌≡◌, ◌∷◌, IfOk, IfSome};
+ghost use Rattle.std.specs.Prelude.{◌≡◌, ◌∷◌, is_some, IfOk, IfSome};
 ghost use Rattle.eval_calls.specs.Calls as spec;
+ghost use Rattle.eval_calls.specs.Known.{is_known_call};
 ghost use Rattle.eval_calls.specs.Lambdas.{opened};
 ghost use Rattle.eval_world.specs.Nests.{Nests};
 ghost use Rattle.eval_world.specs.Outcomes.{Gives, same};
@@ -41,7 +42,8 @@ fn known<F: Fn(&mut World<'_>, Goal<'_>, Here, u32) -> Result<Evaluated, Stop>, 
     line: u32,
     here: Here,
 ) -> Option<Result<Evaluated, Stop>>
-    ensures { IfSome result (λ r. Gives same (spec.call_rule (M.within forms.now.left) call.now line here world.now) r
+    ensures which { is_some result ≡ is_known_call forms.now.left call.now here world.now.scopes }
+    ensures said { IfSome result (λ r. Gives same (spec.call_rule (M.within forms.now.left) call.now line here world.now) r
         world.now) }
 {
     match &call.lambda {

@@ -1,5 +1,6 @@
 //! The functions that take a lambda.
-ghost use Rattle.std.specs.Prelude.{◌≡◌, [], map, IfSome};
+ghost use Rattle.std.specs.Prelude.{◌≡◌, [], map, option_map};
+ghost use Rattle.std.specs.Option.{option_copied};
 ghost use Rattle.expr_eval.specs.Turns.{only};
 ghost use Rattle.eval_calls.specs.Iterating as spec;
 ghost use Rattle.eval_calls.specs.Lambdas.{opened};
@@ -8,6 +9,7 @@ ghost use Rattle.eval_world.specs.Outcomes.{Gives, same};
 ghost use Rattle.pp_values.specs.Views.{view, views};
 
 use crate::lambdas::{call_lambda, call_with_one, call_with_two, param_count};
+use crate::turn_queue::TurnQueue;
 use eval_world::{Evaluated, Forms, Goal, Here, Meaning, World};
 use expr_eval::{
     Iteration, LambdaFunction, decides, gather, reduced_over, turn_of_with, turns_of,
@@ -140,7 +142,8 @@ fn over_turns<F: Fn(&mut World<'_>, Goal<'_>, Here, u32) -> Result<Evaluated, St
     let at = world.place(here, line)?;
     let count = param_count(lambda)?;
     let turns = turns_of(world.heap.alloc(), function, value, count, &at)?;
-    let results = take_turns(forms, world, function, lambda, turns.as_slice(), line, here)?;
+    let turns = TurnQueue::new(world.heap.alloc(), turns)?;
+    let results = take_turns(forms, world, function, lambda, turns, line, here)?;
     Ok(Evaluated::new(gather(world.heap.alloc(), function, value, results)?))
 }
 
@@ -181,24 +184,23 @@ fn take_turns<F: Fn(&mut World<'_>, Goal<'_>, Here, u32) -> Result<Evaluated, St
     world: &mut World<'_>,
     function: Iteration,
     lambda: &Lambda,
-    turns: &[Values],
+    turns: TurnQueue,
     line: u32,
     here: Here,
 ) -> Result<Values, Stop>
     requires { Nests (M.within forms.now.left) forms.now.left (F.pre forms.now.inner) (F.post forms.now.inner) }
-    ensures { Gives same (spec.turns_from (M.within forms.now.left) function (opened lambda.now) [] turns.now line
+    ensures { Gives same (spec.turns_from (M.within forms.now.left) function (opened lambda.now) [] turns line
         here world.old) result world.new }
 {
     let mut done = Values::new(world.heap.alloc());
-    let mut rest = turns;
-    while let Some((turn, more)) = rest.split_first() {
+    let mut left = turns;
+    while let Some(turn) = left.take() {
         let result = call_lambda(forms, world, lambda, turn, line, here)?;
         let is_last = decides(function, result.as_value());
         done.push(result.into_value())?;
         if is_last {
             return Ok(done);
         }
-        rest = more;
     }
     Ok(done)
 }
@@ -230,20 +232,34 @@ fn reduce<F: Fn(&mut World<'_>, Goal<'_>, Here, u32) -> Result<Evaluated, Stop>,
     reduce_copies(forms, world, lambda, arguments, line, here)
 }
 
+/// The members of a list.
+#[tactic(auto, using(crate::proofs::Members::members_back))]
+fn list_members(value: &Value) -> Option<&Values>
+    ensures { option_copied result ≡ spec.list_members (view value.now) }
+{
+    match value {
+        Value::List(members) => Some(members),
+        _ => None,
+    }
+}
+
 fn list_alone(arguments: &Values) -> Option<&Values>
-    ensures { IfSome result (λ ds. spec.IsListAlone ds.now arguments.now) }
+    ensures { option_copied result ≡ spec.list_alone arguments.now }
 {
     match arguments.as_slice() {
-        [Value::List(members)] => Some(members),
+        [value] => list_members(value),
         _ => None,
     }
 }
 
 fn list_and_start(arguments: &Values) -> Option<(&Values, &Value)>
-    ensures { IfSome result (λ p. spec.IsListAndStart p.0.now (view p.1.now) arguments.now) }
+    ensures { option_map (λ p. (p.0.now, view p.1.now)) result ≡ spec.list_and_start arguments.now }
 {
     match arguments.as_slice() {
-        [Value::List(members), start] => Some((members, start)),
+        [value, start] => {
+            let members = list_members(value)?;
+            Some((members, start))
+        }
         _ => None,
     }
 }
@@ -330,5 +346,5 @@ fn with<F: Fn(&mut World<'_>, Goal<'_>, Here, u32) -> Result<Evaluated, Stop>, M
     let at = world.place(here, line)?;
     let count = param_count(lambda)?;
     let turn = turn_of_with(world.heap.alloc(), arguments, count, &at)?;
-    call_lambda(forms, world, lambda, &turn, line, here)
+    call_lambda(forms, world, lambda, turn, line, here)
 }

@@ -3,11 +3,10 @@ ghost use Rattle.std.specs.Prelude.{◌≡◌, ◌∷◌, [], IfOk};
 ghost use Rattle.eval_calls.specs.Lambdas as spec;
 ghost use Rattle.eval_world.specs.Nests.{Nests};
 ghost use Rattle.eval_world.specs.Outcomes.{Gives, nothing, same};
-ghost use Rattle.pp_values.specs.Views.{views};
 
 use eval_world::{Evaluated, Forms, Goal, Here, Meaning, World};
 use pp_tree::{Lambda, Param};
-use pp_values::{Memory, Stop, Value, Values, What};
+use pp_values::{Memory, Stop, Values, What};
 
 /// How many parameters a lambda has.
 pub fn param_count(lambda: &Lambda) -> Result<u32, Memory>
@@ -19,8 +18,8 @@ pub fn param_count(lambda: &Lambda) -> Result<u32, Memory>
     }
 }
 
-/// One call of a lambda with these arguments, in a scope of its own. The lambda belongs to the call that begins at this
-/// line.
+/// One call of a lambda with these arguments, which move into its parameters, in a scope of its own. The lambda belongs to
+/// the call that begins at this line.
 #[tactic(auto, unfolding(crate::specs::Lambdas::lambda_rule))]
 pub fn call_lambda<
     F: Fn(&mut World<'_>, Goal<'_>, Here, u32) -> Result<Evaluated, Stop>,
@@ -29,16 +28,16 @@ pub fn call_lambda<
     forms: &Forms<F, M>,
     world: &mut World<'_>,
     lambda: &Lambda,
-    arguments: &Values,
+    arguments: Values,
     line: u32,
     here: Here,
 ) -> Result<Evaluated, Stop>
     requires { Nests (M.within forms.now.left) forms.now.left (F.pre forms.now.inner) (F.post forms.now.inner) }
-    ensures { Gives same (spec.lambda_rule (M.within forms.now.left) (spec.opened lambda.now) arguments.now line here
+    ensures { Gives same (spec.lambda_rule (M.within forms.now.left) (spec.opened lambda.now) arguments line here
         world.old) result world.new }
 {
     let own = world.enter_lambda(here)?;
-    bind(world, lambda.params.as_slice(), arguments.as_slice(), own)?;
+    bind(world, lambda.params.as_slice(), arguments, own)?;
     let value = forms.block(world, &lambda.block, line, own)?;
     world.leave(own);
     Ok(value)
@@ -95,19 +94,17 @@ pub fn call_with_two<
 
 /// Sets each parameter to its argument.
 #[tactic(auto, unfolding(crate::specs::Lambdas::bind_from))]
-fn bind(world: &mut World<'_>, params: &[Param], arguments: &[Value], own: Here) -> Result<(), Stop>
-    ensures { Gives nothing (spec.bind_from params.now (views arguments.now) own world.old) result world.new }
+fn bind(world: &mut World<'_>, params: &[Param], arguments: Values, own: Here) -> Result<(), Stop>
+    ensures { Gives nothing (spec.bind_from params.now arguments own world.old) result world.new }
 {
     let mut params = params;
-    let mut arguments = arguments;
+    let mut left = arguments.into_vec().into_iter();
     while let Some((param, more)) = params.split_first() {
-        let Some((argument, rest)) = arguments.split_first() else {
+        let Some(argument) = left.next() else {
             return Ok(());
         };
-        let argument = Evaluated::copy_of(world.heap.alloc(), argument)?;
-        bind_one(world, param, argument, own)?;
+        bind_one(world, param, Evaluated::new(argument), own)?;
         params = more;
-        arguments = rest;
     }
     Ok(())
 }

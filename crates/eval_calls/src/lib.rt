@@ -9,5 +9,6 @@ mod names;
 mod plain;
 mod request;
 mod requests;
+mod turn_queue;
 
 pub use calls::{call, method, words};

@@ -1,10 +1,10 @@
 //! Calls whose arguments have their values, and stray lambdas.
-ghost use Rattle.std.specs.Prelude.{◌≡◌, false, None, IfSome};
+ghost use Rattle.std.specs.Prelude.{◌≡◌, false, is_some, None, IfSome};
 ghost use Rattle.eval_calls.specs.Calls as spec;
-ghost use Rattle.eval_calls.specs.Places.{at_line};
-ghost use Rattle.eval_world.specs.Arguments.{is_splat};
+ghost use Rattle.eval_calls.specs.Known.{is_of_known};
 ghost use Rattle.eval_world.specs.Nests.{Nests};
 ghost use Rattle.eval_world.specs.Outcomes.{Gives, same};
+ghost use Rattle.eval_world.specs.Worlds.{answered_at};
 ghost use Rattle.pp_funcs.specs.Functions.{applied};
 ghost use Rattle.pp_funcs.specs.Names.{needs_evaluator};
 ghost use Rattle.pp_values.specs.Views.{views};
@@ -12,11 +12,10 @@ ghost use Rattle.pp_values.specs.Views.{views};
 use crate::looking_up::look_up;
 use crate::names::{is_function, is_log, unknown, wrong};
 use eval_classes::{Including, include};
-use eval_world::{Evaluated, Forms, Goal, Here, Meaning, World};
+use eval_world::{Evaluated, Forms, Goal, Here, Meaning, World, is_splat, only};
 use expr_eval::{LambdaFunction, joined};
 use pp_funcs::{call_pure_of, needs_evaluator};
-use pp_tree::expr::{Args, Expr, Form};
-use pp_tree::operators::PrefixOperator;
+use pp_tree::expr::Args;
 use pp_values::{Stop, Text, Value, Values};
 use std::slice;
 
@@ -57,10 +56,12 @@ pub fn call_known<
     line: u32,
     here: Here,
 ) -> Option<Result<Evaluated, Stop>>
-    ensures { IfSome result (λ r. Gives same
+    ensures which { is_some result
+        ≡ is_of_known forms.now.left function.now arguments.now here world.now.scopes }
+    ensures said { IfSome result (λ r. Gives same
         (spec.invoked (M.within forms.now.left) function.now arguments.now None line here world.now) r world.now) }
 {
-    let argument = only_one(arguments)?;
+    let argument = only(arguments.as_slice())?;
     if is_splat(argument) {
         return None;
     }
@@ -69,25 +70,6 @@ pub fn call_known<
         return None;
     }
     Some(compute(world, function, slice::from_ref(value), line, here))
-}
-
-fn only_one(arguments: &Args) -> Option<&Expr>
-    ensures { IfSome result (λ e. spec.IsOnly e.now arguments.now) }
-{
-    match arguments.as_slice() {
-        [only] => Some(only),
-        _ => None,
-    }
-}
-
-/// Whether an argument is written with `*`.
-fn is_splat(argument: &Expr) -> bool
-    ensures { result ≡ is_splat argument.now }
-{
-    match argument.form.get() {
-        Form::Prefix(PrefixOperator::Splat, _) => true,
-        _ => false,
-    }
 }
 
 /// A function of its arguments alone, or none that there is.
@@ -99,7 +81,7 @@ fn compute(
     here: Here,
 ) -> Result<Evaluated, Stop>
     requires { needs_evaluator function.now ≡ false }
-    ensures { Gives same (at_line (applied function.now (views arguments.now)) line here world.now) result world.now }
+    ensures { Gives same (answered_at (applied function.now (views arguments.now)) line here world.now) result world.now }
 {
     let at = world.place(here, line)?;
     Ok(Evaluated::new(call_pure_of(world.heap.alloc(), function, arguments, &at)?))

@@ -1,12 +1,13 @@
 -- What is left decides.
 use Rattle.std.proofs.Common.{◌≡◌, length}
+use Rattle.std.specs.Vec.Iter.{into_iter_items}
 use Rattle.eval_calls.specs.Lambdas.{bind_from}
 use Rattle.eval_calls.proofs.lambdas.bind.Given as goal
 use Rattle.pp_values.specs.Views.{views}
 
 abbrev pub invariant-loop-param : goal.invariant-loop-param
-invariant-loop-param l = bind_from l.fn.params (views l.fn.arguments) l.own l.fn.world
-    ≡ bind_from l.params (views l.arguments) l.own l.world
+invariant-loop-param l = bind_from l.fn.params l.fn.arguments l.own l.fn.world
+    ≡ bind_from l.params (views (into_iter_items l.left)) l.own l.world
 
 abbrev pub decreases-loop-param : goal.decreases-loop-param
 decreases-loop-param l = length l.params

@@ -112,6 +112,7 @@ pub fn make_site(alloc: Global, files: TextPairs, nodes: FactPairs) -> Result<Si
 {
     let main = Text::from_str(alloc, MAIN_MANIFEST)?;
     let KeptFiles { manifests, data } = read_files(alloc, files)?;
+    let data = planned(alloc, data)?;
     let nodes = list_nodes(alloc, nodes)?;
     Ok(Site {
         main,
@@ -131,7 +132,7 @@ pub fn site_of_main(alloc: Global, manifest: Text, nodes: ListedNodes) -> Result
     let main = Text::from_str(alloc, MAIN_MANIFEST)?;
     let mut manifests = SiteFiles::new(alloc);
     manifests.read(alloc, main.copy(alloc)?, manifest)?;
-    let data = SiteData::new(alloc);
+    let data = planned(alloc, SiteData::new(alloc))?;
     Ok(Site {
         main,
         manifests,
@@ -151,12 +152,22 @@ pub fn site_with(
     ensures { IfOk result (λ s. s ≡ record { manifests = manifests; «data» = others; nodes = nodes }) }
 {
     let main = Text::from_str(alloc, MAIN_MANIFEST)?;
+    let data = planned(alloc, others)?;
     Ok(Site {
         main,
         manifests,
-        data: others,
+        data,
         nodes,
     })
+}
+
+/// The data of a site, all of whose files are read: what look-ups read of them is found ahead.
+fn planned(alloc: Global, files: SiteData) -> Result<SiteData, Memory>
+    ensures { IfOk result (λ d. d ≡ files) }
+{
+    let mut files = files;
+    files.plan(alloc)?;
+    Ok(files)
 }
 
 fn read_files(alloc: Global, files: TextPairs) -> Result<KeptFiles, Memory>

@@ -1,5 +1,5 @@
 -- A list that a function goes through whose lambda takes its members one by one.
-use Rattle.std.proofs.Common.{◌≡◌, ℕ, Option, None, Some, option_map, List, [], ◌∷◌, map, Result, ap, sym, ◌∙◌, refl}
+use Rattle.std.proofs.Common.{◌≡◌, ℕ, Option, Some, option_map, List, [], ◌∷◌, map, Result, ap, sym, ◌∙◌, refl}
 use Rattle.expr_eval.specs.Turns.{only}
 use Rattle.expr_eval.specs.declared.functions.Iteration.{Iteration}
 use Rattle.pp_values.proofs.Lists.{data_of-members_of, members_of-data_of}
@@ -34,13 +34,16 @@ alone_is ds (x ∷ []) is = ap (λ y. y ∷ []) (list_is x ds is)
 alone_is ds (x ∷ y ∷ zs) is = cc
 
 both_are : (d e : Datum) (ds : List Datum) (start : Datum)
-    → Some (ds, start) ≡ option_map (λ es. (es, e)) (list_members d) → (Some ds ≡ list_members d) × (e ≡ start)
+    → ◌≡◌ {A = Option (List Datum × Datum)} (Some (ds, start)) (option_map (λ es. (es, e)) (list_members d))
+    → (Some ds ≡ list_members d) × (e ≡ start)
 both_are (list es) e ds start is =
-    let same : (ds, start) ≡ (members_of es, e) = cc in (ap (λ p. Some p.0) same, sym (ap (λ p. p.1) same))
+    let there : List Datum × Datum = (ds, start) in
+    let given : List Datum × Datum = (members_of es, e) in
+    let same : there ≡ given = cc in (ap (λ p. Some p.0) same, sym (ap (λ p. p.1) same))
 both_are d e ds start is = cc
 
 with_start_is : (ds : List Datum) (start : Datum) (arguments : List Datum)
-    → Some (ds, start) ≡ list_and_start arguments → arguments ≡ list (data_of ds) ∷ start ∷ []
+    → ◌≡◌ {A = Option (List Datum × Datum)} (Some (ds, start)) (list_and_start arguments) → arguments ≡ list (data_of ds) ∷ start ∷ []
 with_start_is ds start [] is = cc
 with_start_is ds start (x ∷ []) is = cc
 with_start_is ds start (x ∷ y ∷ []) is =
@@ -88,7 +91,8 @@ module _ (inner : Inner) (l : Opened) (line : ℕ) (here : Here) (w : World) whe
       in rw at_last gives
 
   pub reduced_from : (arguments ds es : List Datum) (start : Datum) (n : ℕ) (r : Result Datum Stop) (new : World)
-      → n ≡ param_count l → n ≡ 2 → Some (ds, start) ≡ list_and_start arguments → es ≡ ds
+      → n ≡ param_count l → n ≡ 2
+      → ◌≡◌ {A = Option (List Datum × Datum)} (Some (ds, start)) (list_and_start arguments) → es ≡ ds
       → Gives same (reduce_from inner l start es line here w) r new
       → Gives same (reduce_rule inner l arguments line here w) r new
   reduced_from arguments ds es start n r new count two is alike gives =

@@ -7,7 +7,7 @@ use Rattle.std.proofs.lemmas.Map.Text.{is_eq-slice_cmp}
 use Rattle.std.proofs.lemmas.Slice.Eq.{bytes_eq-Decides}
 use Rattle.std.specs.BTreeMap.{BTreeMap, get, is_at}
 use Rattle.std.specs.Cmp.{signed_Decides}
-use Rattle.std.specs.Ordering.{int_cmp, int_eq, is_eq, ordering_reverse}
+use Rattle.std.specs.Ordering.{int_cmp, is_eq, ordering_reverse}
 use Rattle.std.specs.Prelude.{IsTrue, option_map}
 use Rattle.std.specs.Str.{bytes_eq}
 use Rattle.pp_values.proofs.Distinct.{are_distinct-append, are_distinct-with_value, with_pair-no_place, with_pair-place}

@@ -1,5 +1,5 @@
 -- The values of arguments, and of the members of a list.
-use Rattle.std.specs.Prelude.{ℕ, Bool, true, false, List, [], ◌∷◌, ◌++◌}
+use Rattle.std.specs.Prelude.{Bool, true, false, List, [], ◌∷◌, ◌++◌}
 use Rattle.pp_tree.specs.declared.expr.Expr.{Expr}
 use Rattle.pp_values.specs.Datum.{Datum}
 use Rattle.expr_eval.specs.Spreading.{spliced}

@@ -1,6 +1,5 @@
 -- The steps that read and change one table of the world.
 use Rattle.std.specs.Prelude.{ℕ, List, [], ◌∷◌, ◌++◌, length, Result, Ok, Err}
-use Rattle.pp_values.specs.Answers.{and_then}
 use Rattle.pp_values.specs.Datum.{Datum}
 use Rattle.pp_values.specs.Faults as faults
 use Rattle.pp_values.specs.declared.fault.Fault.{Fault}
@@ -15,7 +14,7 @@ use Rattle.res_core.specs.declared.declared.Declared.{Declared}
 use Rattle.scope_core.specs.Scopes as scopes
 use Rattle.scope_core.specs.Scopes.{Scopes}
 use Rattle.scope_core.specs.declared.scope_kind.ScopeKind.TheVariants as kind
-use Rattle.eval_world.specs.Outcomes.{Outcome, Step, answered}
+use Rattle.eval_world.specs.Outcomes.{Step, answered}
 use Rattle.eval_world.specs.Owners.{owner_at, main_alone}
 use Rattle.eval_world.specs.declared.here.Here.{Here}
 use Rattle.eval_world.specs.Environment.{Environment}

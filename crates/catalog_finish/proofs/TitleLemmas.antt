@@ -1,5 +1,5 @@
 -- Declarations that are called by their titles are called apart, since no two have the same reference.
-use Rattle.std.proofs.Common.{◌≡◌, ◌⊎◌, inl, inr, ℕ, zero, suc, ◌+◌, ◌<◌, Bool, true, false, not, ◌||◌, ◌==◌, if◌then◌else◌, cond, IsTrue, List, [], ◌∷◌, ◌++◌, drop, filter, find, Option, None, Some, option_map, Ok, refl, sym, ap, ◌∙◌, arith}
+use Rattle.std.proofs.Common.{◌≡◌, ◌⊎◌, inl, inr, ℕ, zero, suc, ◌+◌, ◌<◌, Bool, true, false, not, ◌&&◌, ◌||◌, ◌==◌, if◌then◌else◌, cond, IsTrue, List, [], ◌∷◌, ◌++◌, drop, filter, find, Option, None, Some, option_map, Ok, refl, sym, ap, ◌∙◌, arith}
 use Rattle.std.proofs.lemmas.Slice.Eq.{bytes_eq-Decides}
 use Rattle.std.specs.Cmp.{first_so, second_so}
 use Rattle.std.specs.Cmp.Derive.{both_true}
@@ -24,7 +24,7 @@ use Rattle.override_rules.proofs.Alone.{told_untouched}
 use Rattle.override_rules.specs.Meaning.{State, touched_by}
 use Rattle.override_rules.specs.Names.{attributes_of, is_set}
 use Rattle.catalog_finish.specs.Naming.{Called, called_by, is_told_apart, name_step, name_told, names_checked, native_called, or_title, or_undef, provider_of, same_name, with_name}
-use Rattle.catalog_finish.specs.Titles.{has_setting, has_no_name, has_attribute, are_nameless, is_titled, is_by_title}
+use Rattle.catalog_finish.specs.Titles.{has_setting, has_no_name, has_attribute, are_nameless, is_titled, is_by_title, is_surely_by_title, is_unnamed}
 
 neither : (a b : Bool) → (a || b) ≡ false → (a ≡ false) × (b ≡ false)
 neither true b e = absurd cc
@@ -80,6 +80,18 @@ pub by_own : (s : State) (r : Row) (b : Bool) (n : NativeType) (attributes : Lis
 by_own s r b n attributes told holds is rises none =
     ap (has_no_name n) (told_untouched s r b told holds rises)
     ∙ fewer_names n r.item.item.attributes (sym (ap (has_no_name n) is) ∙ nameless n attributes ∙ none)
+
+-- as the declaration tells by itself
+pub unnamed_alone : (s : State) (r : Row) (b c : Bool) (n : NativeType) (attributes : List Attribute) →
+    b ≡ (touched_by s r == 0) → b ≡ true → settings attributes ≡ r.item.item.attributes →
+    c ≡ are_nameless n attributes → c ≡ is_unnamed s r n
+unnamed_alone s r b c n attributes told holds is none =
+    none ∙ sym (nameless n attributes) ∙ ap (has_no_name n) is
+    ∙ ap (λ t. t && has_no_name n r.item.item.attributes) (sym holds ∙ told)
+
+pub unnamed_not : (s : State) (r : Row) (b : Bool) (n : NativeType) → b ≡ (touched_by s r == 0) → b ≡ false →
+    false ≡ is_unnamed s r n
+unnamed_not s r b n told holds = ap (λ t. t && has_no_name n r.item.item.attributes) (sym holds ∙ told)
 
 -- ---- what they are called
 
@@ -221,3 +233,25 @@ pub title_end : (s : State) (rows : List Row) (n : ℕ) → drop n rows ≡ [] �
     (list_all (is_by_title s) (drop n rows) ≡ true → list_all (is_by_title s) rows ≡ true) →
     list_all (is_by_title s) rows ≡ true
 title_end s rows n ended before = before (ap (list_all (is_by_title s)) ended)
+
+-- ---- and whether each tells so by itself
+
+module _ (s : State) (rows : List Row) (n : ℕ) (r : Row) (is : drop n rows ≡ r ∷ drop (n + 1) rows)
+    (before : list_all (is_surely_by_title s) rows ≡ list_all (is_surely_by_title s) (drop n rows)) where
+  told_by : (b : Bool) → is_surely_by_title s r ≡ b →
+      list_all (is_surely_by_title s) rows ≡ (b && list_all (is_surely_by_title s) (drop (n + 1) rows))
+  told_by b h =
+      before ∙ ap (list_all (is_surely_by_title s)) is
+      ∙ ap (λ t. t && list_all (is_surely_by_title s) (drop (n + 1) rows)) h
+
+  pub sure_next : is_surely_by_title s r ≡ true →
+      list_all (is_surely_by_title s) rows ≡ list_all (is_surely_by_title s) (drop (n + 1) rows)
+  sure_next h = told_by true h
+
+  pub sure_stops : is_surely_by_title s r ≡ false → false ≡ list_all (is_surely_by_title s) rows
+  sure_stops h = sym (told_by false h)
+
+pub sure_end : (s : State) (rows : List Row) (n : ℕ) → drop n rows ≡ [] →
+    list_all (is_surely_by_title s) rows ≡ list_all (is_surely_by_title s) (drop n rows) →
+    true ≡ list_all (is_surely_by_title s) rows
+sure_end s rows n ended before = sym (before ∙ ap (list_all (is_surely_by_title s)) ended)

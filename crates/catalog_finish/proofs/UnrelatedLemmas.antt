@@ -1,5 +1,5 @@
 -- Declarations that no metaparameter relates to others.
-use Rattle.std.proofs.Common.{◌≡◌, ℕ, Bool, true, false, ◌||◌, ◌==◌, cond, IsTrue, List, [], ◌∷◌, filter, find, None, Some, option_map, Result, Ok, refl, sym, ap, ◌∙◌}
+use Rattle.std.proofs.Common.{◌≡◌, ℕ, Bool, true, false, not, ◌||◌, ◌==◌, cond, IsTrue, List, [], ◌∷◌, filter, find, None, Some, option_map, Result, Ok, refl, sym, ap, ◌∙◌}
 use Rattle.std.specs.Cmp.Lexicographic.{bytes_decides}
 use Rattle.std.specs.List.{list_any}
 use Rattle.std.specs.Str.{bytes_eq}
@@ -52,6 +52,18 @@ pub untouched_apart : (s : State) (r : Row) (b : Bool) (attributes : List Attrib
 untouched_apart s r b attributes told holds is rises none =
     ap does_relate (told_untouched s r b told holds rises)
     ∙ fewer r.item.item.attributes (sym (ap does_relate is) ∙ seen attributes ∙ none)
+
+-- as the declaration tells by itself
+pub told_alone : (s : State) (r : Row) (b c : Bool) (attributes : List Attribute) → b ≡ (touched_by s r == 0) →
+    b ≡ true → settings attributes ≡ r.item.item.attributes → c ≡ list_any (λ a. is_relation_name a.name) attributes →
+    c ≡ (not (touched_by s r == 0) || does_relate r.item.item.attributes)
+told_alone s r b c attributes told holds is some =
+    some ∙ sym (seen attributes) ∙ ap does_relate is
+    ∙ ap (λ t. not t || does_relate r.item.item.attributes) (sym holds ∙ told)
+
+pub told_touched : (s : State) (r : Row) (b : Bool) → b ≡ (touched_by s r == 0) → b ≡ false →
+    true ≡ (not (touched_by s r == 0) || does_relate r.item.item.attributes)
+told_touched s r b told holds = ap (λ t. not t || does_relate r.item.item.attributes) (sym holds ∙ told)
 
 -- ---- and so of what they relate
 

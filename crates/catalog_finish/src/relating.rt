@@ -1,9 +1,10 @@
 //! Which resources come before which, by relation lines and by metaparameters.
-ghost use Rattle.std.specs.Prelude.{◌≡◌, false, Some, OnOk, slice_get};
+ghost use Rattle.std.specs.Prelude.{◌≡◌, ◌==◌, ◌||◌, false, not, Some, OnOk, slice_get};
 ghost use Rattle.std.specs.List.{list_any};
 ghost use Rattle.pp_values.specs.Answers.{Answers};
 ghost use Rattle.res_core.specs.AttributeViews.{set_in};
 ghost use Rattle.res_core.specs.Metaparameters.{is_relation_name};
+ghost use Rattle.override_rules.specs.Meaning.{touched_by};
 ghost use Rattle.override_rules.specs.Names.{attributes_of};
 ghost use Rattle.catalog_finish.specs.RelationParameters.{joined_by, name_of, goes_before, does_signal, does_relate};
 ghost use Rattle.catalog_finish.specs.Relating.{operand_of as operand_meant, side_of as side_meant, ends_of as ends_meant, lines_related as lines_meant, set_targets as set_meant, metaparameter_step, row_related as row_meant, row_step, rows_related as rows_meant, related_pairs as pairs_meant};
@@ -195,7 +196,8 @@ fn has_relation(attributes: &[Attribute]) -> bool
 
 /// Whether a declaration may have a metaparameter that relates it to others. Most have none, and are asked for none.
 fn may_relate(lines: &Overrides, row: &Row) -> bool
-    ensures { result ≡ false → does_relate (attributes_of lines.now row.now) ≡ false }
+    ensures exact { result ≡ (not (touched_by lines.now row.now == 0) || does_relate row.now.item.item.attributes) }
+    ensures holds { result ≡ false → does_relate (attributes_of lines.now row.now) ≡ false }
 {
     if lines.is_untouched(row) {
         return has_relation(row.item.item.attributes.as_slice());

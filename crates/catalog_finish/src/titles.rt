@@ -2,7 +2,7 @@
 ghost use Rattle.std.specs.Prelude.{◌≡◌, true};
 ghost use Rattle.std.specs.List.{list_all};
 ghost use Rattle.override_rules.specs.Names.{attributes_of};
-ghost use Rattle.catalog_finish.specs.Titles.{has_attribute, has_no_name, are_nameless, is_by_title as by_title_meant};
+ghost use Rattle.catalog_finish.specs.Titles.{has_attribute, has_no_name, are_nameless, is_by_title as by_title_meant, is_surely_by_title, is_unnamed as unnamed_meant};
 
 use crate::naming::is_told_apart;
 use override_rules::Overrides;
@@ -23,9 +23,10 @@ fn has_no_name(native: NativeType, attributes: &[Attribute]) -> bool
     !is_told_apart(native) || !(sets(attributes, namevar(native)) || sets(attributes, "provider"))
 }
 
-/// Whether a declaration of this native type has no name but its title.
+/// Whether a declaration of this native type has no name but its title, as it tells by itself.
 fn is_unnamed(lines: &Overrides, row: &Row, native: NativeType) -> bool
-    ensures { result ≡ true → has_no_name native (attributes_of lines.now row.now) ≡ true }
+    ensures exact { result ≡ unnamed_meant lines.now row.now native }
+    ensures holds { result ≡ true → has_no_name native (attributes_of lines.now row.now) ≡ true }
 {
     if lines.is_untouched(row) {
         return has_no_name(native, row.item.item.attributes.as_slice());
@@ -33,9 +34,10 @@ fn is_unnamed(lines: &Overrides, row: &Row, native: NativeType) -> bool
     false
 }
 
-/// Whether a declaration has no name but its title.
+/// Whether a declaration has no name but its title, as it tells by itself.
 fn is_by_title(lines: &Overrides, row: &Row) -> bool
-    ensures { result ≡ true → by_title_meant lines.now row.now ≡ true }
+    ensures exact { result ≡ is_surely_by_title lines.now row.now }
+    ensures holds { result ≡ true → by_title_meant lines.now row.now ≡ true }
 {
     match native(row.item.item.kind.as_text()) {
         Some(found) => is_unnamed(lines, row, found),
@@ -43,9 +45,10 @@ fn is_by_title(lines: &Overrides, row: &Row) -> bool
     }
 }
 
-/// Whether no declaration has a name but its title.
+/// Whether no declaration has a name but its title, as each tells by itself.
 pub fn are_by_title(book: &Book, lines: &Overrides) -> bool
-    ensures { result ≡ true → list_all (by_title_meant lines.now) book.now ≡ true }
+    ensures exact { result ≡ list_all (is_surely_by_title lines.now) book.now }
+    ensures holds { result ≡ true → list_all (by_title_meant lines.now) book.now ≡ true }
 {
     for number in 0..book.count() {
         if !is_by_title(lines, book.row(number)) {

@@ -37,7 +37,7 @@ pub fn copy_values(alloc: Global, values: &Values) -> Result<Values, Memory>
     for item in values.as_slice() {
         items.push(copy(alloc, item)?)?;
     }
-    Ok(Values::from_vec(items))
+    Values::from_vec(items)
 }
 
 /// A hash of the same keys and values, in the same order.
@@ -51,5 +51,5 @@ pub fn copy_pairs(alloc: Global, pairs: &Pairs) -> Result<Pairs, Memory>
         let value = copy(alloc, value)?;
         items.push((key, value))?;
     }
-    Ok(Pairs::from_vec(items))
+    Pairs::from_vec(items)
 }

@@ -1,10 +1,11 @@
-ghost use Rattle.std.specs.Prelude.{◌≡◌, ◌<◌, [], ◌↔◌, length, is_ok, if◌then◌else◌, IsTrue, IfSome, option_map, vec_len};
+ghost use Rattle.std.specs.Prelude.{◌≡◌, ◌<◌, [], ◌↔◌, length, is_ok, if◌then◌else◌, IsTrue, IfOk, IfSome, option_map, vec_len};
 ghost use Rattle.pp_values.specs.Keys.{is_key, are_distinct, value_at, with_pair};
 ghost use Rattle.pp_values.specs.Places.{place_of, with_value};
 ghost use Rattle.pp_values.specs.Views.{view, pair_views};
 
 use crate::keys::same_key;
 use crate::memory::Memory;
+use crate::nesting::{level_above, levels_of, levels_of_pairs};
 use crate::value::Value;
 use std::alloc::Global;
 use std::marker::Model;
@@ -16,12 +17,17 @@ use std::mem;
 #[cycle(value)]
 pub struct Pairs {
     items: Vec<(Value, Value)>,
+    /// At least how many levels the hash has, itself included.
+    levels: u32,
 }
 
 impl Drop for Pairs {
     #[cycle(dropping)]
     fn drop(self) {
-        let Pairs { items: _items } = self;
+        let Pairs {
+            items: _items,
+            levels: _levels,
+        } = self;
     }
 }
 
@@ -56,21 +62,27 @@ impl Pairs {
     {
         Pairs {
             items: Vec::new(alloc),
+            levels: 1,
         }
     }
 
-    pub fn from_vec(items: Vec<(Value, Value)>) -> Pairs
+    /// A hash of these pairs. Where it would nest deeper than [`MAX_NESTING`](crate::MAX_NESTING), that is want of memory.
+    pub fn from_vec(items: Vec<(Value, Value)>) -> Result<Pairs, Memory>
         requires { IsTrue (are_distinct (pair_views items.items)) }
-        ensures { result ≡ pair_views items.items }
+        ensures { IfOk result (λ l. l ≡ pair_views items.items) }
     {
-        Pairs { items }
+        let levels = level_above(levels_of_pairs(items.as_slice()))?;
+        Ok(Pairs { items, levels })
     }
 
     pub fn into_vec(self) -> Vec<(Value, Value)>
         ensures pairs { pair_views result.items ≡ self }
         ensures distinct { IsTrue (are_distinct self) }
     {
-        let Pairs { items } = self;
+        let Pairs {
+            items,
+            levels: _levels,
+        } = self;
         items
     }
 
@@ -108,11 +120,13 @@ impl Pairs {
     }
 
     /// Sets the value of a key: in the key's place where it has one, and else at the end.
-    /// Where there is no memory, the hash stays as it was.
+    /// Where there is no memory, or the hash would nest deeper than [`MAX_NESTING`](crate::MAX_NESTING), it stays as it was.
     pub fn put(&mut self, key: Value, value: Value) -> Result<(), Memory>
         requires { IsTrue (is_key (view key)) }
         ensures { self.new ≡ (if is_ok result then with_pair (view key) (view value) self.old else self.old) }
     {
+        // An upper bound stays one where the pair finds no room.
+        self.levels = self.levels.max(level_above(levels_of(&value))?);
         match place_of(&self.items, &key) {
             Some(place) => {
                 drop(key);
@@ -124,6 +138,11 @@ impl Pairs {
                 Ok(())
             }
         }
+    }
+
+    /// At least how many levels the hash has, itself included.
+    pub(crate) fn levels(&self) -> u32 {
+        self.levels
     }
 }
 

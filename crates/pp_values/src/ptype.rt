@@ -3,6 +3,7 @@ ghost use Rattle.std.specs.Prelude.{◌≡◌, IfOk};
 use crate::bounds::Bounds;
 use crate::kind::Kind;
 use crate::memory::Memory;
+use crate::nesting::{level_above, levels_of_type};
 use crate::text::Text;
 use crate::texts::Texts;
 use crate::types::Types;
@@ -65,6 +66,8 @@ pub struct EntryType {
 #[derive(Drop)]
 pub struct TypeBox {
     inner: Box<PType>,
+    /// At least how many levels the type has, the box included.
+    levels: u32,
 }
 
 impl Model for TypeBox {
@@ -90,12 +93,21 @@ impl Model for TypeBox {
 impl TypeBox {
     ghost use Rattle.pp_values.specs.PTypes.{sort};
 
+    /// A data type behind a pointer. Where it would nest deeper than [`MAX_NESTING`](crate::MAX_NESTING), that is want of
+    /// memory.
     pub fn new(alloc: Global, inner: PType) -> Result<TypeBox, Memory>
         ensures { IfOk result (λ b. b ≡ sort inner) }
     {
+        let levels = level_above(levels_of_type(&inner))?;
         Ok(TypeBox {
             inner: Box::new(alloc, inner)?,
+            levels,
         })
+    }
+
+    /// At least how many levels the type has, the box included.
+    pub(crate) fn levels(&self) -> u32 {
+        self.levels
     }
 
     pub fn as_type(&self) -> &PType

@@ -1,7 +1,8 @@
-ghost use Rattle.std.specs.Prelude.{◌≡◌, [], ◌∷◌, ◌++◌, ◌↔◌, length, is_ok, if◌then◌else◌, IsTrue};
+ghost use Rattle.std.specs.Prelude.{◌≡◌, [], ◌∷◌, ◌++◌, ◌↔◌, length, is_ok, if◌then◌else◌, IsTrue, IfOk};
 ghost use Rattle.pp_values.specs.PTypes.{sort, sorts};
 
 use crate::memory::Memory;
+use crate::nesting::{level_above, levels_of_type, levels_of_types};
 use crate::ptype::PType;
 use std::alloc::Global;
 use std::marker::Model;
@@ -11,6 +12,8 @@ use std::marker::Model;
 #[derive(Drop)]
 pub struct Types {
     items: Vec<PType>,
+    /// At least how many levels the list has, itself included.
+    levels: u32,
 }
 
 impl Model for Types {
@@ -39,13 +42,16 @@ impl Types {
     {
         Types {
             items: Vec::new(alloc),
+            levels: 1,
         }
     }
 
-    pub fn from_vec(items: Vec<PType>) -> Types
-        ensures { result ≡ sorts items.items }
+    /// A list of these types. Where it would nest deeper than [`MAX_NESTING`](crate::MAX_NESTING), that is want of memory.
+    pub fn from_vec(items: Vec<PType>) -> Result<Types, Memory>
+        ensures { IfOk result (λ l. l ≡ sorts items.items) }
     {
-        Types { items }
+        let levels = level_above(levels_of_types(items.as_slice()))?;
+        Ok(Types { items, levels })
     }
 
     pub fn len(&self) -> usize
@@ -66,11 +72,19 @@ impl Types {
         self.items.as_slice()
     }
 
-    /// Appends a type. Where there is no memory, the list stays as it was.
+    /// Appends a type. Where there is no memory, or the list would nest deeper than
+    /// [`MAX_NESTING`](crate::MAX_NESTING), it stays as it was.
     pub fn push(&mut self, item: PType) -> Result<(), Memory>
         ensures { self.new ≡ (if is_ok result then self.old ++ sort item ∷ [] else self.old) }
     {
+        let levels = level_above(levels_of_type(&item))?;
         self.items.push(item)?;
+        self.levels = self.levels.max(levels);
         Ok(())
+    }
+
+    /// At least how many levels the list has, itself included.
+    pub(crate) fn levels(&self) -> u32 {
+        self.levels
     }
 }

@@ -38,7 +38,7 @@ impl Value {
             other => {
                 let mut items = Vec::new(alloc);
                 items.push(other)?;
-                Ok(Values::from_vec(items))
+                Values::from_vec(items)
             }
         }
     }

@@ -1,7 +1,8 @@
-ghost use Rattle.std.specs.Prelude.{◌≡◌, [], ◌∷◌, ◌++◌, ◌↔◌, length, is_ok, if◌then◌else◌, IsTrue, option_map, slice_get};
+ghost use Rattle.std.specs.Prelude.{◌≡◌, [], ◌∷◌, ◌++◌, ◌↔◌, length, is_ok, if◌then◌else◌, IsTrue, IfOk, option_map, slice_get};
 ghost use Rattle.pp_values.specs.Views.{view, views};
 
 use crate::memory::Memory;
+use crate::nesting::{level_above, levels_of, levels_within};
 use crate::value::Value;
 use std::alloc::Global;
 use std::marker::Model;
@@ -10,12 +11,17 @@ use std::marker::Model;
 #[cycle(value)]
 pub struct Values {
     items: Vec<Value>,
+    /// At least how many levels the list has, itself included.
+    levels: u32,
 }
 
 impl Drop for Values {
     #[cycle(dropping)]
     fn drop(self) {
-        let Values { items: _items } = self;
+        let Values {
+            items: _items,
+            levels: _levels,
+        } = self;
     }
 }
 
@@ -46,19 +52,25 @@ impl Values {
     {
         Values {
             items: Vec::new(alloc),
+            levels: 1,
         }
     }
 
-    pub fn from_vec(items: Vec<Value>) -> Values
-        ensures { result ≡ views items.items }
+    /// A list of these values. Where it would nest deeper than [`MAX_NESTING`](crate::MAX_NESTING), that is want of memory.
+    pub fn from_vec(items: Vec<Value>) -> Result<Values, Memory>
+        ensures { IfOk result (λ l. l ≡ views items.items) }
     {
-        Values { items }
+        let levels = level_above(levels_within(items.as_slice()))?;
+        Ok(Values { items, levels })
     }
 
     pub fn into_vec(self) -> Vec<Value>
         ensures { views result.items ≡ self }
     {
-        let Values { items } = self;
+        let Values {
+            items,
+            levels: _levels,
+        } = self;
         items
     }
 
@@ -86,11 +98,19 @@ impl Values {
         self.items.get(index)
     }
 
-    /// Appends a value. Where there is no memory, the list stays as it was.
+    /// Appends a value. Where there is no memory, or the list would nest deeper than
+    /// [`MAX_NESTING`](crate::MAX_NESTING), it stays as it was.
     pub fn push(&mut self, item: Value) -> Result<(), Memory>
         ensures { self.new ≡ (if is_ok result then self.old ++ view item ∷ [] else self.old) }
     {
+        let levels = level_above(levels_of(&item))?;
         self.items.push(item)?;
+        self.levels = self.levels.max(levels);
         Ok(())
+    }
+
+    /// At least how many levels the list has, itself included.
+    pub(crate) fn levels(&self) -> u32 {
+        self.levels
     }
 }

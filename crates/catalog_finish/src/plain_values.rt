@@ -44,7 +44,7 @@ fn plain_items(alloc: Global, values: &Values) -> Result<Values, Memory>
     for item in values.as_slice() {
         items.push(plain_copy(alloc, item)?)?;
     }
-    Ok(Values::from_vec(items))
+    Ok(Values::from_vec(items)?)
 }
 
 /// The keys of a hash are integers and texts, so they stay as they are.
@@ -58,5 +58,5 @@ fn plain_hash(alloc: Global, pairs: &Pairs) -> Result<Pairs, Memory>
         let value = plain_copy(alloc, value)?;
         items.push((key, value))?;
     }
-    Ok(Pairs::from_vec(items))
+    Ok(Pairs::from_vec(items)?)
 }

@@ -93,7 +93,7 @@ fn with_receiver(alloc: Global, receiver: Evaluated, rest: Values) -> Result<Val
     let mut items = Vec::new(alloc);
     items.push(receiver.into_value())?;
     items.append(&mut rest.into_vec())?;
-    Ok(Values::from_vec(items))
+    Values::from_vec(items)
 }
 
 /// The function of these arguments.

@@ -162,7 +162,7 @@ fn take_members<F: Fn(&mut World<'_>, Goal<'_>, Here, u32) -> Result<Evaluated, 
     ensures { Gives same (spec.turns_from (M.within forms.now.left) function (opened lambda.now) [] (map only (views
         members.now)) line here world.old) result world.new }
 {
-    let mut done = Values::from_vec(Vec::with_capacity(world.heap.alloc(), members.len())?);
+    let mut done = Values::from_vec(Vec::with_capacity(world.heap.alloc(), members.len())?)?;
     let mut rest = members;
     while let Some((member, more)) = rest.split_first() {
         let argument = Evaluated::copy_of(world.heap.alloc(), member)?;

@@ -67,12 +67,12 @@ impl Growing {
     }
 
     /// The hash that was put together.
-    pub fn into_pairs(self) -> Pairs
-        ensures { result ≡ self }
+    pub fn into_pairs(self) -> Result<Pairs, Memory>
+        ensures { IfOk result (λ ps. ps ≡ self) }
     {
         let Growing { form } = self;
         match form {
-            GrowingForm::Few(pairs) => pairs,
+            GrowingForm::Few(pairs) => Ok(pairs),
             GrowingForm::Many(pairs) => pairs.into_pairs(),
         }
     }

@@ -73,8 +73,8 @@ impl KeyedPairs {
     }
 
     /// The hash that was put together.
-    pub fn into_pairs(self) -> Pairs
-        ensures { result ≡ self }
+    pub fn into_pairs(self) -> Result<Pairs, Memory>
+        ensures { IfOk result (λ ps. ps ≡ self) }
     {
         let KeyedPairs {
             items,

@@ -43,7 +43,7 @@ pub fn hash<F: Fn(&mut World<'_>, Goal<'_>, Here, u32) -> Result<Evaluated, Stop
         done = with_one_more(forms, world, done, pair, line, here)?;
         rest = more;
     }
-    Ok(Evaluated::new(Value::Hash(done.into_pairs())))
+    Ok(Evaluated::new(Value::Hash(done.into_pairs()?)))
 }
 
 /// `a => 1` behind the pairs that are there. A value that can be no key is refused before the pair's value is

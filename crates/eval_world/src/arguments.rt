@@ -28,7 +28,7 @@ impl<F: Fn(&mut World<'_>, Goal<'_>, Here, u32) -> Result<Evaluated, Stop>, M: M
         requires { Nests (M.within self.now.left) self.now.left (F.pre self.now.inner) (F.post self.now.inner) }
         ensures { Gives same (spec.values_from (M.within self.now.left) [] args.now here world.old) result world.new }
     {
-        let mut done = Values::from_vec(Vec::with_capacity(world.heap.alloc(), args.len())?);
+        let mut done = Values::from_vec(Vec::with_capacity(world.heap.alloc(), args.len())?)?;
         let mut rest = args.as_slice();
         while let Some((arg, more)) = rest.split_first() {
             self.add_argument(world, &mut done, arg, here)?;
@@ -79,5 +79,5 @@ fn appended(done: Values, more: Values) -> Result<Values, Memory>
 {
     let mut items = done.into_vec();
     items.append(&mut more.into_vec())?;
-    Ok(Values::from_vec(items))
+    Values::from_vec(items)
 }

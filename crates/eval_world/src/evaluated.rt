@@ -73,7 +73,7 @@ fn copied(alloc: Global, values: &[Value]) -> Result<Values, Memory>
     for value in values {
         items.push(copied_member(alloc, value)?)?;
     }
-    Ok(Values::from_vec(items))
+    Values::from_vec(items)
 }
 
 fn copied_member(alloc: Global, value: &Value) -> Result<Value, Memory>

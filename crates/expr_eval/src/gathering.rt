@@ -103,7 +103,7 @@ fn kept_pairs(alloc: Global, pairs: &Pairs, results: &[Value]) -> Result<Pairs, 
 {
     let mut kept = Vec::new(alloc);
     add_kept(alloc, &mut kept, pairs.as_slice(), results)?;
-    Ok(Pairs::from_vec(kept))
+    Pairs::from_vec(kept)
 }
 
 fn add_kept(

@@ -46,7 +46,7 @@ fn fill_list(
     for item in items {
         filled.push(fill(alloc, world, answers, item)?)?;
     }
-    Ok(Values::from_vec(filled))
+    Ok(Values::from_vec(filled)?)
 }
 
 #[cycle(fill)]

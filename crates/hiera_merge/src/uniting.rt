@@ -45,7 +45,7 @@ fn few_once(alloc: Global, members: Vec<Value>) -> Result<Values, Memory>
             kept.push(member)?;
         }
     }
-    Ok(Values::from_vec(kept))
+    Values::from_vec(kept)
 }
 
 fn many_once(alloc: Global, members: &[Value]) -> Result<Values, Memory>
@@ -109,7 +109,7 @@ fn few_without_repeats(alloc: Global, members: &[&Value]) -> Result<Values, Memo
             kept.push(copy(alloc, member)?)?;
         }
     }
-    Ok(Values::from_vec(kept))
+    Values::from_vec(kept)
 }
 
 fn has_same(values: &[Value], value: &Value) -> bool

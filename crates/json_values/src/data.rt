@@ -48,7 +48,7 @@ fn item_values(alloc: Global, items: &Vec<Json>, mode: Numbers) -> Result<Values
         let value = from_data(alloc, item, mode)?;
         values.push(value)?;
     }
-    Ok(Values::from_vec(values))
+    Ok(Values::from_vec(values)?)
 }
 
 #[cycle(data)]
@@ -66,5 +66,5 @@ fn member_values(
         let key = Value::Text(Text::from_str(alloc, name.as_str())?);
         pairs.push((key, value))?;
     }
-    Ok(Pairs::from_vec(pairs))
+    Ok(Pairs::from_vec(pairs)?)
 }

@@ -40,7 +40,7 @@ fn values_of(alloc: Global, items: &Vec<Json>) -> Result<Values, FormStop>
         let value = from_form(alloc, item)?;
         values.push(value)?;
     }
-    Ok(Values::from_vec(values))
+    Ok(Values::from_vec(values)?)
 }
 
 #[cycle(reading)]
@@ -61,7 +61,7 @@ fn object_value(alloc: Global, members: Vec<(Value, Value)>) -> Result<Value, Fo
     ensures { IsForm view result (object_value (entries_of (pair_views members.items))) }
 {
     if is_plain(members.as_slice()) {
-        Ok(Value::Hash(Pairs::from_vec(members)))
+        Ok(Value::Hash(Pairs::from_vec(members)?))
     } else {
         marked_value(alloc, members)
     }
@@ -142,7 +142,7 @@ fn long_hash(pairs: Vec<(Value, Value)>) -> Result<Value, FormStop>
     if is_plain(pairs.as_slice()) {
         return Err(FormStop::NoForm);
     }
-    Ok(Value::Hash(Pairs::from_vec(pairs)))
+    Ok(Value::Hash(Pairs::from_vec(pairs)?))
 }
 
 fn are_distinct(pairs: &[(Value, Value)]) -> bool

@@ -26,7 +26,7 @@ fn appended(alloc: Global, value: &Value, old: Option<Value>) -> Result<Option<V
             let mut items = old.into_members(alloc)?.into_vec();
             let mut more = copy(alloc, value)?.into_members(alloc)?.into_vec();
             items.append(&mut more)?;
-            Ok(Some(Value::List(Values::from_vec(items))))
+            Ok(Some(Value::List(Values::from_vec(items)?)))
         }
     }
 }

@@ -22,7 +22,7 @@ pub fn merged(alloc: Global, left: &Pairs, right: &Pairs) -> Result<Pairs, Memor
     let mut items = Vec::new(alloc);
     add_overridden(alloc, &mut items, left.as_slice(), right)?;
     add_new(alloc, &mut items, right.as_slice(), left)?;
-    Ok(Pairs::from_vec(items))
+    Pairs::from_vec(items)
 }
 
 #[tactic(auto, using(crate::proofs::Indexed::same_overridden))]
@@ -115,7 +115,7 @@ pub fn without_keys(alloc: Global, pairs: &Pairs, gone: &Value) -> Result<Pairs,
 {
     let mut items = Vec::new(alloc);
     add_unnamed(alloc, &mut items, pairs.as_slice(), gone)?;
-    Ok(Pairs::from_vec(items))
+    Pairs::from_vec(items)
 }
 
 fn add_unnamed(

@@ -60,7 +60,8 @@ pub(crate) fn levels_of_type(ptype: &PType) -> u32 {
     match ptype {
         PType::Array(Some(members)) => members.of.levels(),
         PType::Hash(Some(entries)) => levels_of_entries(entries),
-        PType::Optional(Some(inner)) | PType::NotUndef(Some(inner)) | PType::KindOf(Some(inner)) => inner.levels(),
+        PType::Optional(Some(inner)) | PType::NotUndef(Some(inner)) | PType::KindOf(Some(inner)) =>
+            inner.levels(),
         PType::Variant(types) | PType::Tuple(types) => types.levels(),
         _ => 0,
     }

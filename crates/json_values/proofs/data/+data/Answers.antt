@@ -26,7 +26,7 @@ item_values-returns-clause-value t c =
     ∙ sym c.loop-item.invariant.0
     ∙ ap (λ js. list_so_far c.loop-item.values.items (item_values c.args.mode (items_view js))) (drop_of_length-le c.deref-item-items.result.now c.loop-item-test.false)
     ∙ list_whole c.loop-item.values.items
-    ∙ ap (λ l. Some (data_of l)) (sym c.from_vec.ensures)
+    ∙ ap (λ l. Some (data_of l)) (sym c.in_ok-from_vec.ensures)
 
 pub member_values-loop-name-preserved : goal.member_values-loop-name-preserved
 member_values-loop-name-preserved t c = (
@@ -47,11 +47,11 @@ member_values-from_vec-requires t c =
 pub member_values-returns-clause-value : goal.member_values-returns-clause-value
 member_values-returns-clause-value t c =
     sym c.loop-name.invariant.0 ∙ no_members_left c.args.mode c.loop-name.pairs.items c.loop-name.name-iterator c.in-None.ensures.steps.0
-    ∙ ap (λ l. Some (entries_of l)) (sym c.from_vec.ensures)
+    ∙ ap (λ l. Some (entries_of l)) (sym c.in_ok-from_vec.ensures)
 
 pub member_values-returns-clause-facts : goal.member_values-returns-clause-facts
 member_values-returns-clause-facts t c =
-    subst (λ l. IsTrue (are_pairs (entries_of l))) (sym c.from_vec.ensures)
+    subst (λ l. IsTrue (are_pairs (entries_of l))) (sym c.in_ok-from_vec.ensures)
     (members_are_facts c.args.mode c.args.members.now.entries c.loop-name.pairs.items
     (sym c.loop-name.invariant.0 ∙ no_members_left c.args.mode c.loop-name.pairs.items c.loop-name.name-iterator c.in-None.ensures.steps.0)
     c.iter-name-items.ensures.ordered c.loop-name.invariant.1)

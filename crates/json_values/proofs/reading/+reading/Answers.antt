@@ -21,7 +21,7 @@ values_of-returns t c =
     ∙ sym c.loop-item.invariant
     ∙ ap (λ js. list_so_far c.loop-item.values.items (values_of (items_view js))) (drop_of_length-le c.deref-item-items.result.now c.loop-item-test.false)
     ∙ list_whole c.loop-item.values.items
-    ∙ ap (λ l. Some (data_of l)) (sym c.from_vec.ensures)
+    ∙ ap (λ l. Some (data_of l)) (sym c.in_ok-from_vec.ensures)
 
 pub members_of-loop-name-preserved : goal.members_of-loop-name-preserved
 members_of-loop-name-preserved t c =

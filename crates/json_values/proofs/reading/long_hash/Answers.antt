@@ -14,4 +14,4 @@ pub returns : goal.returns
 returns c =
     long_is (pair_views c.args.pairs.items) (ap (λ ps. are_distinct (pair_views ps)) (sym c.as_slice.ensures.value) ∙ sym c.are_distinct.ensures ∙ c.if-not-are_distinct.false)
     (ap (λ ps. is_plain (entries_of (pair_views ps))) (sym c.as_slice-2.ensures.value) ∙ sym c.is_plain.ensures ∙ c.if-is_plain.false)
-    ∙ ap (λ l. Some (hash (entries_of l))) (sym c.from_vec.ensures)
+    ∙ ap (λ l. Some (hash (entries_of l))) (sym c.in_ok-from_vec.ensures)

@@ -46,8 +46,15 @@ virtual title tag = new_row (record {
 }) mode.Virtual
 
 abbrev collector : Bool → Criterion → Collector
-collector exported query =
-    record { kind = codes "notify"; query = query; at = place 2; owner = 0; exported = exported; realized = None }
+collector exported query = record {
+  kind = codes "notify";
+  query = query;
+  at = place 2;
+  owner = 0;
+  exported = exported;
+  lines = [];
+  realized = None;
+}
 
 abbrev asks_for : List ℕ → Collector
 asks_for tag = collector false (by_tag (d.text tag))
@@ -55,7 +62,7 @@ asks_for tag = collector false (by_tag (d.text tag))
 abbrev with_two : List Collector → Environment → World
 with_two cs m = record (empty m) {
   book = virtual (codes "a") (codes "t") ∷ virtual (codes "b") (codes "u") ∷ [];
-  relations = record { lines = []; containments = []; collectors = cs };
+  relations = record { lines = []; containments = []; collectors = cs; applied = [] };
 }
 
 abbrev nothing : Sets

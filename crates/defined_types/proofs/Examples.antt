@@ -18,7 +18,7 @@ use Rattle.res_core.specs.Criteria.{Criterion, all, by_tag}
 use Rattle.res_core.specs.NativeTypes as natives
 use Rattle.res_core.specs.NativeTypes.{native_of}
 use Rattle.res_core.specs.declared.resource.Resource.{Resource}
-use Rattle.eval_collecting.specs.Importing.{finds, tested, declare_rule, import_rule, import_match}
+use Rattle.eval_collecting.specs.Importing.{finds, tested, declare_rule, import_rule, import_match, imports}
 use Rattle.eval_resources.specs.Checks.{settings_known}
 use Rattle.eval_collecting.specs.Matching.{takes, local_match}
 use Rattle.eval_world.specs.Environment.{Environment}
@@ -26,7 +26,7 @@ use Rattle.eval_world.specs.Outcomes.{Outcome}
 use Rattle.eval_world.specs.Owners.{owner_at}
 use Rattle.eval_world.specs.Worlds.{empty}
 use Rattle.eval_world.specs.declared.world.World.{World}
-use Rattle.defined_types.specs.Rounds.{take_from, take_imports, imports, collector_turn, turns_from, round, run_instances, rounds_left}
+use Rattle.defined_types.specs.Rounds.{take_from, take_imports, collector_turn, turns_from, round, run_instances, rounds_left}
 
 abbrev place : ℕ → Place
 place line = record { file = codes "manifests/site.pp"; line = line }

@@ -4,6 +4,7 @@ use Rattle.std.specs.Fmt.{digits}
 use Rattle.std.specs.Str.{bytes_eq}
 use Rattle.pp_values.specs.Datum as d
 use Rattle.pp_values.specs.Datum.{Datum, Pair, data_of, entries_of}
+use Rattle.pp_values.specs.Keys.{value_at}
 use Rattle.pp_values.specs.declared.fault.What.TheVariants as what
 use Rattle.hiera_config.specs.Cuts.{cut_at, trimmed_start, trimmed_end}
 use Rattle.hiera_config.specs.Meant.{Meant, go_on}
@@ -13,11 +14,14 @@ use Rattle.hiera_merge.specs.declared.merge.Merge.{Merge}
 use Rattle.hiera_merge.specs.declared.merge.Merge.TheVariants as by
 use Rattle.hiera_lookup.specs.declared.asking.Ask.TheVariants as ask
 use Rattle.hiera_lookup.specs.Asks.{asks}
-use Rattle.hiera_lookup.specs.Filled.{Gives, filled}
+use Rattle.hiera_lookup.specs.AnswerPlaces.{place_for}
+use Rattle.hiera_lookup.specs.Filled.{Answer, Gives, answer_to, filled}
 use Rattle.hiera_lookup.specs.Literals.{is_literal}
 use Rattle.hiera_lookup.specs.Found.{found, found_in}
 use Rattle.hiera_lookup.specs.Look.{answer, answers, interpolated, option_for, merge_for, look_within, look, looked_up}
+use Rattle.hiera_lookup.specs.OptionTables.{is_table, are_tables, joined_tables, merge_by}
 use Rattle.hiera_lookup.specs.Options.{options_key, option_in, bad_options}
+use Rattle.hiera_lookup.specs.Plain.{first_options}
 use Rattle.hiera_lookup.specs.World.{World}
 
 abbrev n : ℕ → Datum
@@ -196,6 +200,38 @@ options_first : (by_options (n 1) (codes "none") None ≡ Err (what.MergeMismatc
 unfolding go_on look look_within interpolated answers answer option_for merge_for option_in bad_options found found_in
     pieces_from form_of method_of whole_alias cut_at trimmed_start trimmed_end digits
 options_first = (refl, refl, refl, refl, refl, refl, refl)
+
+-- options that interpolate nothing: by a key of several tables the highest one's count, whole
+abbrev options_of : List ℕ → List ℕ → Pair
+options_of key name = at key (hash (at (codes "merge") (t name) ∷ []))
+
+abbrev tables : List Source
+tables =
+    (hash (options_of (codes "k") (codes "deep") ∷ at (codes "m") (hash []) ∷ []), codes "x")
+    ∷ (hash (options_of (codes "k") (codes "x") ∷ options_of (codes "l") (codes "unique")
+    ∷ options_of (codes "m") (codes "deep") ∷ []), codes "y") ∷ []
+
+abbrev by_tables : List ℕ → Option Merge
+by_tables root = merge_by (value_at (t root) (joined_tables tables))
+
+tabled : (by_tables (codes "k") ≡ Some by.Deep) × (by_tables (codes "l") ≡ Some by.Unique)
+    × (by_tables (codes "m") ≡ Some by.First) × (by_tables (codes "none") ≡ Some by.First)
+    × (merge_by (Some bad) ≡ None) × (merge_by (Some (n 1)) ≡ None)
+    × (first_options (codes "l") tables ≡ Some (hash (at (codes "merge") (t (codes "unique")) ∷ [])))
+    × (first_options (codes "none") tables ≡ None)
+    × (are_tables tables ≡ true) × (are_tables [] ≡ true) × (are_tables ((list [], codes "x") ∷ []) ≡ false)
+    × (is_table (hash (options_of (codes "k") (codes "%{v}") ∷ [])) ≡ false)
+unfolding cut_at
+tabled = (refl, refl, refl, refl, refl, refl, refl, refl, refl, refl, refl, refl)
+
+-- ---- where answers stand: a key's first answer counts, also one without a value
+
+abbrev asked_twice : List Answer
+asked_twice = (codes "a", None) ∷ (codes "b", Some (n 1)) ∷ (codes "a", Some (n 2)) ∷ []
+
+placed : (place_for asked_twice (codes "a") ≡ Some 0) × (place_for asked_twice (codes "b") ≡ Some 1)
+    × (place_for asked_twice (codes "c") ≡ None) × (answer_to asked_twice (codes "a") ≡ None)
+placed = (refl, refl, refl, refl)
 
 -- ---- look-ups within look-ups
 

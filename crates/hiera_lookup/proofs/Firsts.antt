@@ -22,7 +22,7 @@ found_none : (w : World) (m : Option (List ℕ)) → w.had m options_key ≡ Ok 
 unfolding found found_in go_on
 found_none w m none = ap (λ o. go_on o (found_in options_key by.Hash)) none
 
-within_none : (w : World) (f : Looks) (busy : List (List ℕ)) (m : Option (List ℕ)) → w.had m options_key ≡ Ok []
+pub within_none : (w : World) (f : Looks) (busy : List (List ℕ)) (m : Option (List ℕ)) → w.had m options_key ≡ Ok []
     → look_within w f busy m options_key (Some by.Hash) ≡ Ok (None, [])
 unfolding look_within merge_for interpolated go_on
 within_none w f busy m none = ap (λ o. go_on o (interpolated w f busy)) (found_none w m none)

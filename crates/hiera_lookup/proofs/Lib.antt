@@ -1,3 +1,5 @@
+pub mod AnswerLemmas
+pub mod PlainOptions
 pub mod Calls
 mod Examples
 pub mod Lists

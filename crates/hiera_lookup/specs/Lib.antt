@@ -1,10 +1,12 @@
 pub mod World
 pub mod Asks
 pub mod Filled
+pub mod AnswerPlaces
 pub mod Found
 pub mod Looked
 pub mod Options
 pub mod Look
 pub mod Finds
+pub mod OptionTables
 pub mod Plain
 pub mod Literals

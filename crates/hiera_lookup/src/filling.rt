@@ -11,6 +11,7 @@ ghost use Rattle.hiera_lookup.specs.World.{seen};
 use crate::answer::{Answers, answer_to};
 use crate::world::World;
 use hiera_config::{Piece, interpolates, pieces, whole_alias};
+use hiera_merge::KeyedPairs;
 use pp_values::{Memory, Pairs, Text, Value, Values, copy, text_of, write_value};
 use std::alloc::Global;
 
@@ -60,14 +61,15 @@ fn fill_pairs(
     ensures { IfOk result (λ ps. ps
         ≡ pairs_filled ((seen world.now).reads) (answer_to answers.now) (entries_of (pair_views pairs.now)) []) }
 {
-    let mut filled = Pairs::new(alloc);
+    let mut filled = KeyedPairs::new(alloc);
     for (key, value) in pairs {
         let key = fill(alloc, world, answers, key)?;
         let key = as_key(alloc, &key)?;
         let value = fill(alloc, world, answers, value)?;
-        filled.put(key, value)?;
+        filled = filled.with(alloc, key, value)?;
     }
-    Ok(filled)
+    let pairs = filled.into_pairs()?;
+    Ok(pairs)
 }
 
 /// A key of a hash: an integer or a text stands for itself, another value for its text.
@@ -107,7 +109,7 @@ fn fill_opened(
     ensures { IfOk result (λ v. view v ≡ text_filled ((seen world.now).reads) (answer_to answers.now) text.now) }
 {
     match whole_alias(text) {
-        Some(key) => copy_or_empty(alloc, answer_to(answers, key)),
+        Some(key) => copy_or_empty(alloc, answer_to(alloc, answers, key)?),
         None => Ok(Value::Text(fill_pieces(alloc, world, answers, text)?)),
     }
 }
@@ -168,7 +170,7 @@ fn write_piece(
             Ok(())
         }
         Piece::Reads(name) => write_said(out, world.variables.value(alloc, name.as_str())?),
-        Piece::Asks(key) => write_said(out, answer_to(answers, key.as_str())),
+        Piece::Asks(key) => write_said(out, answer_to(alloc, answers, key.as_str())?),
         Piece::Broken(_text) => Ok(()),
     }
 }

@@ -3,6 +3,7 @@
 
 pub mod answer;
 pub mod asking;
+pub mod busy;
 pub mod calling;
 pub mod filling;
 pub mod finding;
@@ -10,6 +11,7 @@ pub mod literals;
 pub mod looked;
 pub mod looking;
 pub mod option_reading;
+pub mod plain_options;
 pub mod refusals;
 pub mod world;
 

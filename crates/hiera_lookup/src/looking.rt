@@ -1,24 +1,26 @@
 //! Look-ups, and the look-ups within them.
-ghost use Rattle.std.specs.Prelude.{◌≡◌, ◌∷◌, [], ◌++◌, true, IfOk, IfSome, option_map};
+ghost use Rattle.std.specs.Prelude.{◌≡◌, [], true, IfSome, option_map};
 ghost use Rattle.pp_values.specs.Views.{view};
 ghost use Rattle.hiera_config.specs.Meant.{MeetsBy};
-ghost use Rattle.hiera_lookup.specs.Look.{is_busy, answer, answers, interpolated, option_for, merge_for, look_within, look};
+ghost use Rattle.hiera_lookup.specs.Look.{answer, answers, interpolated, option_for, merge_for, look_within, look};
 ghost use Rattle.hiera_lookup.specs.Looked.{looked_view};
 ghost use Rattle.hiera_lookup.specs.Plain.{IsFirst, LacksOptions};
 ghost use Rattle.hiera_lookup.specs.World.{seen};
 
 use crate::answer::{Answer, Answers};
 use crate::asking::{Ask, add_asks};
+use crate::busy::{is_busy, with_key};
 use crate::filling::fill;
 use crate::finding::{found, root_of};
 use crate::literals::is_literal;
 use crate::looked::Looked;
 use crate::option_reading::{OPTIONS, option_in};
+use crate::plain_options::plain_option;
 use crate::refusals::{loop_at, too_deep};
 use crate::world::World;
 use hiera_config::{Refused, bad_interpolation, module_of};
 use hiera_merge::Merge;
-use pp_values::{Memory, Text, Texts, Value, copy_texts};
+use pp_values::{Texts, Value};
 use std::alloc::Global;
 
 /// Looks a key up within the look-ups of the busy keys. `left` is how many look-ups may still begin within one another.
@@ -90,6 +92,7 @@ fn merge_for(
     }
 }
 
+/// Most options are plain, and are not looked up whole for one key.
 #[cycle(look)]
 fn option_for(
     alloc: Global,
@@ -105,6 +108,9 @@ fn option_for(
 {
     if root == OPTIONS {
         return Ok(Merge::Hash);
+    }
+    if let Some(merge) = plain_option(alloc, world, busy, of_module, root, left) {
+        return Ok(merge);
     }
     let options = look(
         alloc,
@@ -186,7 +192,7 @@ fn answers(
 {
     let mut done = Answers::new(alloc);
     for ask in asked {
-        done.push(answer(alloc, world, busy, ask, left)?)?;
+        done = done.with(alloc, answer(alloc, world, busy, ask, left)?)?;
     }
     Ok(done)
 }
@@ -219,7 +225,7 @@ fn answer(
 }
 
 /// What the sources have by `first`, where it is plain that no options say otherwise. A fault is left to whoever looks
-/// for the options first.
+/// for the options first. None costs time alone.
 fn found_first(
     alloc: Global,
     world: &World<'_>,
@@ -252,23 +258,4 @@ fn lacks_options(alloc: Global, world: &World<'_>, busy: &Texts, key: &str, left
         Ok(root) => root != OPTIONS,
         Err(_) => false,
     }
-}
-
-fn is_busy(busy: &Texts, key: &str) -> bool
-    ensures { result ≡ is_busy busy.now key.now }
-{
-    for other in busy.as_slice() {
-        if other.as_str() == key {
-            return true;
-        }
-    }
-    false
-}
-
-fn with_key(alloc: Global, busy: &Texts, key: &str) -> Result<Texts, Memory>
-    ensures { IfOk result (λ b. b ≡ busy.now ++ key.now ∷ []) }
-{
-    let mut longer = copy_texts(alloc, busy)?;
-    longer.push(Text::from_str(alloc, key)?)?;
-    Ok(longer)
 }

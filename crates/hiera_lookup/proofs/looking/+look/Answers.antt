@@ -35,6 +35,9 @@ look_within-returns-in-Some t c =
 pub option_for-returns-then-eq : goal.option_for-returns-then-eq
 option_for-returns-then-eq t c = same_meets (option_hash _ _ _ _ _ (sym c.eq.ensures ∙ c.if-eq.true)) (gives refl)
 
+pub option_for-returns-in-Some : goal.option_for-returns-in-Some
+option_for-returns-in-Some t c = gives (c.in-Some.ensures (sym c.eq.ensures ∙ c.if-eq.false))
+
 pub option_for-returns-in_err-options : goal.option_for-returns-in_err-options
 option_for-returns-in_err-options t c =
     same_meets (option_looked _ _ _ _ _ (sym c.eq.ensures ∙ c.if-eq.false))
@@ -62,7 +65,7 @@ look-returns t c =
 pub answers-loop-ask-preserved : goal.answers-loop-ask-preserved
 answers-loop-ask-preserved t c =
     answers_made (look (seen c.args.world.now) c.args.left) _ _ _ _ _ _ c.loop-ask-test.true c.ask-item.is
-    (c.in_ok-answer.ensures.ok _ refl) _ c.in_ok-push.ensures.ok
+    (c.in_ok-answer.ensures.ok _ refl) _ c.in_ok-done.ensures
     ∙ c.loop-ask.invariant
 
 pub answers-returns-in_err-answer : goal.answers-returns-in_err-answer

@@ -208,8 +208,11 @@ options_of key name = at key (hash (at (codes "merge") (t name) ∷ []))
 abbrev tables : List Source
 tables =
     (hash (options_of (codes "k") (codes "deep") ∷ at (codes "m") (hash []) ∷ []), codes "x")
-    ∷ (hash (options_of (codes "k") (codes "x") ∷ options_of (codes "l") (codes "unique")
-    ∷ options_of (codes "m") (codes "deep") ∷ []), codes "y") ∷ []
+    ∷ (
+      hash (options_of (codes "k") (codes "x") ∷ options_of (codes "l") (codes "unique")
+          ∷ options_of (codes "m") (codes "deep") ∷ []),
+      codes "y",
+    ) ∷ []
 
 abbrev by_tables : List ℕ → Option Merge
 by_tables root = merge_by (value_at (t root) (joined_tables tables))

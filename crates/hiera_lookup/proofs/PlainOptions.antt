@@ -1,16 +1,11 @@
 -- Options that interpolate nothing: what the merged tables say of a root key.
-use Rattle.std.proofs.Common.{◌≡◌, ◌≢◌, ℕ, zero, suc, ◌<◌, ◌+◌, Bool, true, false, cond, ◌&&◌, ◌-◌, None, Some, Option, IsTrue, List, [], ◌∷◌, ◌++◌, length, drop, get_or, map, Ok, Err, refl, sym, ap, ◌∙◌, arith}
+use Rattle.std.proofs.Common.{◌≡◌, ◌≢◌, ℕ, Bool, true, false, cond, ◌&&◌, ◌-◌, None, Some, Option, IsTrue, List, [], ◌∷◌, ◌++◌, map, Ok, refl, sym, ap, ◌∙◌}
 use Rattle.std.specs.Prelude.{IfSome}
-use Rattle.pp_values.specs.Views.{view}
-use Rattle.std.specs.List.{list_all}
-use Rattle.std.specs.Str.{bytes_eq}
 use Rattle.pp_values.specs.Datum.{Datum, undef, flag, int, text, list, hash, reference, kind, default, Pair, entries_of, pairs_of}
 use Rattle.pp_values.specs.Keys.{same_key, are_distinct, value_at, with_pair}
 use Rattle.pp_values.proofs.Lists.{pairs_of-entries_of, entries_of-pairs_of}
 use Rattle.hiera_lookup.specs.Literals.{is_literal, are_literal_pairs}
-use Rattle.hiera_config.specs.Found.{source_views}
 use Rattle.hiera_config.specs.Meant.{Meant, go_on}
-use Rattle.hiera_config.specs.declared.searching.Source.{Source as Held}
 use Rattle.hiera_lookup.specs.OptionTables.{is_table, are_tables, joined_tables, merge_by, HasOption}
 use Rattle.hiera_config.specs.Sound.{or_else}
 use Rattle.hiera_config.specs.Sources.{Source}
@@ -19,10 +14,10 @@ use Rattle.hiera_merge.specs.declared.merge.Merge.{Merge}
 use Rattle.hiera_merge.specs.declared.merge.Merge.TheVariants as by
 use Rattle.hiera_merge.specs.DeepSteps.{AreKeyed}
 use Rattle.hiera_merge.specs.Digging.{member}
-use Rattle.hiera_merge.specs.Merges.{pairs_in, with_pairs, hash_merge, is_hash, takes}
+use Rattle.hiera_merge.specs.Merges.{pairs_in, with_pairs, is_hash, takes}
 use Rattle.hiera_merge.proofs.HashLemmas.{none_put, value_put, hash_distinct}
 use Rattle.hiera_lookup.specs.Found.{found, found_in, dug_or_refused}
-use Rattle.hiera_lookup.specs.Look.{Looks, is_busy, look, look_within, merge_for, interpolated, option_for}
+use Rattle.hiera_lookup.specs.Look.{Looks, is_busy, look, look_within, merge_for, interpolated}
 use Rattle.hiera_lookup.specs.Options.{options_key, option_in, of_options, or_bad}
 use Rattle.hiera_lookup.specs.Plain.{IsOptionFor, MergesBy, first_options}
 use Rattle.hiera_lookup.specs.World.{World}
@@ -156,17 +151,6 @@ pub told_by : (meant : Meant (List Source)) (ss : List Source) (root : List ℕ)
 told_by meant ss root None told by = tt
 told_by meant ss root (Some m) told by =
     record { sources = ss; told = told; tables = by.0; says = by.1 }
-
--- the code's sources from one on
-pub options_at : (root : List ℕ) (xs : List Held) (i : ℕ) (x : Held) → i < length xs → x ≡ get_or xs i x
-    → first_options root (source_views (drop i xs))
-    ≡ or_else (member root (view x.value)) (first_options root (source_views (drop (i + 1) xs)))
-options_at root [] i x h at = absurd (omega (arith, h))
-options_at root (y ∷ xs) zero x h at = rw at refl
-options_at root (y ∷ xs) (suc i) x h at =
-    let h' : i < length xs = omega (arith, h) in
-    let e : suc i + 1 ≡ suc (i + 1) = omega arith in
-    rw e (options_at root xs i x h' at)
 
 -- ---- the look-up of the options gives the joined tables as they are
 

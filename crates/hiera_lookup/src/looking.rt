@@ -225,7 +225,7 @@ fn answer(
 }
 
 /// What the sources have by `first`, where it is plain that no options say otherwise. A fault is left to whoever looks
-/// for the options first. None costs time alone.
+/// for the options first.
 fn found_first(
     alloc: Global,
     world: &World<'_>,

@@ -1,3 +1,4 @@
+pub mod Above
 pub mod Answers
 pub mod AttributeSets
 pub mod Attributes
@@ -6,5 +7,6 @@ pub mod Definitions
 pub mod Entering
 pub mod Included
 pub mod Listing
+pub mod OwnNames
 pub mod Parameters
 pub mod Stacks

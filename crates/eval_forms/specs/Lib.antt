@@ -7,4 +7,5 @@ pub mod Known
 pub mod Conditions
 pub mod Selectors
 pub mod Accesses
+pub mod Lent
 pub mod Types

@@ -1,5 +1,3 @@
-pub mod Lines
-pub mod Reading
 pub mod Bodies
 pub mod Checks
 pub mod Declaring

@@ -1,10 +1,10 @@
 -- The place of each key of a hash that is put together pair by pair.
-use Rattle.std.proofs.Common.{◌≡◌, ◌∙◌, ◌<◌, ℕ, ℤ, zero, suc, Bool, true, false, cond, Option, None, Some, List, [], ◌∷◌, ◌++◌, length, refl, ap, sym, arith, if◌then◌else◌, true≢false}
+use Rattle.std.proofs.Common.{◌≡◌, ◌∙◌, ◌<◌, ℕ, zero, suc, Bool, true, false, cond, Option, None, Some, List, [], ◌∷◌, ◌++◌, length, refl, ap, sym, arith, if◌then◌else◌, true≢false}
 use Rattle.std.proofs.Common.{Ordering, Less, Equal, Greater}
-use Rattle.std.proofs.lemmas.Cmp.{int_cmp_total, nat_list_cmp_total}
+use Rattle.std.proofs.lemmas.Cmp.{nat_list_cmp_total}
 use Rattle.std.proofs.lemmas.Grind.{common_steps}
 use Rattle.std.proofs.lemmas.Map.Text.{is_eq-slice_cmp}
-use Rattle.std.specs.BTreeMap.{BTreeMap, get, is_at}
+use Rattle.std.specs.BTreeMap.{get, is_at}
 use Rattle.std.specs.Ordering.{int_cmp, is_eq, ordering_reverse}
 use Rattle.std.specs.Prelude.{IsTrue, option_map}
 use Rattle.std.specs.Str.{bytes_eq}
@@ -114,16 +114,6 @@ reversed Less = refl
 reversed Equal = refl
 reversed Greater = refl
 
-pub number_placed : (old new : KeyPlaces) (z : ℤ) (n : ℕ) → new.texts ≡ old.texts
-    → ((q : ℤ) → get int_cmp new.numbers q ≡ cond (is_at (int_cmp z) q) (Some n) (get int_cmp old.numbers q))
-    → (k : Datum) → placed k new ≡ (if same_key k (int z) then Some n else placed k old)
-number_placed old new z n same changes (int y) =
-    changes y
-    ∙ ap (λ b. cond b (Some n) (get int_cmp old.numbers y))
-    (ap is_eq (int_cmp_total.antisymm z y) ∙ reversed (int_cmp y z))
-number_placed old new z n same changes (text t) = ap (λ m. get text_cmp m t) same
-number_placed old new z n same changes k = refl
-
 pub text_placed : (old new : KeyPlaces) (u w : List ℕ) (n : ℕ) → u ≡ w → new.numbers ≡ old.numbers
     → ((q : List ℕ) → get text_cmp new.texts q ≡ cond (is_at (text_cmp u) q) (Some n) (get text_cmp old.texts q))
     → (k : Datum) → placed k new ≡ (if same_key k (text w) then Some n else placed k old)
@@ -134,3 +124,8 @@ text_placed old new u w n is same changes (text t) =
     ∙ ap (λ x. if bytes_eq t x then Some n else get text_cmp old.texts t) is
 text_placed old new u w n is same changes (int y) = ap (λ m. get int_cmp m y) same
 text_placed old new u w n is same changes k = refl
+
+-- the place that the tables tell
+pub told_place : (places : KeyPlaces) (k : Datum) (ps qs : List Pair) (o : Option ℕ) → ArePlaced places ps → ps ≡ qs
+    → o ≡ placed k places → o ≡ place_of k qs
+told_place places k ps qs o are is told = told ∙ are k ∙ ap (place_of k) is

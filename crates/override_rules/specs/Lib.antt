@@ -12,3 +12,4 @@ pub mod Meaning
 pub mod Names
 pub mod Codes
 pub mod Inside
+pub mod Ways

@@ -5,4 +5,4 @@ use Rattle.hiera_merge.specs.Merges.{with_pairs}
 use Rattle.hiera_merge.proofs.hashing.keyed_each.Given as goal
 
 abbrev pub invariant-loop-key : goal.invariant-loop-key
-invariant-loop-key l = with_pairs (pair_views (drop l.key-index l.key-items)) l.keyed ≡ with_pairs (pair_views l.key-items) l.out
+invariant-loop-key l = with_pairs (pair_views (drop l.key-index l.key-items)) l.keyed ≡ with_pairs (pair_views l.key-items) l.fn.out

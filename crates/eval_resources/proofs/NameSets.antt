@@ -1,5 +1,5 @@
 -- Names that are kept in order.
-use Rattle.std.proofs.Common.{◌≡◌, ℕ, zero, suc, ◌≤◌, Bool, true, false, List, [], ◌∷◌, ◌++◌, refl, ap, ◌∙◌, arith}
+use Rattle.std.proofs.Common.{◌≡◌, ℕ, zero, suc, ◌≤◌, ◌<◌, sym, Bool, true, false, List, [], ◌∷◌, ◌++◌, refl, ap, ◌∙◌, arith}
 use Rattle.std.proofs.Common.{take, drop, length}
 use Rattle.std.proofs.lemmas.List.{append-nil}
 use Rattle.std.specs.Prelude.{not, ◌||◌, filter, if◌then◌else◌}
@@ -80,3 +80,8 @@ pub filled_by_none : (own : List Line) (n : ℕ) → filled own n [] ≡ own
 unfolding all_not_among
 filled_by_none own zero = append-nil own
 filled_by_none own (suc n) = append-nil own
+
+pub filled_by_few : (own : List Line) (n : ℕ) (defaults : List (List Line)) → length defaults < 1 →
+    own ≡ filled own n defaults
+filled_by_few own n [] few = sym (filled_by_none own n)
+filled_by_few own n (ls ∷ more) few = absurd (omega (arith, few))

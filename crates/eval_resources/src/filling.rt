@@ -11,7 +11,6 @@ use std::collections::BTreeSet;
 
 /// The own lines of a body, behind what the default bodies before it fill in, and before what the others do. So many
 /// stand before it. Where there is no default body these are its own.
-#[tactic(auto, using(crate::proofs::NameSets::filled_by_none))]
 pub fn filled(alloc: Global, own: Lines, before: usize, defaults: &[Lines]) -> Result<Lines, Memory>
     ensures { IfOk result (λ ls. ls ≡ spec.filled own before defaults.now) }
 {

@@ -96,12 +96,21 @@ realize title n = record {
   at = place n;
   owner = 0;
   exported = false;
+  lines = [];
   realized = Some (named (codes "notify") title);
 }
 
 -- `Notify <| |>`
 abbrev pub collect : ℕ → Collector
-collect n = record { kind = codes "notify"; query = all; at = place n; owner = 0; exported = false; realized = None }
+collect n = record {
+  kind = codes "notify";
+  query = all;
+  at = place n;
+  owner = 0;
+  exported = false;
+  lines = [];
+  realized = None;
+}
 
 abbrev pub related : List Containment → List Collector → Related
-related pairs cs = record { lines = []; containments = pairs; collectors = cs }
+related pairs cs = record { lines = []; containments = pairs; collectors = cs; applied = [] }

@@ -1,4 +1,6 @@
 pub mod Evaluating
+pub mod EvaluatorCodes
+pub mod Evaluators
 pub mod Facts
 pub mod LeafLaw
 pub mod Meaning

@@ -1,12 +1,17 @@
 //! The evaluator of one compile.
-ghost use Rattle.std.specs.Prelude.{◌≡◌, ◌≤◌, IfOk};
+ghost use Rattle.std.specs.Prelude.{◌≡◌, ◌<◌, Some, length, option_copied, option_map, slice_get, IfOk};
 ghost use Rattle.pp_values.specs.Datum as d;
+ghost use Rattle.pp_values.specs.Faults.{fault};
 ghost use Rattle.pp_values.specs.Views.{view};
+ghost use Rattle.override_rules.specs.Meaning.{touched_by};
 ghost use Rattle.class_eval.specs.Evaluating as spec;
+ghost use Rattle.class_eval.specs.Evaluators.{one_more};
 ghost use Rattle.class_eval.specs.Meaning.{within};
 ghost use Rattle.class_eval.specs.Starting.{started};
+ghost use Rattle.eval_collecting.specs.Importing as importing;
+ghost use Rattle.eval_collecting.specs.Matching as matching;
 ghost use Rattle.eval_world.specs.Outcomes.{Gives, nothing, same};
-ghost use Rattle.eval_world.specs.Worlds.{top};
+ghost use Rattle.eval_world.specs.Worlds.{place_at, top};
 
 use crate::classes::class_at;
 use crate::knot::{Whole, evaluate};
@@ -14,6 +19,7 @@ use crate::nodes::{has_nodes, node_of};
 use crate::running::run;
 use crate::starting::start_world;
 use eval_classes::{BodyOwner, enter_body, run_instance};
+use eval_collecting::{import_match, imports, local_match};
 use eval_world::{Environment, Evaluated, Forms, Goal, Here, World};
 use override_rules::Overrides;
 use pp_tree::definition::Node;
@@ -21,22 +27,37 @@ use pp_tree::expr::Expr;
 use pp_tree::file::File;
 use pp_tree::statement::Block;
 use pp_tree::table::Table;
-use pp_values::{MAIN_MANIFEST, Memory, Place, Stop, Text, Value, What};
+use pp_values::{Fault, MAIN_MANIFEST, Memory, Place, Stop, Text, Value, What};
 use res_book::{Book, Relations};
-use res_core::{Attributes, LogLines};
+use res_core::{Attributes, Exported, LogLines};
 use scope_core::{ScopeId, ScopeKind, Scopes};
 use std::alloc::Global;
-use std::marker::PhantomData;
+use std::marker::{Model, PhantomData};
 
 /// How deep an evaluation may stand: how many expressions, blocks and bodies it is within, itself included.
 pub const GREATEST_DEPTH: u32 = 1_000;
 
 /// The evaluator of one compile. Its depths count from 1.
+///
+/// The world is told by calls alone, so that how often collectors look at declarations is counted.
 #[derive(Drop)]
 pub struct Evaluator<'a> {
-    pub world: World<'a>,
+    world: World<'a>,
     /// The name of the node that is compiled.
-    pub node: Text,
+    node: Text,
+    /// How often a collector was to take a local declaration.
+    looks: u64,
+}
+
+impl<'a> Model for Evaluator<'a> {
+    ghost use Rattle.class_eval.specs.Evaluators.{Evaluation};
+    ghost use Rattle.class_eval.specs.EvaluatorCodes.{coded_evaluation};
+
+    ghost Value = { Evaluation };
+
+    ghost coded = { coded_evaluation };
+
+    ghost view = { λ e. record { world = e.world; node = e.node; looks = e.looks } };
 }
 
 impl<'a> Evaluator<'a> {
@@ -49,20 +70,29 @@ impl<'a> Evaluator<'a> {
     ) -> Result<Evaluator<'a>, Memory>
         ensures world { IfOk result (λ e. e.world ≡ started environment.entry node.now (view facts.now)) }
         ensures node { IfOk result (λ e. e.node ≡ node.now) }
+        ensures looks { IfOk result (λ e. e.looks ≡ 0) }
     {
         let name = node.copy(alloc)?;
         let world = start_world(alloc, environment, node, facts)?;
-        Ok(Evaluator { world, node: name })
+        Ok(Evaluator {
+            world,
+            node: name,
+            looks: 0,
+        })
     }
 
     /// The tables that finishing reads, and the lines of the log.
-    pub fn into_parts(self) -> (Book, Overrides, Relations, LogLines)
+    pub fn parts(self) -> (Book, Overrides, Relations, LogLines)
         ensures book { result.0 ≡ self.entry.world.book }
         ensures overrides { result.1 ≡ self.entry.world.overrides }
         ensures relations { result.2 ≡ self.entry.world.relations }
         ensures log { result.3 ≡ self.entry.world.log }
     {
-        let Evaluator { world, node: _node } = self;
+        let Evaluator {
+            world,
+            node: _node,
+            looks: _looks,
+        } = self;
         world.into_parts()
     }
 
@@ -70,6 +100,7 @@ impl<'a> Evaluator<'a> {
     pub fn value_of(&mut self, expr: &Expr, here: Here, depth: u32) -> Result<Evaluated, Stop>
         ensures world { Gives same (spec.value_at expr.now here depth self.old.world) result self.new.world }
         ensures node { self.new.node ≡ self.old.node }
+        ensures looks { self.new.looks ≡ self.old.looks }
     {
         evaluate(&mut self.world, Goal::Value(expr), here, levels_left(depth))
     }
@@ -84,6 +115,7 @@ impl<'a> Evaluator<'a> {
     ) -> Result<Evaluated, Stop>
         ensures world { Gives same (spec.block_at block.now line here depth self.old.world) result self.new.world }
         ensures node { self.new.node ≡ self.old.node }
+        ensures looks { self.new.looks ≡ self.old.looks }
     {
         evaluate(
             &mut self.world,
@@ -98,6 +130,7 @@ impl<'a> Evaluator<'a> {
         ensures world { Gives nothing (spec.main_rule self.old.world.environment.main self.old.node self.old.world)
             result self.new.world }
         ensures node { self.new.node ≡ self.old.node }
+        ensures looks { self.new.looks ≡ self.old.looks }
     {
         let main = self.world.environment.main();
         run_file(&mut self.world, main, &self.node)
@@ -115,6 +148,7 @@ impl<'a> Evaluator<'a> {
     ) -> Result<u32, Stop>
         ensures world { Gives same (spec.class_at name.now given at.now here depth self.old.world) result self.new.world }
         ensures node { self.new.node ≡ self.old.node }
+        ensures looks { self.new.looks ≡ self.old.looks }
     {
         class_at(&mut self.world, name, given, here, at, levels_left(depth))
     }
@@ -123,6 +157,7 @@ impl<'a> Evaluator<'a> {
     pub fn run_instance(&mut self, number: u32, depth: u32) -> Result<(), Stop>
         ensures world { Gives nothing (spec.instance_at number depth self.old.world) result self.new.world }
         ensures node { self.new.node ≡ self.old.node }
+        ensures looks { self.new.looks ≡ self.old.looks }
     {
         let forms: Forms<_, Whole> = Forms {
             left: levels_left(depth),
@@ -130,6 +165,71 @@ impl<'a> Evaluator<'a> {
             meaning: PhantomData,
         };
         run_instance(&forms, &mut self.world, number)
+    }
+
+    /// Has one collector take one local declaration, which is marked then: true exactly where that makes it live. It is
+    /// counted, whatever the answer. Both are given by their numbers.
+    pub fn local_match(&mut self, collector: u32, number: u32) -> Result<bool, Stop>
+        ensures world { Gives same (matching.local_match collector number self.old.world) result self.new.world }
+        ensures node { self.new.node ≡ self.old.node }
+        ensures looks { self.new.looks ≡ one_more self.old.looks }
+    {
+        self.looks = self.looks.saturating_add(1);
+        local_match(&mut self.world, collector, number)
+    }
+
+    /// Has one collector import the resource that a node exports at this place of its set: true exactly where it is
+    /// declared here. The collector is given by its number.
+    pub fn import_match(
+        &mut self,
+        collector: u32,
+        node: &Text,
+        place: u32,
+        exported: &Exported,
+    ) -> Result<bool, Stop>
+        ensures world { Gives same
+            (importing.import_match collector node.now place exported.now self.old.world) result self.new.world }
+        ensures node { self.new.node ≡ self.old.node }
+        ensures looks { self.new.looks ≡ self.old.looks }
+    {
+        import_match(&mut self.world, collector, node, place, exported)
+    }
+
+    /// How many collectors there are.
+    pub fn collectors(&self) -> u32
+        ensures { result ≡ length self.now.world.relations.collectors }
+    {
+        self.world.relations.collector_count()
+    }
+
+    /// The kind whose exports a collector takes, where it takes any. The collector is given by its number.
+    pub fn imports(&self, collector: u32) -> Option<&Text>
+        ensures { option_copied result ≡ importing.imports self.now.world collector }
+    {
+        imports(&self.world, collector)
+    }
+
+    /// How many override lines so far are on the declaration, and how many defaults so far are for its kind.
+    pub fn touched(&self, number: u32) -> u32
+        requires { number < length self.now.world.book }
+        ensures { option_map (touched_by self.now.world.overrides) (slice_get self.now.world.book number)
+            ≡ Some result }
+    {
+        self.world.overrides.touched(&self.world.book, number)
+    }
+
+    /// How often a collector was to take a local declaration so far.
+    pub fn looks(&self) -> u64
+        ensures { result ≡ self.now.looks }
+    {
+        self.looks
+    }
+
+    /// A fault at a line of the file whose code is evaluated.
+    pub fn fault(&self, here: Here, line: u32, what: What) -> Result<Fault, Memory>
+        ensures { IfOk result (λ f. f ≡ fault (place_at self.now.world here line) what) }
+    {
+        self.world.fault(here, line, what)
     }
 
     /// The declarations so far.

@@ -70,16 +70,21 @@ fn complete(
     ensures { Answers result (spec.ended node.now (spec.evaluated evaluator.entry.world.environment
         evaluator.entry.node node.now sets.now evaluator.entry.world)) }
 {
-    evaluate(&mut evaluator, node, sets)?;
+    evaluate(alloc, &mut evaluator, node, sets)?;
     finish_world(alloc, evaluator, node)
 }
 
-fn evaluate(evaluator: &mut Evaluator<'_>, node: &Text, sets: &Version) -> Result<(), Stop>
+fn evaluate(
+    alloc: Global,
+    evaluator: &mut Evaluator<'_>,
+    node: &Text,
+    sets: &Version,
+) -> Result<(), Stop>
     ensures { Gives nothing (spec.evaluated evaluator.old.world.environment evaluator.old.node node.now sets.now
         evaluator.old.world) result evaluator.new.world }
 {
     evaluator.run_main()?;
-    run_rounds(evaluator, sets, node)
+    run_rounds(alloc, evaluator, sets, node)
 }
 
 fn finish_world(
@@ -89,7 +94,7 @@ fn finish_world(
 ) -> Result<(Catalog, ExportSet), Stop>
     ensures { Answers result (spec.finished_world node.now evaluator.entry.world) }
 {
-    let (book, overrides, relations, log) = evaluator.into_parts();
+    let (book, overrides, relations, log) = evaluator.parts();
     let (catalog, exports) = finish(alloc, book, overrides, relations, node)?;
     Ok((with_log(catalog, log), exports))
 }

@@ -18,7 +18,7 @@ use Rattle.res_core.specs.Criteria.{Criterion, all, by_tag}
 use Rattle.res_core.specs.NativeTypes as natives
 use Rattle.res_core.specs.NativeTypes.{native_of}
 use Rattle.res_core.specs.declared.resource.Resource.{Resource}
-use Rattle.eval_collecting.specs.Importing.{finds, tested, declare_rule, import_rule, import_match}
+use Rattle.eval_collecting.specs.Importing.{finds, tested, declare_rule, import_rule, import_match, imports}
 use Rattle.eval_resources.specs.Checks.{settings_known}
 use Rattle.eval_collecting.specs.Matching.{takes, local_match}
 use Rattle.eval_world.specs.Environment.{Environment}
@@ -26,7 +26,7 @@ use Rattle.eval_world.specs.Outcomes.{Outcome}
 use Rattle.eval_world.specs.Owners.{owner_at}
 use Rattle.eval_world.specs.Worlds.{empty}
 use Rattle.eval_world.specs.declared.world.World.{World}
-use Rattle.defined_types.specs.Rounds.{take_from, take_imports, imports, collector_turn, turns_from, round, run_instances, rounds_left}
+use Rattle.defined_types.specs.Rounds.{take_from, take_imports, collector_turn, turns_from, round, run_instances, rounds_left}
 
 abbrev place : ℕ → Place
 place line = record { file = codes "manifests/site.pp"; line = line }
@@ -46,8 +46,15 @@ virtual title tag = new_row (record {
 }) mode.Virtual
 
 abbrev collector : Bool → Criterion → Collector
-collector exported query =
-    record { kind = codes "notify"; query = query; at = place 2; owner = 0; exported = exported; realized = None }
+collector exported query = record {
+  kind = codes "notify";
+  query = query;
+  at = place 2;
+  owner = 0;
+  exported = exported;
+  lines = [];
+  realized = None;
+}
 
 abbrev asks_for : List ℕ → Collector
 asks_for tag = collector false (by_tag (d.text tag))
@@ -55,7 +62,7 @@ asks_for tag = collector false (by_tag (d.text tag))
 abbrev with_two : List Collector → Environment → World
 with_two cs m = record (empty m) {
   book = virtual (codes "a") (codes "t") ∷ virtual (codes "b") (codes "u") ∷ [];
-  relations = record { lines = []; containments = []; collectors = cs };
+  relations = record { lines = []; containments = []; collectors = cs; applied = [] };
 }
 
 abbrev nothing : Sets

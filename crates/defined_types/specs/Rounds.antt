@@ -1,19 +1,17 @@
 -- Rounds: what collectors take, and the instances of defines, again and again, until a round adds nothing.
 use Rattle.std.specs.Prelude.{ℕ, zero, suc, ◌+◌, Bool, true, false, ◌||◌, if◌then◌else◌, List, [], ◌∷◌, length, filter}
-use Rattle.std.specs.Prelude.{Option, None, Some, slice_get}
+use Rattle.std.specs.Prelude.{Option, None, Some}
 use Rattle.std.specs.List.{range_with_len}
 use Rattle.export_store.specs.ExportQueries.{Placed, exports_of, is_found}
 use Rattle.export_store.specs.Sets.{Sets}
 use Rattle.pp_values.specs.declared.fault.What.TheVariants as what
 use Rattle.res_book.specs.Rows.{is_pending_at}
-use Rattle.res_book.specs.declared.collector.Collector.{Collector}
 use Rattle.res_book.specs.declared.row.Row.{Row}
 use Rattle.class_eval.specs.Evaluating.{instance_at}
-use Rattle.eval_collecting.specs.Importing.{import_match}
+use Rattle.eval_collecting.specs.Importing.{import_match, imports}
 use Rattle.eval_collecting.specs.Matching.{local_match}
 use Rattle.eval_world.specs.Outcomes.{Step, ◌>>=◌, ◌>>◌, pure}
 use Rattle.eval_world.specs.Worlds.{fault, top}
-use Rattle.eval_world.specs.declared.world.World.{World}
 
 -- ---- one collector: first the local declarations, by number
 
@@ -38,18 +36,6 @@ take_imports c added (p ∷ ps) = do
 -- what the other nodes export of a kind, from one version of their sets
 abbrev pub others : List ℕ → List ℕ → Sets → List Placed
 others kind node sets = filter (is_found kind None node) (exports_of sets)
-
--- the kind whose exports a collector takes, where it takes any
-abbrev pub kind_imported : Bool → List ℕ → Option (List ℕ)
-kind_imported true kind = Some kind
-kind_imported false kind = None
-
-abbrev pub imports_by : Option Collector → Option (List ℕ)
-imports_by None = None
-imports_by (Some c) = kind_imported c.exported c.kind
-
-abbrev pub imports : World → ℕ → Option (List ℕ)
-imports w c = imports_by (slice_get w.relations.collectors c)
 
 abbrev pub import_kind : ℕ → Bool → Option (List ℕ) → List ℕ → Sets → Step Bool
 import_kind c added None node sets = pure added

@@ -9,13 +9,12 @@ use res_book::Book;
 use std::alloc::Global;
 
 /// Evaluates the instances that are pending now. `added` says whether something was added before.
-pub fn run_pending(evaluator: &mut Evaluator<'_>, added: bool) -> Result<bool, Stop>
+pub fn run_pending(alloc: Global, evaluator: &mut Evaluator<'_>, added: bool) -> Result<bool, Stop>
     ensures world { Gives same
         (spec.run_instances added (spec.pending evaluator.old.world.book) evaluator.old.world) result evaluator.new.world }
     ensures node { evaluator.new.node ≡ evaluator.old.node }
 {
-    let alloc = evaluator.world.heap.alloc();
-    let numbers = pending(alloc, &evaluator.world.book)?;
+    let numbers = pending(alloc, evaluator.book())?;
     run_instances(evaluator, added, numbers.as_slice())
 }
 

@@ -63,8 +63,15 @@ row m = new_row (of a 3) m
 
 -- of this form, with this query
 abbrev collector : Bool → Criterion → Collector
-collector exported query =
-    record { kind = codes "notify"; query = query; at = place 7; owner = 0; exported = exported; realized = None }
+collector exported query = record {
+  kind = codes "notify";
+  query = query;
+  at = place 7;
+  owner = 0;
+  exported = exported;
+  lines = [];
+  realized = None;
+}
 
 abbrev realizing : List ℕ → Collector
 realizing title = record (collector false all) { realized = Some (record { kind = codes "notify"; title = title }) }
@@ -112,7 +119,10 @@ asked_for_one = (refl, refl)
 
 abbrev with_rows : List Row → Collector → Environment → World
 with_rows rows c m =
-    record (empty m) { book = rows; relations = record { lines = []; containments = []; collectors = c ∷ [] } }
+    record (empty m) {
+      book = rows;
+      relations = record { lines = []; containments = []; collectors = c ∷ []; applied = [] };
+    }
 
 -- the answer, and which declarations are marked after it
 abbrev marks : List Row → List Bool

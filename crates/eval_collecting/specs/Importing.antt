@@ -25,6 +25,23 @@ use Rattle.eval_world.specs.declared.owner.Owner.{Owner}
 use Rattle.eval_world.specs.declared.world.World.{World}
 use Rattle.eval_collecting.specs.Matching.{asks, reference_of}
 
+-- ---- which collectors import
+
+-- the kind whose exports a collector takes, where it takes any
+abbrev pub kind_imported : Bool → List ℕ → Option (List ℕ)
+kind_imported true kind = Some kind
+kind_imported false kind = None
+
+abbrev pub imports_by : Option Collector → Option (List ℕ)
+imports_by None = None
+imports_by (Some c) = kind_imported c.exported c.kind
+
+-- a number of no collector imports nothing
+abbrev pub imports : World → ℕ → Option (List ℕ)
+imports w c = imports_by (slice_get w.relations.collectors c)
+
+-- ---- what they find
+
 -- `<<| |>>` finds what is of its kind and asked for, by the attributes and tags that were published
 unfoldable pub finds : Collector → Exported → Bool
 finds c e =

@@ -1,5 +1,5 @@
 //! Resources that other nodes export, as a collector imports them.
-ghost use Rattle.std.specs.Prelude.{◌≡◌, ◌<◌, length, slice_get, IfOk};
+ghost use Rattle.std.specs.Prelude.{◌≡◌, ◌<◌, length, option_copied, slice_get, IfOk};
 ghost use Rattle.eval_collecting.specs.Importing as spec;
 ghost use Rattle.eval_collecting.specs.Matching as matched;
 ghost use Rattle.eval_world.specs.Outcomes.{Gives, same};
@@ -12,6 +12,16 @@ use pp_values::{Fault, Memory, Reference, Stop, Text, What};
 use res_book::{Book, Collector, Mode};
 use res_core::{Declared, Exported, KnownNames, NativeType, Resource, copy_resource, native};
 use std::alloc::Global;
+
+/// The kind whose exports a collector takes, where it takes any.
+pub fn imports<'w>(world: &'w World<'_>, collector: u32) -> Option<&'w Text>
+    ensures { option_copied result ≡ spec.imports world.now collector }
+{
+    match world.relations.collectors().get(collector as usize) {
+        Some(collector) if collector.exported => Some(collector.kind.as_text()),
+        _ => None,
+    }
+}
 
 /// Whether one collector imports the resource that a node exports at this place of its set: true exactly where it is
 /// declared here.

@@ -4,5 +4,5 @@
 mod importing;
 mod matching;
 
-pub use importing::import_match;
+pub use importing::{import_match, imports};
 pub use matching::local_match;

@@ -415,7 +415,7 @@ classes = refl
 
 -- the value is evaluated, and then the collector is registered
 registered : Registers (collected_by sample (Some native.Notify) None 3 here)
-    (record { kind = kind; query = all; at = place 3; owner = 0; exported = true; realized = None })
+    (record { kind = kind; query = all; at = place 3; owner = 0; exported = true; lines = []; realized = None })
 unfolding register owner_at
 registered environment = refl
 

@@ -85,6 +85,7 @@ register n criterion at here = λ w. Ok (
       at = place_at w here at;
       exported = true;
       owner = here.owner;
+      lines = [];
       realized = None;
     }) w.relations;
   },

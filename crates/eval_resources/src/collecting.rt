@@ -13,7 +13,7 @@ use pp_tree::collector::{
 use pp_tree::expr::Expr;
 use pp_values::{Memory, Stop, What};
 use res_book::Collector;
-use res_core::{NativeType, Query, QueryBox, native};
+use res_core::{Lines, NativeType, Query, QueryBox, native};
 use std::alloc::Global;
 
 /// `File <<| tag == 'a' |>>`: it is registered behind the others.
@@ -154,6 +154,7 @@ fn register(
         at,
         exported: true,
         owner: here.owner,
+        lines: Lines::new(world.heap.alloc()),
         realized: None,
     })?;
     Ok(())

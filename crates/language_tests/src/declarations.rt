@@ -1,7 +1,9 @@
 //! The declarations of a compile: numbers, marks, and what is still to be evaluated. Which are refused is told by manifests.
 use pp_values::{Kind, Memory, Place, Reference, Stop, Text};
 use res_book::{Book, Collector, Containment, Mode, RelationLine, Relations};
-use res_core::{Attributes, Declared, KnownNames, Operands, Query, QueryBox, Resource, Tags};
+use res_core::{
+    Attributes, Declared, KnownNames, Lines, Operands, Query, QueryBox, Resource, Tags,
+};
 use std::alloc::Global;
 use std::test::Fail;
 
@@ -202,6 +204,7 @@ fn collector(alloc: Global, exported: bool) -> Result<Collector, Memory> {
         at: place(alloc, 4)?,
         exported,
         owner: 0,
+        lines: Lines::new(alloc),
         realized: None,
     })
 }

@@ -12,6 +12,7 @@ use Rattle.pp_values.specs.Datum as d
 use Rattle.pp_values.specs.Datum.{Datum, Pair, data_of, entries_of}
 use Rattle.pp_values.specs.Sort as n
 use Rattle.pp_values.specs.Sort.{Name, Sort, of, Arguments, none, kind, bound, text, types_arguments, texts_arguments}
+use Rattle.pp_types.specs.declared.data_type.TheConstants.{DATA_TYPES}
 use Rattle.pp_types.specs.Accepts.{type_accepts}
 use Rattle.pp_types.specs.Arguments.{kind_of}
 use Rattle.pp_types.specs.Includes.{includes_within, includes, type_includes}
@@ -341,12 +342,22 @@ names = refl
 no_names : list_any is_type_name (codes "" ∷ codes "::" ∷ codes "integer" ∷ codes "Web::vhost" ∷ codes "Web::" ∷ codes "Web:Vhost" ∷ codes "A-" ∷ codes "A--b" ∷ codes "A[" ∷ []) ≡ false
 no_names = refl
 
--- each data type by its name, and nothing else
-table : map type_named (codes "Any" ∷ codes "Undef" ∷ codes "Default" ∷ codes "Boolean" ∷ codes "Integer" ∷ codes "Numeric" ∷ codes "String" ∷ codes "Enum" ∷ codes "Scalar"
-    ∷ codes "Data" ∷ codes "Array" ∷ codes "Hash" ∷ codes "Collection" ∷ codes "Optional" ∷ codes "Variant" ∷ codes "NotUndef" ∷ codes "Tuple" ∷ codes "Type"
-    ∷ codes "CatalogEntry" ∷ codes "Class" ∷ codes "Resource" ∷ [])
-    ≡ n.any ∷ n.undef ∷ n.default ∷ n.boolean ∷ n.integer ∷ n.numeric ∷ n.string ∷ n.enum ∷ n.scalar ∷ n.data_ ∷ n.array ∷ n.hash ∷ n.collection ∷ n.optional ∷ n.variant
-    ∷ n.not_undef ∷ n.tuple ∷ n.type_ ∷ n.catalog_entry ∷ n.class ∷ n.resource ∷ []
+abbrev type_words : List (List ℕ)
+type_words =
+    codes "Any" ∷ codes "Undef" ∷ codes "Default" ∷ codes "Boolean" ∷ codes "Integer" ∷ codes "Numeric"
+    ∷ codes "String" ∷ codes "Enum" ∷ codes "Scalar" ∷ codes "Data" ∷ codes "Array" ∷ codes "Hash"
+    ∷ codes "Collection" ∷ codes "Optional" ∷ codes "Variant" ∷ codes "NotUndef" ∷ codes "Tuple" ∷ codes "Type"
+    ∷ codes "CatalogEntry" ∷ codes "Class" ∷ codes "Resource" ∷ []
+
+-- the table has these words, and no other
+words : map (λ w. w.0.now) DATA_TYPES ≡ type_words
+words = refl
+
+-- each of them is a data type
+table : map type_named type_words
+    ≡ n.any ∷ n.undef ∷ n.default ∷ n.boolean ∷ n.integer ∷ n.numeric ∷ n.string ∷ n.enum ∷ n.scalar ∷ n.data_
+    ∷ n.array ∷ n.hash ∷ n.collection ∷ n.optional ∷ n.variant ∷ n.not_undef ∷ n.tuple ∷ n.type_ ∷ n.catalog_entry
+    ∷ n.class ∷ n.resource ∷ []
 unfolding data_type_named
 table = refl
 

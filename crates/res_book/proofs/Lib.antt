@@ -1,3 +1,4 @@
+pub mod Applied
 pub mod Growth
 pub mod Rows
 pub mod Live

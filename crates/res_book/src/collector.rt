@@ -1,5 +1,5 @@
 use pp_values::{Kind, Place, Reference};
-use res_core::QueryBox;
+use res_core::{Lines, QueryBox};
 
 /// What takes declarations, as `File <| tag == 'a' |>` does.
 #[derive(Drop)]
@@ -11,6 +11,8 @@ pub struct Collector {
     pub owner: u32,
     /// Whether it takes exported declarations alone, and those that other nodes export, as `File <<| |>>` does.
     pub exported: bool,
+    /// What its block sets on each declaration that it takes.
+    pub lines: Lines,
     /// The one declaration that it takes, where it comes from the function `realize`.
     pub realized: Option<Reference>,
 }

@@ -1,35 +1,42 @@
 ghost use Rattle.std.specs.Prelude.{◌≡◌, ◌<◌, ◌^◌, length, is_ok, if◌then◌else◌, slice_get, IfOk};
 ghost use Rattle.res_book.specs.Relations.{no_relations, with_line, with_containment, with_collector};
+ghost use Rattle.res_book.specs.Relations.{is_applied, with_applied};
 
 use crate::collector::Collector;
 use crate::containment::Containment;
 use crate::relation_line::RelationLine;
 use pp_values::Memory;
 use std::alloc::Global;
+use std::collections::BTreeSet;
 use std::marker::Model;
 
-/// How many relation lines a compile may have, and as many pairs of `contain`, and collectors.
+/// How many relation lines a compile may have, and as many pairs of `contain`, collectors, and pairs of a collector and
+/// a declaration that its block was applied to.
 const LIMIT: usize = u32::MAX as usize;
 
 /// What the declarations of a compile have to do with each other, each list in the order of the manifest's evaluation:
-/// its relation lines, its pairs of `contain` and its collectors.
+/// its relation lines, its pairs of `contain` and its collectors; and which declarations the blocks of collectors were
+/// applied to.
 #[derive(Drop)]
 pub struct Relations {
     lines: Vec<RelationLine>,
     containments: Vec<Containment>,
     collectors: Vec<Collector>,
+    /// Numbers of collectors, each with that of a declaration.
+    applied: BTreeSet<(u32, u32)>,
 }
 
 impl Model for Relations {
-    ghost use Rattle.res_book.specs.Relations.{Related, coded_related, AreCounted};
+    ghost use Rattle.res_book.specs.Relations.{Related, coded_related, related, AreCounted};
 
     ghost Value = { Related };
 
     ghost coded = { coded_related };
 
-    ghost view = { λ r. record { lines = r.lines.items; containments = r.containments.items; collectors = r.collectors.items } };
+    ghost view = { λ r. related r.lines.items r.containments.items r.collectors.items r.applied.keys };
 
-    ghost invariant = { λ r. AreCounted (record { lines = r.lines.items; containments = r.containments.items; collectors = r.collectors.items }) };
+    ghost invariant = { λ r.
+        AreCounted (related r.lines.items r.containments.items r.collectors.items r.applied.keys) };
 }
 
 impl Relations {
@@ -40,6 +47,7 @@ impl Relations {
             lines: Vec::new(alloc),
             containments: Vec::new(alloc),
             collectors: Vec::new(alloc),
+            applied: BTreeSet::new(alloc),
         }
     }
 
@@ -116,5 +124,25 @@ impl Relations {
         ensures { slice_get self.now.collectors number ≡ Some result.now }
     {
         &self.collectors[number as usize]
+    }
+
+    /// Whether the block of a collector was applied to a declaration. Both are given by their numbers.
+    #[tactic(auto, using(crate::proofs::Applied::pair_found))]
+    pub fn is_applied(&self, collector: u32, declaration: u32) -> bool
+        ensures { result ≡ is_applied collector declaration self.now }
+    {
+        self.applied.contains(&(collector, declaration))
+    }
+
+    /// Marks that the block of a collector is applied to a declaration. Both are given by their numbers. Where there is
+    /// no memory, or no room for one more, all stays as it was.
+    pub fn mark_applied(&mut self, collector: u32, declaration: u32) -> Result<(), Memory>
+        ensures { self.new ≡ (if is_ok result then with_applied collector declaration self.old else self.old) }
+    {
+        if self.applied.len() >= LIMIT {
+            return Err(Memory);
+        }
+        self.applied.insert((collector, declaration))?;
+        Ok(())
     }
 }

@@ -28,8 +28,8 @@ use site_bundle::site::{Site, site_of_main};
 use site_bundle::stop_lines::stop_text;
 use site_core::compile_stop::CompileStop;
 use site_core::language::Language;
-use site_docs::catalog_texts::catalog_text;
-use site_docs::fault_texts::fault_text;
+use site_docs::catalog_texts::write_catalog;
+use site_docs::fault_texts::write_fault;
 use site_docs::log_texts::log_text;
 use site_io::Bytes;
 use std::alloc::Global;
@@ -111,12 +111,12 @@ fn catalog_output(alloc: Global, catalog: &Catalog) -> Result<Output, Memory>
 fn catalog_line(alloc: Global, catalog: &Catalog) -> Result<Text, Memory>
     ensures { IfOk result (λ text. text ≡ line (catalog_text catalog.now)) }
 {
-    line(alloc, catalog_text(alloc, catalog)?)
+    write_catalog(alloc, catalog)
 }
 
 /// The line of a fault.
 pub(crate) fn fault_line(alloc: Global, fault: &Fault) -> Result<Text, Memory>
     ensures { IfOk result (λ text. text ≡ line (fault_text fault.now)) }
 {
-    line(alloc, fault_text(alloc, fault)?)
+    write_fault(alloc, fault)
 }

@@ -1,5 +1,5 @@
 //! Catalogs as text.
-ghost use Rattle.std.specs.Prelude.{◌≡◌, ◌++◌, map, IfOk, OnOk};
+ghost use Rattle.std.specs.Prelude.{◌≡◌, ◌∷◌, [], ◌++◌, map, IfOk, OnOk};
 ghost use Rattle.serde_json.specs.Data.{string, array, object};
 ghost use Rattle.serde_json.specs.View.{items_of};
 ghost use Rattle.json_values.specs.ValueForm.{setting_members};
@@ -8,6 +8,7 @@ ghost use Rattle.site_docs.specs.Tokens.{data_tokens};
 ghost use Rattle.site_docs.specs.CatalogText.{index_data, held_data, edge_data, catalog_data, catalog_text};
 
 use crate::json_output::JsonOutput;
+use crate::lines::ended;
 use crate::value_output::write_value;
 use pp_values::kind::Kind;
 use pp_values::memory::Memory;
@@ -19,18 +20,25 @@ use res_core::edge::Edge;
 use res_core::held::Held;
 use std::alloc::{AllocError, Global};
 
-/// The catalog as one line of compact JSON, without a line feed at its end.
+/// The catalog as a document: one line of compact JSON, with a line feed at its end.
+pub fn write_catalog(alloc: Global, catalog: &Catalog) -> Result<Text, Memory>
+    ensures { IfOk result (λ t. t ≡ catalog_text catalog.now ++ 10 ∷ []) }
+{
+    ended(alloc, catalog_text(alloc, catalog)?)
+}
+
+/// The same without the line feed, as a part of a reply.
 #[tactic(auto, using(crate::proofs::Outlines::printed_data))]
 pub fn catalog_text(alloc: Global, catalog: &Catalog) -> Result<Text, Memory>
     ensures { IfOk result (λ t. t ≡ catalog_text catalog.now) }
 {
     let mut out = JsonOutput::new(alloc)?;
-    write_catalog(alloc, &mut out, catalog)?;
+    put_catalog(alloc, &mut out, catalog)?;
     Ok(out.into_text())
 }
 
 #[tactic(auto, unfolding(crate::specs::CatalogText::catalog_data, crate::specs::CatalogText::catalog_object))]
-fn write_catalog(alloc: Global, out: &mut JsonOutput, catalog: &Catalog) -> Result<(), Memory>
+fn put_catalog(alloc: Global, out: &mut JsonOutput, catalog: &Catalog) -> Result<(), Memory>
     ensures { OnOk result (out.new ≡ out.old ++ data_tokens (catalog_data catalog.now)) }
 {
     out.begin_object()?;

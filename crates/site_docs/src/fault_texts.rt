@@ -1,8 +1,9 @@
-ghost use Rattle.std.specs.Prelude.{◌≡◌, ◌++◌, map, codes, decimal, string_bytes, IfOk, OnOk};
+ghost use Rattle.std.specs.Prelude.{◌≡◌, ◌∷◌, [], ◌++◌, map, codes, decimal, string_bytes, IfOk, OnOk};
 ghost use Rattle.pp_values.specs.Words.{reference_text};
 ghost use Rattle.site_docs.specs.FaultText.{fault_number as number_of, fault_name as name_of, place_text, subject_text, links, cycle_text, details, spaced, in_line, plain_line as plain_line_of, fault_text};
 
 use crate::fault_names::FAULT_NAMES;
+use crate::lines::ended;
 use pp_values::fault::{Fault, Subject, What};
 use pp_values::memory::Memory;
 use pp_values::place::Place;
@@ -12,7 +13,14 @@ use pp_values::text::Text;
 use std::alloc::Global;
 
 /// The line that tells a fault, as `F14 manifests/site.pp:2 Duplicate Notify[a] manifests/site.pp:1`,
-/// without a line feed at its end.
+/// with a line feed at its end.
+pub fn write_fault(alloc: Global, fault: &Fault) -> Result<Text, Memory>
+    ensures { IfOk result (λ t. t ≡ fault_text fault.now ++ 10 ∷ []) }
+{
+    ended(alloc, fault_text(alloc, fault)?)
+}
+
+/// The same without the line feed, as a part of a reply.
 #[tactic(auto, unfolding(crate::specs::FaultText::fault_text))]
 pub fn fault_text(alloc: Global, fault: &Fault) -> Result<Text, Memory>
     ensures { IfOk result (λ t. t ≡ fault_text fault.now) }

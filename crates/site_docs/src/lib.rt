@@ -6,15 +6,16 @@ pub mod fault_names;
 pub mod fault_texts;
 pub mod journals;
 mod json_output;
+mod lines;
 pub mod log_texts;
 pub mod replies;
 mod resource_forms;
 pub mod site_texts;
 mod value_output;
 
-pub use catalog_texts::catalog_text;
+pub use catalog_texts::{catalog_text, write_catalog};
 pub use fault_names::FAULT_NAMES;
-pub use fault_texts::fault_text;
+pub use fault_texts::{fault_text, write_fault};
 pub use journals::write_journal;
 pub use log_texts::log_text;
 pub use replies::write_reply;

@@ -3,9 +3,9 @@
 //! `lookup NODE KEY` writes the value that a bundle's data have.
 #![tactic(auto)]
 
+use core::thread::{Anything, Stack};
 use site_commands::run_program;
-use site_io::{OpenGate, StandardError, StandardInput, StandardOutput};
-use std::alloc::Global;
+use site_io::{OpenGate, StandardError, StandardInput, StandardOutput, write_all};
 use std::process::ExitCode;
 use std::{env, io};
 use work_pool::on_large_stack;
@@ -13,10 +13,17 @@ use work_pool::on_large_stack;
 /// How many bytes the heap has room for from the beginning. Of these only the pages that are used take memory.
 const ROOM: usize = 16_777_216;
 
-/// Runs the program on the real words and streams.
+/// The stack of the thread that makes the heap, in bytes.
+const SMALL_STACK: usize = 131_072;
+
+/// The status for want of memory.
+const NO_MEMORY: u8 = 16;
+
+/// Runs the program on the real words and streams, on a thread with a large stack. Where that thread can't be had memory
+/// is wanting, and nothing is run.
 fn main(rt: HostRuntime) -> ExitCode {
-    on_large_stack(&rt, move || {
-        make_room(rt.alloc());
+    make_room(&rt);
+    let ended = on_large_stack(&rt, move || {
         run_program(
             &rt,
             rt.alloc(),
@@ -26,16 +33,38 @@ fn main(rt: HostRuntime) -> ExitCode {
             &mut StandardError::new(rt.stderr()),
             &OpenGate,
         )
-    })
+    });
+    match ended {
+        Ok(code) => code,
+        Err(_) => {
+            // The status tells the cause, whether the line can be written or not.
+            let _ = write_all(&mut StandardError::new(rt.stderr()), "memory\n".as_bytes());
+            ExitCode::from(NO_MEMORY)
+        }
+    }
 }
 
-/// Lets the heap grow once: it grows by a page each time else, and asks the kernel each time. No memory is held.
+/// Makes the heap of a thread, lets it grow once, and ends that thread, so that the next one has this heap: it grows by a
+/// page at a time else, and asks the kernel each time. No memory is held.
 ///
 /// The first block is none of the heap's own, but tells it to hold blocks of this size. The second becomes its own, so
 /// what is given back later is used again, and does not go to the kernel and come from there anew.
-fn make_room(alloc: Global) {
-    drop(Vec::<u8>::with_capacity(alloc, ROOM));
-    drop(Vec::<u8>::with_capacity(alloc, ROOM));
+///
+/// The heap is made before there is a large stack, since the allocator asks for 128 MiB of addresses to lay out 64 of them.
+/// A thread for which it can't do that has no heap, and each of its blocks takes pages of its own.
+fn make_room(rt: &HostRuntime) {
+    let alloc = rt.alloc();
+    let grow = move || {
+        drop(Vec::<u8>::with_capacity(alloc, ROOM));
+        drop(Vec::<u8>::with_capacity(alloc, ROOM));
+    };
+    match Stack::new()
+        .stack_size(SMALL_STACK)
+        .spawn_with(rt, Anything, grow)
+    {
+        Ok(thread) => thread.join(rt),
+        Err(_) => {}
+    }
 }
 
 fn command_line(rt: &HostRuntime) -> io::Result<Vec<String>> {

@@ -126,6 +126,7 @@ one_containment x r = record {
   lines = stays r.lines;
   containments = goes_on r.containments (x ∷ []);
   collectors = stays r.collectors;
+  applied = λ c n is. is;
 }
 
 contain_by_grows : (number : Option ℕ) (here : Here) → Grows (contain_by number here)

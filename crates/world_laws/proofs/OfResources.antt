@@ -73,6 +73,7 @@ one_collector x r = record {
   lines = stays r.lines;
   containments = stays r.containments;
   collectors = goes_on r.collectors (x ∷ []);
+  applied = λ c n is. is;
 }
 
 register_grows : (n : NativeType) (c : Criterion) (at : ℕ) (here : Here) → Grows (register n c at here)

@@ -12,9 +12,9 @@ use Rattle.eval_world.specs.Outcomes.{Outcome, Step}
 use Rattle.eval_world.specs.Owners.{owner_at}
 use Rattle.eval_world.specs.Worlds.{put}
 use Rattle.eval_world.specs.declared.world.World.{World}
-use Rattle.eval_collecting.specs.Importing.{item_of, declare_rule, import_rule, new_owner, import_for, import_match}
+use Rattle.eval_collecting.specs.Importing.{item_of, declare_rule, import_rule, imports, new_owner, import_for, import_match}
 use Rattle.eval_collecting.specs.Matching.{takes_at, local_match}
-use Rattle.defined_types.specs.Rounds.{take_from, take_locals, take_imports, imports, import_kind, import_all}
+use Rattle.defined_types.specs.Rounds.{take_from, take_locals, take_imports, import_kind, import_all}
 use Rattle.defined_types.specs.Rounds.{collector_turn, turns_from, all_turns, pending, run_instances, round, again}
 use Rattle.defined_types.specs.Rounds.{rounds_left, rounds, limit}
 use Rattle.world_laws.specs.Growing.{Reaches, Grows}

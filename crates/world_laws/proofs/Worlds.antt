@@ -35,6 +35,7 @@ same_relations r = record {
   lines = stays r.lines;
   containments = stays r.containments;
   collectors = stays r.collectors;
+  applied = λ c n is. is;
 }
 
 overrides_on : {r s t : State} → OverridesStay r s → OverridesStay s t → OverridesStay r t
@@ -48,6 +49,7 @@ relations_on f g = record {
   lines = further f.lines g.lines;
   containments = further f.containments g.containments;
   collectors = further f.collectors g.collectors;
+  applied = λ c n is. g.applied c n (f.applied c n is);
 }
 
 -- ---- all of them

@@ -1,10 +1,10 @@
 -- How the world of a compile grows: nothing that was put into it is replaced or taken out.
-use Rattle.std.specs.Prelude.{◌≡◌, ℕ, List, [], ◌∷◌, ◌++◌, Some}
+use Rattle.std.specs.Prelude.{◌≡◌, ℕ, List, [], ◌∷◌, ◌++◌, Some, IsTrue}
 use Rattle.pp_values.specs.Datum.{Datum}
 use Rattle.override_rules.specs.Defaults.{default_in}
 use Rattle.override_rules.specs.Meaning.{State}
 use Rattle.res_book.specs.Growth as rows
-use Rattle.res_book.specs.Relations.{Related}
+use Rattle.res_book.specs.Relations.{Related, is_applied}
 use Rattle.scope_core.specs.Names.{Name, value_of}
 use Rattle.scope_core.specs.Scopes.{Scope}
 use Rattle.eval_world.specs.Owners.{Owners}
@@ -42,11 +42,13 @@ pub record OverridesStay (old new : State) : Type 0 where
   pub defaults : (kind : List ℕ) (scope : ℕ) (name : List ℕ) (d : Datum) →
       default_in old.defaults kind scope name ≡ Some d → default_in new.defaults kind scope name ≡ Some d
 
--- relation lines, pairs of `contain` and collectors go on
+-- Relation lines, pairs of `contain` and collectors go on. A block that was applied to a declaration stays applied to
+-- it.
 pub record RelationsGoOn (old new : Related) : Type 0 where
   pub lines : GoesOn old.lines new.lines
   pub containments : GoesOn old.containments new.containments
   pub collectors : GoesOn old.collectors new.collectors
+  pub applied : (c n : ℕ) → IsTrue (is_applied c n old) → IsTrue (is_applied c n new)
 
 -- ---- all of it
 

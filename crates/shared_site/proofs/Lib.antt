@@ -3,3 +3,4 @@ pub mod Turns
 pub mod Calls
 pub mod Entries
 pub mod Answered
+pub mod Sent

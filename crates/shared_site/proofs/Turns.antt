@@ -13,9 +13,9 @@ use Rattle.site_core.specs.declared.done_stop.DoneStop.{DoneStop}
 use Rattle.site_core.specs.declared.done_stop.DoneStop.TheVariants as stop
 use Rattle.site_core.proofs.Legal.{some_entry}
 use Rattle.site_core.proofs.Growing.{stays}
-use Rattle.shared_site.specs.declared.addition.Addition.{Addition}
-use Rattle.shared_site.specs.declared.addition.Addition.TheVariants as v
-use Rattle.shared_site.specs.Additions.{entry_of, MayAdd}
+use Rattle.site_core.specs.declared.addition.Addition.{Addition}
+use Rattle.site_core.specs.declared.addition.Addition.TheVariants as v
+use Rattle.site_core.specs.Additions.{entry_of, MayAdd}
 use Rattle.shared_site.specs.Shows.{Shown, mark, shown, events_in, told, author_shown}
 use Rattle.shared_site.specs.Known.{Known, IsLater, HasAsked}
 use Rattle.shared_site.specs.Seats.{known, IsReady}
@@ -170,13 +170,13 @@ module _ {S C F : Type 0} (meaning : Meaning S C F) where
       MayAdd meaning addition now
   may_add_still (v.Publication node facts snapshot set) h now (rest, is) (shape, of, meant) =
       (shape, subst (Of snapshot) is (stays snapshot h rest of), meant)
-  may_add_still (v.Removal node) h now before may = may
+  may_add_still (v.Deactivation node) h now before may = may
 
 module _ {S : Type 0} where
   author_of_entry : (addition : Addition S) (author : ℕ) (h : List (Event S)) →
       author_of (entry_of addition author h) ≡ Some author
   author_of_entry (v.Publication node facts snapshot set) author h = refl
-  author_of_entry (v.Removal node) author h = refl
+  author_of_entry (v.Deactivation node) author h = refl
 
   -- the entry that the turn ends with
   pub one_entry : (p t : Held (Shown S)) (was : Known S) (c c' : Core S) (addition : Addition S) (author : ℕ) →

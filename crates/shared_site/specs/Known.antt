@@ -4,13 +4,14 @@ use Rattle.std.specs.Coded.{Coded, code_by, coded×, coded_list, coded_ℕ}
 use Rattle.atomic_table.specs.Seated.{table_id_coded}
 use mathlib.Core.List.{IsPrefix}
 use Rattle.hist_lock.specs.Held.{LockId}
-use Rattle.res_core.specs.Asked.{Asked}
+use Rattle.site_core.specs.Asked.{Asked}
 use Rattle.site_core.specs.Meaning.{Meaning}
 use Rattle.site_core.specs.Events.{Event, opens, coded_events}
 use Rattle.site_core.specs.Legal.{Legal}
-use Rattle.site_core.specs.Fits.{Listed, Fits, had, named}
+use Rattle.site_core.specs.Fits.{Listed, Fits, had_said, named}
 use Rattle.site_core.specs.declared.reply.ReplyOf.{ReplyOf}
-use Rattle.site_core.specs.declared.reply.ReplyOf.TheVariants as a
+use Rattle.site_core.specs.Said as t
+use Rattle.site_core.specs.Said.{Said, said}
 use Rattle.site_core.specs.declared.done_stop.DoneStop.{DoneStop}
 use Rattle.site_core.specs.declared.done_stop.DoneStop.TheVariants as stop
 
@@ -130,14 +131,18 @@ module _ {S : Type 0} where
   abbrev pub told_by : Known S → Told S
   told_by p = record { site = p.site; limit = p.limit; front = p.front }
 
--- how many entries a pass that had seen `seen` of them sees after the reply: as many as the reply tells; where memory
--- was wanting, no fewer than before
-abbrev pub Leaves : {C F : Type 0} → ℕ → ReplyOf C F → ℕ → Type 0
-Leaves seen a.Memory now = seen ≤ now
-Leaves seen reply now = now ≡ had seen reply
+module _ {C F : Type 0} where
+  abbrev pub LeavesSaid : ℕ → Said C F → ℕ → Type 0
+  LeavesSaid seen t.short now = seen ≤ now
+  LeavesSaid seen told now = now ≡ had_said seen told
+
+  -- how many entries a pass that had seen `seen` of them sees after the reply: as many as the reply tells; where memory
+  -- was wanting, no fewer than before
+  abbrev pub Leaves : ℕ → ReplyOf C F → ℕ → Type 0
+  Leaves seen reply now = LeavesSaid seen (said reply) now
 
 -- what a call does for the pass that makes it
-pub record IsAnswered {S C F : Type 0} (meaning : Meaning S C F) (listed : Listed S) (asked : Asked)
+pub record IsAnswered {S C F : Type 0} (meaning : Meaning S C F) (listed : Listed S) (asked : Asked S)
     (reply : ReplyOf C F) (p q : Known S) : Type 0 where
   pub later : IsLater p q
   pub legal : Legal meaning q.front

@@ -1,4 +1,3 @@
 pub mod Shows
 pub mod Known
 pub mod Seats
-pub mod Additions

@@ -1,7 +1,6 @@
 //! A site that threads share: compiles that run side by side over one history.
 #![tactic(auto)]
 
-mod addition;
 mod locked;
 mod pass;
 mod site;

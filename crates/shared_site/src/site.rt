@@ -1,29 +1,24 @@
-ghost use Rattle.std.specs.Prelude.{◌≡◌, ◌≤◌, ◌<◌, ◌+◌, length, IfOk, IfSome, IsOk, IsTrue, option_map};
+ghost use Rattle.std.specs.Prelude.{◌≡◌, ◌≤◌, ◌<◌, ◌+◌, length, IfOk, IsOk, IsTrue};
 ghost use mathlib.Core.List.{IsPrefix};
-ghost use Rattle.pp_values.specs.Views.{view};
-ghost use Rattle.pp_values.specs.Facts.{are_facts};
 ghost use Rattle.res_core.specs.RequestViews.{wanted};
-ghost use Rattle.res_core.specs.Asked.{compile as wants, deactivate as removes};
 ghost use Rattle.res_core.specs.AskedFacts.{has_facts};
+ghost use Rattle.site_core.specs.Additions.{entry_of, MayAdd};
+ghost use Rattle.site_core.specs.Asked.{compile as wants, plain, deactivate as ends};
 ghost use Rattle.site_core.specs.Events.{author_of};
 ghost use Rattle.site_core.specs.Legal.{Legal};
 ghost use Rattle.site_core.specs.Snapshots.{Of};
-ghost use Rattle.site_core.specs.Fits.{facts_for};
 ghost use Rattle.site_core.specs.declared.history.TheConstants.{MOST_ENTRIES};
 ghost use Rattle.hist_lock.specs.Calls.{IsLonger, AreAllCalls};
-ghost use Rattle.shared_site.specs.Additions.{entry_of, MayAdd};
 ghost use Rattle.shared_site.specs.Known.{held, IsLater, IsAnswered, HasAsked, opening, cut, cut_off, seeing, joined_to, told_by};
 
-use crate::addition::{Addition, add};
 use crate::locked::Locked;
 use crate::pass::{SiteNote, SitePass};
 use hist_lock::HistLock;
-use pp_values::copying::copy;
 use pp_values::memory::Memory;
 use pp_values::text::Text;
-use pp_values::value::Value;
 use res_core::request::CompileRequest;
-use site_core::compile_stop::CompileStop;
+use site_core::addition::{Addition, add};
+use site_core::compiling::{compile_under, deactivated, served};
 use site_core::done_stop::DoneStop;
 use site_core::history::History;
 use site_core::language::Language;
@@ -87,41 +82,14 @@ impl<L: Language + Drop> SharedSite<L> {
             return ReplyOf::Memory;
         };
         let k = snapshot.k;
-        if request.seen > k {
-            return ReplyOf::SeenAhead { length: k };
-        }
-        let Some(facts) = facts_for(&self.language, &snapshot.site, request) else {
-            return ReplyOf::UnknownNode { k };
-        };
-        let answer = self.language.compile(
-            alloc,
-            &snapshot.site,
-            &request.node,
-            facts,
-            &snapshot.version,
-        );
+        let compiled = compile_under(alloc, &self.language, snapshot, request);
         gate.between(rt);
-        let (catalog, set) = match answer {
-            Ok(compiled) => compiled,
-            Err(CompileStop::Fault(fault)) => return ReplyOf::Refused { k, fault },
-            Err(CompileStop::Memory) => return ReplyOf::Memory,
-        };
-        let Ok(node) = request.node.copy(alloc) else {
-            return ReplyOf::Memory;
-        };
-        let Ok(facts) = copy(alloc, facts) else {
-            return ReplyOf::Memory;
-        };
-        let addition = Addition::Publication {
-            node,
-            facts,
-            snapshot,
-            set,
-        };
-        match self.append(rt, alloc, pass, addition) {
-            Ok(entry) => ReplyOf::Served { entry, k, catalog },
-            Err(DoneStop::Full(length)) => ReplyOf::HistoryFull { length },
-            Err(DoneStop::Memory) => ReplyOf::Memory,
+        match compiled {
+            Ok((catalog, addition)) => {
+                let answer = self.append(rt, alloc, pass, addition);
+                served(k, catalog, answer)
+            }
+            Err(reply) => reply,
         }
     }
 
@@ -134,17 +102,13 @@ impl<L: Language + Drop> SharedSite<L> {
         node: &Text,
     ) -> Reply<L>
         requires site { pass.old.site ≡ self.now }
-        ensures { IsAnswered L.meaning L.listed (removes node.now) result pass.old pass.new }
+        ensures { IsAnswered L.meaning L.listed (plain (ends node.now)) result pass.old pass.new }
     {
         pass.keeps();
         let Ok(node) = node.copy(alloc) else {
             return ReplyOf::Memory;
         };
-        match self.append(rt, alloc, pass, Addition::Removal { node }) {
-            Ok(entry) => ReplyOf::Deactivated { entry },
-            Err(DoneStop::Full(length)) => ReplyOf::HistoryFull { length },
-            Err(DoneStop::Memory) => ReplyOf::Memory,
-        }
+        deactivated(self.append(rt, alloc, pass, Addition::Deactivation { node }))
     }
 
     // The site and the sets of a moment, in a turn of its own.
@@ -277,21 +241,5 @@ impl<L: Language + Drop> SharedSite<L> {
         let SitePass { pass, count: _ } = pass;
         let Locked { state } = lock.close(pass);
         state.into_history()
-    }
-}
-
-// The facts that count: those of the request, else those that the site lists for its node.
-fn facts_for<'a, L: Language>(
-    language: &L,
-    site: &'a L::Site,
-    request: &'a CompileRequest,
-) -> Option<&'a Value>
-    requires { IsTrue (has_facts (wanted request.now).facts) }
-    ensures these { option_map (λ v. view v.now) result ≡ facts_for L.listed site.now (wanted request.now) }
-    ensures facts { IfSome result (λ v. IsTrue (are_facts (view v.now))) }
-{
-    match &request.facts {
-        Some(facts) => Some(facts),
-        None => language.facts_of(site, &request.node),
     }
 }

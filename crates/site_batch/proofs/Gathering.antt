@@ -2,35 +2,19 @@
 use Rattle.std.proofs.Common.{◌≡◌, ℕ, ◌+◌, max, List, [], ◌∷◌, ◌++◌, length, Some, IsSome, Vec, refl, sym, ap, ◌∙◌, subst, arith, append_assoc, length-append}
 use Rattle.std.specs.declared.alloc.Global.{Global}
 use mathlib.Core.List.{IsPrefix}
-use Rattle.list_sums.specs.Counts.{total, times, same}
+use Rattle.list_sums.specs.Counts.{times, same}
 use Rattle.list_sums.proofs.Totals.{total-append}
 use Rattle.hist_lock.specs.Calls.{IsLonger}
 use Rattle.hist_lock.specs.Held.{LockId}
 use Rattle.hist_lock.proofs.Fronts.{prefix_self, prefix_trans}
 use mathlib.Core.Logic.{dite}
 use native.Mathlib.Decide.{dec_le}
-use Rattle.shared_site.specs.Known.{Known, held, joined_to}
+use Rattle.site_core.proofs.Each.{each_map, each_end}
+use Rattle.shared_site.specs.Known.{Known, joined_to}
 use Rattle.work_pool.specs.Seats.{ClaimsId, Claimant, joining}
 use Rattle.site_batch.specs.declared.answered.Answered.{Answered}
-use Rattle.site_batch.specs.Answers.{Each}
+use Rattle.site_core.specs.Each.{Each}
 use Rattle.site_batch.specs.Gathered.{Out, kept, all_answers, IsOf, AreGathered}
-
-module _ {A : Type 0} where
-  pub each_map : (P Q : A → Type 0) → ((x : A) → P x → Q x) → (xs : List A) → Each P xs → Each Q xs
-  each_map P Q f [] each = tt
-  each_map P Q f (x ∷ xs) each = (f x each.0, each_map P Q f xs each.1)
-
-  pub each_front : (P : A → Type 0) (xs ys : List A) → Each P (xs ++ ys) → Each P xs
-  each_front P [] ys each = tt
-  each_front P (x ∷ xs) ys each = (each.0, each_front P xs ys each.1)
-
-  pub each_back : (P : A → Type 0) (xs ys : List A) → Each P (xs ++ ys) → Each P ys
-  each_back P [] ys each = each
-  each_back P (x ∷ xs) ys each = each_back P xs ys each.1
-
-  pub each_end : (P : A → Type 0) (xs : List A) (y : A) (ys : List A) → Each P (xs ++ y ∷ ys) → P y
-  each_end P [] y ys each = each.0
-  each_end P (x ∷ xs) y ys each = each_end P xs y ys each.1
 
 module _ {E : Type 0} where
   -- the longer of two fronts begins with either

@@ -4,7 +4,7 @@ use Rattle.std.specs.List.{AllZip}
 use Rattle.std.specs.Prelude.{Result, Ok, Err, IfOk, Vec}
 use Rattle.std.specs.declared.alloc.Global.{Global}
 use Rattle.std.proofs.lemmas.List.{map-append}
-use Rattle.site_batch.specs.Answers.{Each}
+use Rattle.site_core.specs.Each.{Each}
 
 module _ {W : Type 0} where
   each-snoc : (P : W → Type 0) (xs : List W) (x : W) → Each P xs → P x → Each P (xs ++ x ∷ [])

@@ -3,7 +3,8 @@ use Rattle.std.proofs.Common.{◌≡◌, ℕ, zero, suc, ◌<◌, List, [], ◌�
 use Rattle.list_sums.specs.Counts.{total, times}
 use Rattle.list_sums.proofs.Marks.{below_yes}
 use Rattle.site_batch.specs.declared.answered.Answered.{Answered}
-use Rattle.site_batch.specs.Answers.{Each, indexes, AreAll, weigh, somes, AreFilled, AreOrdered}
+use Rattle.site_core.specs.Each.{Each}
+use Rattle.site_batch.specs.Answers.{indexes, AreAll, weigh, somes, AreFilled, AreOrdered}
 use native.Mathlib.Decide.{ℕ_discrete}
 use mathlib.Core.Logic.{dite}
 use Rattle.list_sums.proofs.Marks.{same_no}

@@ -1,9 +1,11 @@
 -- The request with a number.
 use Rattle.std.proofs.Common.{◌≡◌, ◌<◌, ℕ, zero, suc, Bool, true, false, ◌&&◌, IsTrue, List, [], ◌∷◌, length, get_or, slice_get, Some, refl, sym, ap, subst, arith}
+use Rattle.std.proofs.lemmas.List.{length-map}
 use Rattle.res_core.specs.Asked.{Asked}
 use Rattle.res_core.specs.RequestViews.{asked, all_asked}
 use Rattle.res_core.specs.AskedFacts.{asks_with_facts, give_facts}
 use Rattle.res_core.specs.declared.request.Request.{Request}
+use Rattle.site_core.specs.Asked.{asks, all_asks}
 
 at_map : (requests : List Request) (i : ℕ) (request : Request) → i < length (all_asked requests) →
     request ≡ get_or requests i request → slice_get (all_asked requests) i ≡ Some (asked request)
@@ -29,3 +31,13 @@ facts_at (x ∷ all) zero one given at =
     subst (λ a. IsTrue (asks_with_facts a)) is (both (asks_with_facts x) (give_facts all) given).0
 facts_at (x ∷ all) (suc i) one given at =
     facts_at all i one (both (asks_with_facts x) (give_facts all) given).1 at
+
+-- what it asks of a site
+pub asks_at : {S : Type 0} (all : List Asked) (i : ℕ) (one : Asked) → slice_get all i ≡ Some one →
+    slice_get (all_asks {S = S} all) i ≡ Some (asks one)
+asks_at [] i one at = absurd cc
+asks_at (x ∷ all) zero one at = let is : x ≡ one = cc in ap (λ a. Some (asks a)) is
+asks_at (x ∷ all) (suc i) one at = asks_at all i one at
+
+pub asks_length : (S : Type 0) (all : List Asked) → length (all_asks {S = S} all) ≡ length all
+asks_length S all = length-map all asks

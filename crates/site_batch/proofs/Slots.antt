@@ -1,9 +1,10 @@
 -- Places that are filled one after another.
 use Rattle.std.proofs.Common.{◌≡◌, ◌≢◌, ℕ, zero, suc, ◌+◌, ◌<◌, List, [], ◌∷◌, ◌++◌, length, replicate, set, slice_get, Option, Some, None, refl, sym, ap, ◌∙◌, arith, append_assoc}
-use Rattle.list_sums.specs.Counts.{total, times, below, same}
+use Rattle.list_sums.specs.Counts.{total, times, below}
 use Rattle.list_sums.proofs.Marks.{same_yes, below_lt, below_le}
 use Rattle.site_batch.specs.declared.answered.Answered.{Answered}
-use Rattle.site_batch.specs.Answers.{Each, indexes, AreAll, weigh, AreFilled}
+use Rattle.site_core.specs.Each.{Each}
+use Rattle.site_batch.specs.Answers.{indexes, AreAll, weigh, AreFilled}
 use native.Mathlib.Decide.{ℕ_discrete}
 use mathlib.Core.Logic.{dite}
 

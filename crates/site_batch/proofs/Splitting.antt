@@ -7,9 +7,9 @@ use Rattle.list_sums.proofs.Totals.{total-append}
 use Rattle.hist_lock.specs.Held.{LockId}
 use Rattle.hist_lock.proofs.Fronts.{prefix_self, prefix_trans}
 use Rattle.site_core.specs.Events.{Event}
-use Rattle.shared_site.specs.Known.{Known, held, cut, cut_off}
+use Rattle.shared_site.specs.Known.{Known, cut, cut_off}
 use Rattle.work_pool.specs.Seats.{ClaimsId, Claimant, first_seat, splitting, split_off}
-use Rattle.site_batch.specs.Answers.{Each}
+use Rattle.site_core.specs.Each.{Each}
 use Rattle.site_batch.specs.Shares.{Share, IsFirstPass, IsIdle, IsNew, is_author, pass_weight, seat_weight, AreShares}
 
 module _ {A : Type 0} (P : A → Type 0) where

@@ -1,22 +1,18 @@
 -- One more request is answered.
-use Rattle.std.proofs.Common.{◌≡◌, ℕ, ◌+◌, ◌≤◌, List, [], ◌∷◌, ◌++◌, map, length, slice_get, Some, None, refl, sym, ap, ◌∙◌, subst, arith, append_assoc, append-nil}
-use Rattle.std.specs.List.{filter_map, cons_option}
+use Rattle.std.proofs.Common.{◌≡◌, ℕ, ◌+◌, ◌≤◌, List, [], ◌∷◌, ◌++◌, length, slice_get, Some, None, refl, sym, ap, ◌∙◌, subst, arith, append_assoc, append-nil}
+use Rattle.std.specs.List.{cons_option}
 use Rattle.std.proofs.lemmas.List.{map-append}
 use Rattle.std.proofs.lemmas.List.Elements.{filter_map-append}
-use mathlib.Core.List.{IsPrefix}
-use Rattle.res_core.specs.Asked.{Asked}
-use Rattle.hist_lock.proofs.Fronts.{prefix_trans}
+use Rattle.site_core.specs.Asked.{Asked}
 use Rattle.site_core.specs.Meaning.{Meaning}
-use Rattle.site_core.specs.Events.{Event}
 use Rattle.site_core.specs.Legal.{Legal}
-use Rattle.site_core.specs.Fits.{Listed, had, named}
+use Rattle.site_core.specs.Fits.{Listed, named}
 use Rattle.site_core.specs.Runs.{Runs, picked, had_after, all_named}
 use Rattle.site_core.specs.declared.reply.ReplyOf.{ReplyOf}
-use Rattle.site_core.specs.declared.reply.ReplyOf.TheVariants as a
 use Rattle.site_core.proofs.Fitting.{fits_less}
-use Rattle.site_core.proofs.Running as core
-use Rattle.site_core.proofs.Running.{had_after-push, all_named-append, runs_push}
-use Rattle.shared_site.specs.Known.{Known, IsLater, Leaves, IsAnswered}
+use Rattle.site_core.proofs.Running.{had_after-push, all_named-snoc, runs_push, runs_under}
+use Rattle.shared_site.proofs.Answered.{later_trans, had_within}
+use Rattle.shared_site.specs.Known.{Known, IsAnswered}
 use Rattle.work_pool.specs.Seats.{Claimant, Draws}
 use Rattle.site_batch.specs.declared.answered.Answered.{Answered}
 use Rattle.site_batch.specs.Answers.{indexes}
@@ -37,42 +33,9 @@ rise-more : (low high next : ℕ) (xs : List ℕ) → high ≤ next → RiseWith
 rise-more low high next [] le rise = omega (arith, le, rise)
 rise-more low high next (x ∷ xs) le rise = (rise.0, rise-more (x + 1) high next xs le rise.1)
 
-module _ {C F : Type 0} where
-  all_named-snoc : (rs : List (ReplyOf C F)) (r : ReplyOf C F) → all_named (rs ++ r ∷ []) ≡ all_named rs ++ named r
-  all_named-snoc rs r = all_named-append rs (r ∷ []) ∙ ap (λ l. all_named rs ++ l) (append-nil (named r))
-
-  -- after the reply whoever had seen no more than the pass has seen no more than it does now
-  had_within : (s seen now : ℕ) (r : ReplyOf C F) → s ≤ seen → Leaves seen r now → had s r ≤ now
-  had_within s seen now (a.Served entry k catalog) le leaves = omega (arith, leaves)
-  had_within s seen now (a.Refused k fault) le leaves = omega (arith, leaves)
-  had_within s seen now (a.HistoryFull n) le leaves = omega (arith, leaves)
-  had_within s seen now (a.SeenAhead n) le leaves = omega (arith, leaves)
-  had_within s seen now (a.UnknownNode k) le leaves = omega (arith, leaves)
-  had_within s seen now (a.Deactivated entry) le leaves = omega (arith, leaves)
-  had_within s seen now a.Memory le leaves = omega (arith, le, leaves)
-
-module _ {S : Type 0} where
-  later_trans : (p q r : Known S) → IsLater p q → IsLater q r → IsLater p r
-  later_trans p q r one two = record {
-    site = two.site ∙ one.site;
-    limit = two.limit ∙ one.limit;
-    numbers = two.numbers ∙ one.numbers;
-    room = two.room ∙ one.room;
-    author = two.author ∙ one.author;
-    front = prefix_trans p.front q.front r.front one.front two.front;
-  }
-
 module _ {S C F : Type 0} (meaning : Meaning S C F) (listed : Listed S) where
-  -- replies that run under a history run under a longer one
-  pub runs_grow : (h now : List (Event S)) (limit author s : ℕ) (asked : List Asked) (replies : List (ReplyOf C F)) →
-      IsPrefix h now → length now ≤ limit → Runs meaning listed h limit author s asked replies →
-      Runs meaning listed now limit author s asked replies
-  runs_grow h now limit author s asked replies p few run =
-      subst (λ l. Runs meaning listed l limit author s asked replies) p.1
-      (core.runs_grow meaning listed h p.0 limit author s asked replies (omega (arith, ap length p.1, few)) run)
-
   -- a pass and a seat that have done nothing
-  pub started : (requests : List Asked) (p : Known S) (b : Claimant) → Legal meaning p.front → length p.front ≤ p.limit →
+  pub started : (requests : List (Asked S)) (p : Known S) (b : Claimant) → Legal meaning p.front → length p.front ≤ p.limit →
       1 ≤ length p.front → b.numbers ≡ [] → HasAnswered meaning listed requests p p b b []
   started requests p b legal few some idle = record {
     later = record {
@@ -94,8 +57,8 @@ module _ {S C F : Type 0} (meaning : Meaning S C F) (listed : Listed S) where
   }
 
   -- a seat drew a further number, the request was answered, and the answer was kept
-  pub stepped : (requests : List Asked) (p q now : Known S) (seat b drawn : Claimant)
-      (answers after : List (Answered (ReplyOf C F))) (answer : Answered (ReplyOf C F)) (asked : Asked) →
+  pub stepped : (requests : List (Asked S)) (p q now : Known S) (seat b drawn : Claimant)
+      (answers after : List (Answered (ReplyOf C F))) (answer : Answered (ReplyOf C F)) (asked : Asked S) →
       HasAnswered meaning listed requests p q seat b answers → Draws (Some answer.index) b drawn →
       slice_get requests answer.index ≡ Some asked → IsAnswered meaning listed asked answer.reply q now →
       length now.front ≤ now.limit → after ≡ answers ++ answer ∷ [] →
@@ -134,12 +97,12 @@ module _ {S C F : Type 0} (meaning : Meaning S C F) (listed : Listed S) where
       grown : Runs meaning listed now.front now.limit now.author 1 (picked requests (indexes answers)) (replies_of answers)
       grown = subst (λ n. Runs meaning listed now.front now.limit n 1 (picked requests (indexes answers)) (replies_of answers))
           (sym new.later.author) (subst (λ n. Runs meaning listed now.front n q.author 1 (picked requests (indexes answers))
-          (replies_of answers)) (sym new.later.limit) (runs_grow q.front now.front q.limit q.author 1
+          (replies_of answers)) (sym new.later.limit) (runs_under meaning listed q.front now.front q.limit q.author 1
           (picked requests (indexes answers)) (replies_of answers) new.later.front
           (omega (arith, few, new.later.limit)) done.run))
 
   -- a seat found that no number is left
-  pub drained : (requests : List Asked) (p q : Known S) (seat b after : Claimant)
+  pub drained : (requests : List (Asked S)) (p q : Known S) (seat b after : Claimant)
       (answers : List (Answered (ReplyOf C F))) → HasAnswered meaning listed requests p q seat b answers →
       Draws None b after →
       HasAnswered meaning listed requests p q seat after answers × (after.claims.count ≤ after.known)

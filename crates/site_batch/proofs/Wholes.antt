@@ -9,7 +9,7 @@ use Rattle.list_sums.proofs.Marks.{below_yes}
 use Rattle.hist_lock.specs.Calls.{AreAllCalls}
 use Rattle.hist_lock.specs.Held.{LockId}
 use Rattle.hist_lock.proofs.Fronts.{prefix_trans, at_front}
-use Rattle.res_core.specs.Asked.{Asked}
+use Rattle.site_core.specs.Asked.{Asked}
 use Rattle.site_core.specs.Meaning.{Meaning}
 use Rattle.site_core.specs.Events.{Event, opens, author_of}
 use Rattle.site_core.specs.Legal.{Legal}
@@ -20,14 +20,14 @@ use Rattle.shared_site.specs.Known.{Known, held, opening}
 use Rattle.shared_site.proofs.Entries.{all_entries}
 use Rattle.work_pool.specs.Seats.{ClaimsId, Claimant, Draws}
 use Rattle.site_batch.specs.declared.answered.Answered.{Answered}
-use Rattle.site_batch.specs.Answers.{Each, indexes, AreAll, AreOrdered}
+use Rattle.site_core.specs.Each.{Each}
+use Rattle.site_batch.specs.Answers.{indexes, AreAll, AreOrdered}
 use Rattle.site_batch.specs.Shares.{Share, IsIdle, IsNew, is_author, pass_weight, seat_weight, AreShares}
 use Rattle.site_batch.specs.Gathered.{Out, kept, shown, all_answers, IsOf, AreGathered, AreWorked}
 use Rattle.site_batch.specs.Work.{replies_of, RiseWithin, HasAnswered, HasWorked}
-use Rattle.site_core.proofs.Running.{times_named}
-use Rattle.site_batch.proofs.Gathering.{each_map, each_front, each_back}
+use Rattle.site_core.proofs.Running.{times_named, runs_under}
+use Rattle.site_core.proofs.Each.{each_map, each_front, each_back}
 use Rattle.site_batch.proofs.Slots.{indexes-append}
-use Rattle.site_batch.proofs.Turns.{runs_grow}
 
 rise_from : (low high : ℕ) (xs : List ℕ) → RiseWithin low high xs → RiseFrom low xs
 rise_from low high [] rise = tt
@@ -66,7 +66,7 @@ module _ {S : Type 0} where
       each_map (IsNew id limit first claims) (IsIdle id claims)
       (λ share new. (new.site_is, new.claims_are, new.idle)) shares are.new
 
-module _ {S C F : Type 0} (meaning : Meaning S C F) (listed : Listed S) (requests : List Asked) where
+module _ {S C F : Type 0} (meaning : Meaning S C F) (listed : Listed S) (requests : List (Asked S)) where
   -- whoever kept its answers did this
   done_with : (share : Share S) (q : Known S) (b : Claimant) (answers : Option (Vec (Answered (ReplyOf C F)) Global)) →
       HasWorked meaning listed requests share.0 share.1 q b (shown answers) → IsSome answers →
@@ -185,7 +185,7 @@ module _ {S C F : Type 0} (meaning : Meaning S C F) (listed : Listed S) (request
       let done = done_of share out worked.0 some.0 in
       let bound : out.pass.limit ≡ limit = done.0.later.limit ∙ new.0.limit_is in
       let mine = each_back (λ a. slice_get replies a.index ≡ Some a.reply) (all_answers outs) (kept out.answers) at in
-      let run = runs_grow meaning listed out.pass.front h limit out.pass.author 1 (picked requests (indexes (kept out.answers)))
+      let run = runs_under meaning listed out.pass.front h limit out.pass.author 1 (picked requests (indexes (kept out.answers)))
       (replies_of (kept out.answers)) (prefix_trans out.pass.front front h fronts.0 begins) few
       (subst (λ n. Runs meaning listed out.pass.front n out.pass.author 1 (picked requests (indexes (kept out.answers)))
       (replies_of (kept out.answers))) bound done.0.run) in (

@@ -1,12 +1,8 @@
 -- Answers that carry the places of their requests, and the list of their replies in that order.
 use Rattle.std.specs.Prelude.{◌≡◌, ℕ, ◌<◌, List, [], ◌∷◌, map, length, slice_get, Option, Some, None}
 use Rattle.list_sums.specs.Counts.{total, times, below}
+use Rattle.site_core.specs.Each.{Each}
 use Rattle.site_batch.specs.declared.answered.Answered.{Answered}
-
--- it holds of each member
-abbrev pub Each : {A : Type 0} → (A → Type 0) → List A → Type 0
-Each P [] = Unit {0}
-Each P (x ∷ xs) = P x × Each P xs
 
 module _ {T : Type 0} where
   -- the places of the requests

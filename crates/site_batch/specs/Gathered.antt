@@ -5,7 +5,7 @@ use Rattle.std.specs.declared.alloc.Global.{Global}
 use mathlib.Core.List.{IsPrefix}
 use Rattle.list_sums.specs.Counts.{total, times}
 use Rattle.hist_lock.specs.Held.{LockId}
-use Rattle.res_core.specs.Asked.{Asked}
+use Rattle.site_core.specs.Asked.{Asked}
 use Rattle.site_core.specs.Meaning.{Meaning}
 use Rattle.site_core.specs.Fits.{Listed}
 use Rattle.site_core.specs.declared.reply.ReplyOf.{ReplyOf}
@@ -13,7 +13,7 @@ use Rattle.shared_site.specs.Known.{Known, held}
 use Rattle.work_pool.specs.Seats.{ClaimsId, Claimant}
 use Rattle.site_batch.specs.declared.answered.Answered.{Answered}
 use Rattle.site_batch.specs.declared.worked.Worked.{Worked}
-use Rattle.site_batch.specs.Answers.{Each}
+use Rattle.site_core.specs.Each.{Each}
 use Rattle.site_batch.specs.Shares.{Share}
 use Rattle.site_batch.specs.Work.{HasWorked}
 
@@ -50,7 +50,7 @@ module _ {S T : Type 0} where
     pub answers_are : answers ≡ all_answers outs
 
 -- each share was worked with, and this came of it
-abbrev pub AreWorked : {S C F : Type 0} → Meaning S C F → Listed S → List Asked → List (Share S) →
+abbrev pub AreWorked : {S C F : Type 0} → Meaning S C F → Listed S → List (Asked S) → List (Share S) →
     List (Out S (ReplyOf C F)) → Type 0
 AreWorked meaning listed requests shares outs =
     AllZip (λ share out. HasWorked meaning listed requests share.0 share.1 out.pass out.seat (shown out.answers)) shares outs

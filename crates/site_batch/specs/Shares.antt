@@ -6,7 +6,7 @@ use Rattle.hist_lock.specs.Held.{LockId}
 use Rattle.site_core.specs.Events.{Event}
 use Rattle.shared_site.specs.Known.{Known, held}
 use Rattle.work_pool.specs.Seats.{ClaimsId, Claimant}
-use Rattle.site_batch.specs.Answers.{Each}
+use Rattle.site_core.specs.Each.{Each}
 
 -- a pass of a site and a seat of claims
 abbrev pub Share : Type 0 → Type 0

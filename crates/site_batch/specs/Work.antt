@@ -1,6 +1,6 @@
 -- What a worker has done: the requests whose numbers it drew, and their replies.
 use Rattle.std.specs.Prelude.{◌≡◌, ℕ, ◌+◌, ◌≤◌, List, [], ◌∷◌, ◌++◌, map, length, Option, Some, None}
-use Rattle.res_core.specs.Asked.{Asked}
+use Rattle.site_core.specs.Asked.{Asked}
 use Rattle.site_core.specs.Meaning.{Meaning}
 use Rattle.site_core.specs.Legal.{Legal}
 use Rattle.site_core.specs.Fits.{Listed}
@@ -25,7 +25,7 @@ pub record IsSameSeat (a b : Claimant) : Type 0 where
   pub room : b.room ≡ a.room
   pub held : b.held ≡ a.held
 
-module _ {S C F : Type 0} (meaning : Meaning S C F) (listed : Listed S) (requests : List Asked) where
+module _ {S C F : Type 0} (meaning : Meaning S C F) (listed : Listed S) (requests : List (Asked S)) where
   -- With a pass that was p at first and with a seat that had drawn nothing, these were answered so far.
   pub record HasAnswered (p q : Known S) (a b : Claimant) (answers : List (Answered (ReplyOf C F))) : Type 0 where
     pub later : IsLater p q

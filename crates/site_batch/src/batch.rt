@@ -2,10 +2,11 @@
 ghost use Rattle.std.specs.Prelude.{◌≡◌, ℕ, ◌+◌, ◌≤◌, length, IfOk, IsTrue};
 ghost use Rattle.list_sums.specs.Counts.{times, below};
 ghost use Rattle.res_core.specs.AskedFacts.{give_facts};
+ghost use Rattle.site_core.specs.Asked.{all_asks};
 ghost use Rattle.site_core.specs.Runs.{Whole};
 ghost use Rattle.site_core.specs.declared.history.TheConstants.{MOST_ENTRIES};
 ghost use Rattle.work_pool.specs.Seats.{first_seat};
-ghost use Rattle.site_batch.specs.Answers.{Each};
+ghost use Rattle.site_core.specs.Each.{Each};
 ghost use Rattle.site_batch.specs.Shares.{IsFirstPass, IsIdle, AreShares};
 ghost use Rattle.site_batch.specs.Gathered.{AreWorked, shown};
 ghost use Rattle.site_batch.specs.Work.{HasWorked};
@@ -60,7 +61,7 @@ where
     requires short { length requests.now ≤ MOST_ENTRIES }
     requires facts { IsTrue (give_facts requests.now) }
     ensures { IfOk result (λ r.
-        Whole L.meaning L.listed MOST_ENTRIES workers site requests.now r.replies r.history.entries) }
+        Whole L.meaning L.listed MOST_ENTRIES workers site (all_asks requests.now) r.replies r.history.entries) }
 {
     let (shared, pass) = SharedSite::open(alloc, language, site, MOST_ENTRIES)?;
     let (claims, seat) = Claims::new(alloc, requests.len() as u32)?;
@@ -118,7 +119,7 @@ where
     requires shares { Each (IsIdle site.now claims.now) shares.items }
     requires numbers { claims.now.count ≡ length requests.now }
     requires facts { IsTrue (give_facts requests.now) }
-    ensures { IfOk result (λ r. AreWorked L.meaning L.listed requests.now shares.items r.items) }
+    ensures { IfOk result (λ r. AreWorked L.meaning L.listed (all_asks requests.now) shares.items r.items) }
 {
     let mut jobs = Vec::with_capacity(alloc, shares.len())?;
     for (pass, seat) in shares {
@@ -145,7 +146,7 @@ where
     L::Site: Send + Sync,
     L::Catalog: Send,
     L::Fault: Send,
-    ensures { IfOk result (λ done. AllZip (λ w out. HasWorked L.meaning L.listed w.requests.now w.pass w.seat out.pass out.seat
+    ensures { IfOk result (λ done. AllZip (λ w out. HasWorked L.meaning L.listed (all_asks w.requests.now) w.pass w.seat out.pass out.seat
         (shown out.answers)) jobs.entry.items done.items) }
 {
     Ok(run_waiting(rt, alloc, jobs)?)

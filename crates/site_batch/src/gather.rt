@@ -1,6 +1,6 @@
 //! What all workers come back with, as one.
 ghost use Rattle.std.specs.Prelude.{◌≡◌, IfOk};
-ghost use Rattle.site_batch.specs.Answers.{Each};
+ghost use Rattle.site_core.specs.Each.{Each};
 ghost use Rattle.site_batch.specs.Gathered.{IsOf, AreGathered};
 
 use crate::answered::Answered;

@@ -2,6 +2,7 @@
 ghost use Rattle.std.specs.Prelude.{◌≡◌, ◌<◌, [], length, slice_get, Some, IsTrue};
 ghost use Rattle.res_core.specs.RequestViews.{asked};
 ghost use Rattle.res_core.specs.AskedFacts.{give_facts, asks_with_facts};
+ghost use Rattle.site_core.specs.Asked.{asks};
 ghost use Rattle.shared_site.specs.Known.{IsAnswered};
 
 use crate::answered::Answered;
@@ -38,11 +39,12 @@ pub type Work<L> = Worked<SitePass<L>, Reply<L>>;
 
 impl<'a, L: Language + Drop, G: Gate> WaitingJob for Worker<'a, L, G> {
     ghost use Rattle.std.specs.Prelude.{option_map};
+    ghost use Rattle.site_core.specs.Asked.{all_asks};
     ghost use Rattle.site_batch.specs.Work.{HasWorked};
 
     type Out = Work<L>;
 
-    ghost promise = { λ w out. HasWorked L.meaning L.listed w.requests.now w.pass w.seat out.pass
+    ghost promise = { λ w out. HasWorked L.meaning L.listed (all_asks w.requests.now) w.pass w.seat out.pass
         out.seat (option_map (λ answers. answers.items) out.answers) };
 
     fn run<R: Wait>(self, rt: &R) -> Work<L> {
@@ -98,7 +100,7 @@ fn answer<L: Language + Drop, G: Gate, R: Wait>(
 ) -> Reply<L>
     requires site { pass.old.site ≡ site.now }
     requires facts { IsTrue (asks_with_facts (asked request.now)) }
-    ensures { IsAnswered L.meaning L.listed (asked request.now) result pass.old pass.new }
+    ensures { IsAnswered L.meaning L.listed (asks (asked request.now)) result pass.old pass.new }
 {
     match request {
         Request::Compile(request) => site.serve_one(rt, alloc, pass, request, gate),

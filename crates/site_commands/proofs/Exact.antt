@@ -5,6 +5,7 @@ use Rattle.std.specs.Prelude.{Option, Result, Ok, Err, Some, if◌then◌else◌
 use Rattle.std.specs.List.{list_any}
 use Rattle.hiera_merge.specs.declared.merge.Merge.{Merge}
 use Rattle.site_core.specs.declared.history.TheConstants.{MOST_ENTRIES}
+use Rattle.site_core.specs.Asked.{all_asks}
 use Rattle.site_core.specs.Events.{opens}
 use Rattle.site_bundle.specs.Bundles.{bundle_in, bundle_of}
 use Rattle.site_bundle.specs.Documents.{json_of}
@@ -67,7 +68,7 @@ status_of-run output bundle run =
           else a.Done (run_text bundle.requests run.replies run.history))) is)
       | false ↦ λ is. inl (ap output_status run.is
           ∙ sym (ap (outcome_status bundle.requests) (meant puppet listed MOST_ENTRIES (opens bundle.site ∷ [])
-          run.history bundle.requests run.replies run.in_turn is)))
+          run.history (all_asks bundle.requests) run.replies run.in_turn is)))
     ] refl
 
 status_of-bundle : (output : Output) (read : Result Bundle Refusal) → TellsOf HasRun output read →

@@ -4,6 +4,7 @@ use Rattle.pp_values.specs.declared.fault.Fault.{Fault}
 use Rattle.res_core.specs.declared.catalog.Catalog.{Catalog}
 use Rattle.res_core.specs.Asked as requests
 use Rattle.site_core.specs.declared.history.TheConstants.{MOST_ENTRIES}
+use Rattle.site_core.specs.Asked.{all_asks}
 use Rattle.site_core.specs.Events.{opens}
 use Rattle.site_bundle.specs.Bundles.{bundle_of}
 use Rattle.site_bundle.specs.declared.limits.TheConstants.{MOST_FILE_BYTES}
@@ -104,7 +105,7 @@ outcome_status asked None = 16
 
 abbrev pub bundle_status : Result Bundle Refusal → ℕ
 bundle_status (Ok bundle) = outcome_status bundle.requests
-    (outcome_of puppet listed MOST_ENTRIES (opens bundle.site ∷ []) bundle.requests)
+    (outcome_of puppet listed MOST_ENTRIES (opens bundle.site ∷ []) (all_asks bundle.requests))
 bundle_status (Err refusal) = 11
 
 -- replies of a batch may tell of a refusal or not, by how the workers' turns fall

@@ -11,6 +11,7 @@ use Rattle.res_core.specs.Asked as requests
 use Rattle.res_core.specs.declared.catalog.Catalog.{Catalog}
 use Rattle.res_core.specs.declared.export_set.ExportSet.{ExportSet}
 use Rattle.site_core.specs.declared.history.TheConstants.{MOST_ENTRIES}
+use Rattle.site_core.specs.Asked.{all_asks}
 use Rattle.site_core.specs.Events.{Event, opens}
 use Rattle.site_core.specs.Runs.{Whole}
 use Rattle.site_core.specs.declared.reply.ReplyOf.{ReplyOf}
@@ -81,8 +82,9 @@ run_text asked replies history = journal_text history ++ reply_lines 0 asked rep
 pub record HasRun (output : Output) (bundle : Bundle) : Type 0 where
   pub replies : List (ReplyOf Catalog Fault)
   pub history : List (Event SiteView)
-  pub in_turn : AnsweredInTurn puppet listed MOST_ENTRIES (opens bundle.site ∷ []) bundle.requests replies history
-  pub whole : Whole puppet listed MOST_ENTRIES 1 bundle.site bundle.requests replies history
+  pub in_turn :
+      AnsweredInTurn puppet listed MOST_ENTRIES (opens bundle.site ∷ []) (all_asks bundle.requests) replies history
+  pub whole : Whole puppet listed MOST_ENTRIES 1 bundle.site (all_asks bundle.requests) replies history
   pub is : output ≡ output_of replies (run_text bundle.requests replies history)
 
 -- Workers shared out the requests of a bundle, and answered them so over one history that begins with its site. The output
@@ -90,7 +92,7 @@ pub record HasRun (output : Output) (bundle : Bundle) : Type 0 where
 pub record HasShared (workers : ℕ) (output : Output) (bundle : Bundle) : Type 0 where
   pub replies : List (ReplyOf Catalog Fault)
   pub history : List (Event SiteView)
-  pub whole : Whole puppet listed MOST_ENTRIES workers bundle.site bundle.requests replies history
+  pub whole : Whole puppet listed MOST_ENTRIES workers bundle.site (all_asks bundle.requests) replies history
   pub is : output ≡ output_of replies (run_text bundle.requests replies history)
 
 -- `lookup`: the form of the value that the bundle's data have, on one line, or the line of the fault. Nothing is asked of

@@ -6,7 +6,8 @@ use Rattle.std.proofs.Math.Dec.{lit≤}
 use Rattle.list_sums.specs.Counts.{total, times, below}
 use Rattle.list_sums.proofs.Marks.{below_next, below_no}
 use Rattle.pp_values.specs.Datum.{Datum, hash, no_entries}
-use Rattle.res_core.specs.Asked.{Wanted, Asked, compile, deactivate}
+use Rattle.res_core.specs.Asked.{Wanted}
+use Rattle.site_core.specs.Asked.{Asked, compile, plain, deactivate}
 use Rattle.res_core.specs.declared.export_set.ExportSet.{ExportSet}
 use Rattle.site_core.specs.Meaning.{Meaning}
 use Rattle.site_core.specs.Events.{Event, opens, publishes, deactivates}
@@ -53,7 +54,7 @@ four =
     ∷ deactivates (record { author = 0; call = 1; node = codes "a" }) ∷ []
 
 -- the reply fits under `four` and a limit of 4, for an author who had seen s entries
-abbrev FitsFour : ℕ → ℕ → Asked → ReplyOf ℕ (List ℕ) → Type 0
+abbrev FitsFour : ℕ → ℕ → Asked ℕ → ReplyOf ℕ (List ℕ) → Type 0
 FitsFour = Fits toy listed four 4
 
 -- what fits
@@ -115,10 +116,10 @@ full = (
   ),
 )
 
-removed : FitsFour 0 2 (deactivate (codes "a")) (r.Deactivated 3)
-removed = (lit≤ tt, record { inside = lit≤ tt; call = 1; at = refl })
+removed : FitsFour 0 2 (plain (deactivate (codes "a"))) (r.Deactivated 3)
+removed = (refl, lit≤ tt, record { inside = lit≤ tt; call = 1; at = refl })
 
-full_for_a_removal : FitsFour 1 3 (deactivate (codes "b")) (r.HistoryFull 4)
+full_for_a_removal : FitsFour 1 3 (plain (deactivate (codes "b"))) (r.HistoryFull 4)
 full_for_a_removal = (refl, refl)
 
 memory : FitsFour 0 9 (compile (asks (codes "a") 9)) r.Memory
@@ -198,24 +199,24 @@ longer_than_it_is (had, wrong, more) = let high : 5 ≤ 4 = wrong in omega (arit
 not_full : Fits toy listed four 5 0 1 (compile (asks (codes "a") 0)) (r.HistoryFull 5) → ⊥
 not_full (is, wrong, rest) = let full : 4 ≡ 5 = wrong in omega (arith, full)
 
-full_at_another_length : FitsFour 0 1 (deactivate (codes "a")) (r.HistoryFull 3) → ⊥
+full_at_another_length : FitsFour 0 1 (plain (deactivate (codes "a"))) (r.HistoryFull 3) → ⊥
 full_at_another_length (wrong, full) = let is : 3 ≡ 4 = wrong in omega (arith, is)
 
-not_removed : FitsFour 0 1 (deactivate (codes "a")) (r.Deactivated 1) → ⊥
-not_removed (had, is) = absurd (cc (is.at))
+not_removed : FitsFour 0 1 (plain (deactivate (codes "a"))) (r.Deactivated 1) → ⊥
+not_removed (kind, had, is) = absurd (cc (is.at))
 
-removed_before : FitsFour 0 4 (deactivate (codes "a")) (r.Deactivated 3) → ⊥
-removed_before (wrong, is) = let had : 4 ≤ 3 = wrong in omega (arith, had)
+removed_before : FitsFour 0 4 (plain (deactivate (codes "a"))) (r.Deactivated 3) → ⊥
+removed_before (kind, wrong, is) = let had : 4 ≤ 3 = wrong in omega (arith, had)
 
 -- two authors
 
-abbrev three_requests : List Asked
-three_requests = compile (asks (codes "a") 0) ∷ compile (asks_with_facts (codes "b") 0) ∷ deactivate (codes "a") ∷ []
+abbrev three_requests : List (Asked ℕ)
+three_requests = compile (asks (codes "a") 0) ∷ compile (asks_with_facts (codes "b") 0) ∷ plain (deactivate (codes "a")) ∷ []
 
 abbrev three_replies : List (ReplyOf ℕ (List ℕ))
 three_replies = r.Served 1 1 5 ∷ r.Served 2 1 5 ∷ r.Deactivated 3 ∷ []
 
-first_and_third : picked three_requests (0 ∷ 2 ∷ []) ≡ compile (asks (codes "a") 0) ∷ deactivate (codes "a") ∷ []
+first_and_third : picked three_requests (0 ∷ 2 ∷ []) ≡ compile (asks (codes "a") 0) ∷ plain (deactivate (codes "a")) ∷ []
 first_and_third = refl
 
 served_at_first : FitsFour 0 1 (compile (asks (codes "a") 0)) (r.Served 1 1 5)
@@ -276,11 +277,11 @@ two_authors = record {
 }
 
 -- an entry that no reply names, and one that two name
-unnamed : Whole toy listed 4 1 5 (deactivate (codes "a") ∷ []) (r.Memory ∷ [])
+unnamed : Whole toy listed 4 1 5 (plain (deactivate (codes "a")) ∷ []) (r.Memory ∷ [])
     (opens 5 ∷ deactivates (record { author = 0; call = 0; node = codes "a" }) ∷ []) → ⊥
 unnamed w = let wrong : 0 ≡ 1 = w.once 1 in omega (arith, wrong)
 
-named_twice : Whole toy listed 4 1 5 (deactivate (codes "a") ∷ deactivate (codes "a") ∷ [])
+named_twice : Whole toy listed 4 1 5 (plain (deactivate (codes "a")) ∷ plain (deactivate (codes "a")) ∷ [])
     (r.Deactivated 1 ∷ r.Deactivated 1 ∷ [])
     (opens 5 ∷ deactivates (record { author = 0; call = 0; node = codes "a" }) ∷ []) → ⊥
 named_twice w = let wrong : 2 ≡ 1 = w.once 1 in omega (arith, wrong)

@@ -1,14 +1,16 @@
 -- What fits a history goes on to do so when the history grows, and fits for whoever had seen less.
-use Rattle.std.proofs.Common.{◌≡◌, ℕ, zero, suc, ◌<◌, ◌≤◌, List, [], ◌∷◌, ◌++◌, length, ap, ◌∙◌, arith}
+use Rattle.std.proofs.Common.{◌≡◌, ℕ, zero, suc, ◌<◌, ◌≤◌, List, [], ◌∷◌, ◌++◌, length, refl, ap, ◌∙◌, arith}
 use Rattle.std.specs.Prelude.{Result, Some, slice_get}
 use Rattle.std.proofs.lemmas.List.{length-append}
 use Rattle.pp_values.specs.Datum.{Datum}
 use Rattle.res_core.specs.declared.export_set.ExportSet.{ExportSet}
-use Rattle.res_core.specs.Asked.{Wanted, compile, deactivate}
+use Rattle.res_core.specs.Asked.{Wanted}
+use Rattle.site_core.specs.Asked.{Plain, Asked, compile, plain}
 use Rattle.site_core.specs.Meaning.{Meaning}
 use Rattle.site_core.specs.Events.{Event}
-use Rattle.site_core.specs.Fits.{Listed, IsFresh, Means, HasNoFacts, IsServed, IsRemoved, RepliesStay, RepliesFitForLess}
-use Rattle.site_core.specs.declared.reply.ReplyOf.TheVariants as a
+use Rattle.site_core.specs.Fits.{Listed, IsFresh, Means, HasNoFacts, IsServed, IsAdded, FitsSaid, RepliesStay, RepliesFitForLess}
+use Rattle.site_core.specs.Said as t
+use Rattle.site_core.specs.Said.{Kind, deactivation, Said, said, plain_reply}
 use Rattle.site_core.proofs.Sets.{sets_at-append, site_at-append}
 
 module _ {A : Type 0} where
@@ -26,6 +28,10 @@ module _ {A : Type 0} where
   full_still : (xs more : List A) (limit : ℕ) → length (xs ++ more) ≤ limit → length xs ≡ limit →
       length (xs ++ more) ≡ limit
   full_still xs more limit within full = let is = length-append xs more in omega (arith, within, full, is)
+
+-- what a reply to a plain entry says
+pub said_plain : {C F : Type 0} (kind : Kind) (entry : ℕ) → said {C = C} {F = F} (plain_reply kind entry) ≡ t.added kind entry
+said_plain deactivation entry = refl
 
 module _ {S : Type 0} where
   pub fresh_grows : (h more : List (Event S)) (s seen k : ℕ) → IsFresh h s seen k → IsFresh (h ++ more) s seen k
@@ -66,58 +72,68 @@ module _ {S C F : Type 0} (meaning : Meaning S C F) (listed : Listed S) where
     at = get_grows h more entry _ served.at;
   }
 
-  removed_grows : (h more : List (Event S)) (author : ℕ) (node : List ℕ) (entry : ℕ) →
-      IsRemoved h author node entry → IsRemoved (h ++ more) author node entry
-  removed_grows h more author node entry removed = record {
-    inside = longer_than h more entry removed.inside;
-    call = removed.call;
-    at = get_grows h more entry _ removed.at;
+  added_grows : (h more : List (Event S)) (author : ℕ) (p : Plain S) (entry : ℕ) →
+      IsAdded h author p entry → IsAdded (h ++ more) author p entry
+  added_grows h more author p entry added = record {
+    inside = longer_than h more entry added.inside;
+    call = added.call;
+    at = get_grows h more entry _ added.at;
   }
 
-  pub fits_grows : RepliesStay meaning listed
-  fits_grows h more limit author s (compile w) (a.Served entry k catalog) within (fresh, served) =
+  said_grows : (h more : List (Event S)) (limit author s : ℕ) (asked : Asked S) (told : Said C F) →
+      length (h ++ more) ≤ limit → FitsSaid meaning listed h limit author s asked told →
+      FitsSaid meaning listed (h ++ more) limit author s asked told
+  said_grows h more limit author s (compile w) (t.served entry k catalog) within (fresh, served) =
       (fresh_grows h more s w.seen k fresh, served_grows h more author w entry k catalog fresh.high served)
-  fits_grows h more limit author s (compile w) (a.Refused k fault) within (fresh, (facts, means)) =
+  said_grows h more limit author s (compile w) (t.refused k fault) within (fresh, (facts, means)) =
       (fresh_grows h more s w.seen k fresh, (facts, means_grows h more k w facts _ fresh.high means))
-  fits_grows h more limit author s (compile w) (a.UnknownNode k) within (fresh, known) =
+  said_grows h more limit author s (compile w) (t.unknown k) within (fresh, known) =
       (fresh_grows h more s w.seen k fresh, no_facts_grows h more k w fresh.high known)
-  fits_grows h more limit author s (compile w) (a.SeenAhead n) within (had, high, ahead) =
+  said_grows h more limit author s (compile w) (t.ahead n) within (had, high, ahead) =
       (had, longer h more n high, ahead)
-  fits_grows h more limit author s (compile w) (a.HistoryFull n) within (is, full, (k, facts, made, fresh, means)) = (
+  said_grows h more limit author s (compile w) (t.full n) within (is, full, (k, facts, made, fresh, means)) = (
     is,
     full_still h more limit within full,
     (k, facts, made, fresh_grows h more s w.seen k fresh, means_grows h more k w facts _ fresh.high means),
   )
-  fits_grows h more limit author s (compile w) (a.Deactivated entry) within fits = fits
-  fits_grows h more limit author s (compile w) a.Memory within fits = fits
-  fits_grows h more limit author s (deactivate node) (a.Served entry k catalog) within fits = fits
-  fits_grows h more limit author s (deactivate node) (a.Refused k fault) within fits = fits
-  fits_grows h more limit author s (deactivate node) (a.UnknownNode k) within fits = fits
-  fits_grows h more limit author s (deactivate node) (a.SeenAhead n) within fits = fits
-  fits_grows h more limit author s (deactivate node) (a.HistoryFull n) within (is, full) =
+  said_grows h more limit author s (compile w) (t.added kind entry) within fits = fits
+  said_grows h more limit author s (compile w) t.short within fits = fits
+  said_grows h more limit author s (plain p) (t.served entry k catalog) within fits = fits
+  said_grows h more limit author s (plain p) (t.refused k fault) within fits = fits
+  said_grows h more limit author s (plain p) (t.unknown k) within fits = fits
+  said_grows h more limit author s (plain p) (t.ahead n) within fits = fits
+  said_grows h more limit author s (plain p) (t.full n) within (is, full) =
       (is, full_still h more limit within full)
-  fits_grows h more limit author s (deactivate node) (a.Deactivated entry) within (had, removed) =
-      (had, removed_grows h more author node entry removed)
-  fits_grows h more limit author s (deactivate node) a.Memory within fits = fits
+  said_grows h more limit author s (plain p) (t.added kind entry) within (is, had, added) =
+      (is, had, added_grows h more author p entry added)
+  said_grows h more limit author s (plain p) t.short within fits = fits
+
+  pub fits_grows : RepliesStay meaning listed
+  fits_grows h more limit author s asked reply within fits =
+      said_grows h more limit author s asked (said reply) within fits
+
+  said_less : (h : List (Event S)) (limit author s less : ℕ) (asked : Asked S) (told : Said C F) → less ≤ s →
+      FitsSaid meaning listed h limit author s asked told → FitsSaid meaning listed h limit author less asked told
+  said_less h limit author s less (compile w) (t.served entry k catalog) le (fresh, served) =
+      (fresh_less h s less w.seen k le fresh, served)
+  said_less h limit author s less (compile w) (t.refused k fault) le (fresh, means) =
+      (fresh_less h s less w.seen k le fresh, means)
+  said_less h limit author s less (compile w) (t.unknown k) le (fresh, known) =
+      (fresh_less h s less w.seen k le fresh, known)
+  said_less h limit author s less (compile w) (t.ahead n) le (had, high, ahead) =
+      (omega (arith, le, had), high, ahead)
+  said_less h limit author s less (compile w) (t.full n) le (is, full, (k, facts, made, fresh, means)) =
+      (is, full, (k, facts, made, fresh_less h s less w.seen k le fresh, means))
+  said_less h limit author s less (compile w) (t.added kind entry) le fits = fits
+  said_less h limit author s less (compile w) t.short le fits = fits
+  said_less h limit author s less (plain p) (t.served entry k catalog) le fits = fits
+  said_less h limit author s less (plain p) (t.refused k fault) le fits = fits
+  said_less h limit author s less (plain p) (t.unknown k) le fits = fits
+  said_less h limit author s less (plain p) (t.ahead n) le fits = fits
+  said_less h limit author s less (plain p) (t.full n) le fits = fits
+  said_less h limit author s less (plain p) (t.added kind entry) le (is, had, added) =
+      (is, omega (arith, le, had), added)
+  said_less h limit author s less (plain p) t.short le fits = fits
 
   pub fits_less : RepliesFitForLess meaning listed
-  fits_less h limit author s less (compile w) (a.Served entry k catalog) le (fresh, served) =
-      (fresh_less h s less w.seen k le fresh, served)
-  fits_less h limit author s less (compile w) (a.Refused k fault) le (fresh, means) =
-      (fresh_less h s less w.seen k le fresh, means)
-  fits_less h limit author s less (compile w) (a.UnknownNode k) le (fresh, known) =
-      (fresh_less h s less w.seen k le fresh, known)
-  fits_less h limit author s less (compile w) (a.SeenAhead n) le (had, high, ahead) =
-      (omega (arith, le, had), high, ahead)
-  fits_less h limit author s less (compile w) (a.HistoryFull n) le (is, full, (k, facts, made, fresh, means)) =
-      (is, full, (k, facts, made, fresh_less h s less w.seen k le fresh, means))
-  fits_less h limit author s less (compile w) (a.Deactivated entry) le fits = fits
-  fits_less h limit author s less (compile w) a.Memory le fits = fits
-  fits_less h limit author s less (deactivate node) (a.Served entry k catalog) le fits = fits
-  fits_less h limit author s less (deactivate node) (a.Refused k fault) le fits = fits
-  fits_less h limit author s less (deactivate node) (a.UnknownNode k) le fits = fits
-  fits_less h limit author s less (deactivate node) (a.SeenAhead n) le fits = fits
-  fits_less h limit author s less (deactivate node) (a.HistoryFull n) le fits = fits
-  fits_less h limit author s less (deactivate node) (a.Deactivated entry) le (had, removed) =
-      (omega (arith, le, had), removed)
-  fits_less h limit author s less (deactivate node) a.Memory le fits = fits
+  fits_less h limit author s less asked reply le fits = said_less h limit author s less asked (said reply) le fits

@@ -8,5 +8,6 @@ pub mod Meant
 pub mod Growing
 pub mod Fitting
 pub mod Running
+pub mod Each
 mod Examples
 mod FitExamples

@@ -1,9 +1,10 @@
 -- For callers: requests that run go on to do so when the history grows, and with one request more; which entries
 -- replies name.
-use Rattle.std.proofs.Common.{◌≡◌, ℕ, ◌≤◌, List, [], ◌∷◌, ◌++◌, length, refl, sym, ◌∙◌, ap, arith, append_assoc}
+use Rattle.std.proofs.Common.{◌≡◌, ℕ, ◌≤◌, List, [], ◌∷◌, ◌++◌, length, refl, sym, ◌∙◌, ap, subst, arith, append_assoc, append-nil}
+use mathlib.Core.List.{IsPrefix}
 use Rattle.list_sums.specs.Counts.{total, same, times}
 use Rattle.list_sums.proofs.Totals.{total-append}
-use Rattle.res_core.specs.Asked.{Asked}
+use Rattle.site_core.specs.Asked.{Asked}
 use Rattle.site_core.specs.Meaning.{Meaning}
 use Rattle.site_core.specs.Events.{Event}
 use Rattle.site_core.specs.Fits.{Listed, Fits, had, named}
@@ -24,6 +25,11 @@ module _ {C F : Type 0} where
       ap (λ entries. named reply ++ entries) (all_named-append first second)
       ∙ sym (append_assoc (named reply) (all_named first) (all_named second))
 
+  pub all_named-snoc : (replies : List (ReplyOf C F)) (reply : ReplyOf C F) →
+      all_named (replies ++ reply ∷ []) ≡ all_named replies ++ named reply
+  all_named-snoc replies reply =
+      all_named-append replies (reply ∷ []) ∙ ap (λ l. all_named replies ++ l) (append-nil (named reply))
+
   -- how often replies name an entry, as a sum over them
   pub times_named : (entry : ℕ) (replies : List (ReplyOf C F)) →
       times entry (all_named replies) ≡ total (λ reply. times entry (named reply)) replies
@@ -34,7 +40,7 @@ module _ {C F : Type 0} where
       omega (arith, rest, all)
 
 module _ {S C F : Type 0} (meaning : Meaning S C F) (listed : Listed S) where
-  pub runs_grow : (h more : List (Event S)) (limit author s : ℕ) (requests : List Asked)
+  pub runs_grow : (h more : List (Event S)) (limit author s : ℕ) (requests : List (Asked S))
       (replies : List (ReplyOf C F)) → length (h ++ more) ≤ limit →
       Runs meaning listed h limit author s requests replies →
       Runs meaning listed (h ++ more) limit author s requests replies
@@ -46,8 +52,16 @@ module _ {S C F : Type 0} (meaning : Meaning S C F) (listed : Listed S) where
   runs_grow h more limit author s [] (reply ∷ replies) within runs = runs
   runs_grow h more limit author s (asked ∷ requests) [] within runs = runs
 
-  pub runs_push : (h : List (Event S)) (limit author s : ℕ) (requests : List Asked) (replies : List (ReplyOf C F))
-      (asked : Asked) (reply : ReplyOf C F) → Runs meaning listed h limit author s requests replies →
+  -- the same under a history that begins so
+  pub runs_under : (h now : List (Event S)) (limit author s : ℕ) (requests : List (Asked S))
+      (replies : List (ReplyOf C F)) → IsPrefix h now → length now ≤ limit →
+      Runs meaning listed h limit author s requests replies → Runs meaning listed now limit author s requests replies
+  runs_under h now limit author s requests replies p few runs =
+      subst (λ l. Runs meaning listed l limit author s requests replies) p.1
+      (runs_grow h p.0 limit author s requests replies (omega (arith, ap length p.1, few)) runs)
+
+  pub runs_push : (h : List (Event S)) (limit author s : ℕ) (requests : List (Asked S)) (replies : List (ReplyOf C F))
+      (asked : Asked S) (reply : ReplyOf C F) → Runs meaning listed h limit author s requests replies →
       Fits meaning listed h limit author (had_after s replies) asked reply →
       Runs meaning listed h limit author s (requests ++ asked ∷ []) (replies ++ reply ∷ [])
   runs_push h limit author s [] [] asked reply runs fits = (fits, tt)

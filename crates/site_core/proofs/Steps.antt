@@ -9,12 +9,13 @@ use Rattle.std.proofs.lemmas.Option.{slice_get_within, get_or_from_slice_get}
 use Rattle.pp_values.specs.Datum.{Datum}
 use Rattle.res_core.specs.declared.export_set.ExportSet.{ExportSet}
 use Rattle.site_core.specs.Meaning.{Meaning, HasExports}
-use Rattle.site_core.specs.Events.{Event, is_opening, publication, deactivation}
+use Rattle.site_core.specs.Asked.{Plain, deactivate, next_entry}
+use Rattle.site_core.specs.Events.{Event, is_opening, publication}
 use Rattle.site_core.specs.Sets.{sets_after}
 use Rattle.site_core.specs.Legal.{meaning_at, MayFollow, Legal}
 use Rattle.site_core.specs.Core.{Core, IsSound}
 use Rattle.site_core.specs.declared.history.TheConstants.{MOST_ENTRIES}
-use Rattle.site_core.specs.Steps.{Step, snap, done, drop_call, deactivate, State, made_set, opened_state, with_entry, with_flight, without_flight, after_done, after_step, after_steps, IsSoundState, RunsAreSound}
+use Rattle.site_core.specs.Steps.{Step, snap, done, drop_call, add, State, made_set, opened_state, with_entry, with_flight, without_flight, after_done, after_step, after_steps, IsSoundState, RunsAreSound}
 use Rattle.site_core.proofs.Keeping.{kept_push}
 
 -- what makes a result of options be there
@@ -103,7 +104,14 @@ module _ {S C F : Type 0} (meaning : Meaning S C F) (limit : ℕ) where
       (record { numbered = refl; some = within.0; earlier = within.1; exported = exports_are_at _ found.0 found.1 })
       refl room))
 
-  step_sound : (s t : State S) (step : Step) → IsSoundState meaning limit s → after_step meaning limit s step ≡ Some t →
+  -- a plain entry may stand behind any others, and opens no site
+  plain_follows : (h : List (Event S)) (author : ℕ) (p : Plain S) → MayFollow meaning h (next_entry h author p)
+  plain_follows h author (deactivate node) = refl
+
+  plain_opens_none : (h : List (Event S)) (author : ℕ) (p : Plain S) → is_opening (next_entry h author p) ≡ false
+  plain_opens_none h author (deactivate node) = refl
+
+  step_sound : (s t : State S) (step : Step S) → IsSoundState meaning limit s → after_step meaning limit s step ≡ Some t →
       IsSoundState meaning limit t
   step_sound s t snap sound is = let e : with_flight s ≡ t = cc in
       subst (IsSoundState meaning limit) e (flight_sound s sound)
@@ -116,14 +124,15 @@ module _ {S C F : Type 0} (meaning : Meaning S C F) (limit : ℕ) where
       let there = when_some (nat_lt flight (length s.flights)) (Some (without_flight s flight)) t is in
       let e : without_flight s flight ≡ t = cc in
       subst (IsSoundState meaning limit) e (without_sound s flight sound)
-  step_sound s t (deactivate author node) sound is =
-      let room = when_some (nat_lt (length s.history) limit) (Some (with_entry s (deactivation s.history author node)))
+  step_sound s t (add author p) sound is =
+      let room = when_some (nat_lt (length s.history) limit) (Some (with_entry s (next_entry s.history author p)))
       t is in
-      let e : with_entry s (deactivation s.history author node) ≡ t = cc in
-      subst (IsSoundState meaning limit) e (entry_sound s (deactivation s.history author node) sound refl refl
+      let e : with_entry s (next_entry s.history author p) ≡ t = cc in
+      subst (IsSoundState meaning limit) e (entry_sound s (next_entry s.history author p) sound
+      (plain_follows s.history author p) (plain_opens_none s.history author p)
       (ltb-true (length s.history) limit room.0))
 
-  steps_sound : (steps : List Step) (s t : State S) → IsSoundState meaning limit s →
+  steps_sound : (steps : List (Step S)) (s t : State S) → IsSoundState meaning limit s →
       after_steps meaning limit s steps ≡ Some t → IsSoundState meaning limit t
   steps_sound [] s t sound is = let e : s ≡ t = cc in subst (IsSoundState meaning limit) e sound
   steps_sound (step ∷ steps) s t sound is =

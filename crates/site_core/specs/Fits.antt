@@ -2,12 +2,14 @@
 use Rattle.std.specs.Prelude.{◌≡◌, ℕ, ◌+◌, ◌≤◌, ◌<◌, List, [], ◌∷◌, ◌++◌, length, slice_get, Option, Some, None, Result, Ok, Err}
 use Rattle.pp_values.specs.Datum.{Datum}
 use Rattle.res_core.specs.declared.export_set.ExportSet.{ExportSet}
-use Rattle.res_core.specs.Asked.{Wanted, Asked, compile, deactivate}
+use Rattle.res_core.specs.Asked.{Wanted}
 use Rattle.site_core.specs.Meaning.{Meaning}
-use Rattle.site_core.specs.Events.{Event, publishes, deactivates}
+use Rattle.site_core.specs.Asked.{Plain, Asked, compile, plain, plain_entry}
+use Rattle.site_core.specs.Events.{Event, publishes}
 use Rattle.site_core.specs.Sets.{sets_at, site_at}
 use Rattle.site_core.specs.declared.reply.ReplyOf.{ReplyOf}
-use Rattle.site_core.specs.declared.reply.ReplyOf.TheVariants as a
+use Rattle.site_core.specs.Said as t
+use Rattle.site_core.specs.Said.{Kind, Said, said, kind_of}
 
 -- the facts that a site lists for a node, or none
 abbrev pub Listed : Type 0 → Type 0
@@ -62,73 +64,82 @@ pub record IsServed {S C F : Type 0} (meaning : Meaning S C F) (listed : Listed 
     set = set;
   }))
 
--- the entry is this author's deactivation of the node
-pub record IsRemoved {S : Type 0} (h : List (Event S)) (author : ℕ) (node : List ℕ) (entry : ℕ) : Type 0 where
+-- the entry is the one that was asked for, of this author
+pub record IsAdded {S : Type 0} (h : List (Event S)) (author : ℕ) (p : Plain S) (entry : ℕ) : Type 0 where
   pub inside : entry < length h
   pub call : ℕ
-  pub at : slice_get h entry ≡ Some (deactivates (record { author = author; call = call; node = node }))
+  pub at : slice_get h entry ≡ Some (plain_entry p author call)
 
 module _ {S C F : Type 0} (meaning : Meaning S C F) (listed : Listed S) (h : List (Event S)) (limit author s : ℕ) where
-  -- what a node that asks for its catalog may be answered; the k of a reply is fresh, and where the history was full,
+  -- what a node that asks for its catalog may be told; the k of a reply is fresh, and where the history was full,
   -- some fresh k has a catalog
-  abbrev pub FitsCompile : Wanted → ReplyOf C F → Type 0
-  FitsCompile w (a.Served entry k catalog) = IsFresh h s w.seen k × IsServed meaning listed h author w entry k catalog
-  FitsCompile w (a.Refused k fault) =
+  abbrev pub FitsCompile : Wanted → Said C F → Type 0
+  FitsCompile w (t.served entry k catalog) = IsFresh h s w.seen k × IsServed meaning listed h author w entry k catalog
+  FitsCompile w (t.refused k fault) =
       IsFresh h s w.seen k × ((facts : Datum) × Means meaning listed h k w facts (Err fault))
-  FitsCompile w (a.UnknownNode k) = IsFresh h s w.seen k × HasNoFacts listed h k w
-  FitsCompile w (a.SeenAhead length_) = (s ≤ length_) × (length_ ≤ length h) × (length_ < w.seen)
-  FitsCompile w (a.HistoryFull length_) =
+  FitsCompile w (t.unknown k) = IsFresh h s w.seen k × HasNoFacts listed h k w
+  FitsCompile w (t.ahead length_) = (s ≤ length_) × (length_ ≤ length h) × (length_ < w.seen)
+  FitsCompile w (t.full length_) =
       (length_ ≡ limit) × (length h ≡ limit)
       × ((k : ℕ) × (facts : Datum) × (made : C × ExportSet)
       × IsFresh h s w.seen k × Means meaning listed h k w facts (Ok made))
-  FitsCompile w (a.Deactivated entry) = ⊥
-  FitsCompile w a.Memory = Unit {0}
+  FitsCompile w (t.added kind entry) = ⊥
+  FitsCompile w t.short = Unit {0}
 
-  -- what may be answered where a node is to be deactivated
-  abbrev pub FitsRemoval : List ℕ → ReplyOf C F → Type 0
-  FitsRemoval node (a.Served entry k catalog) = ⊥
-  FitsRemoval node (a.Refused k fault) = ⊥
-  FitsRemoval node (a.UnknownNode k) = ⊥
-  FitsRemoval node (a.SeenAhead length_) = ⊥
-  FitsRemoval node (a.HistoryFull length_) = (length_ ≡ limit) × (length h ≡ limit)
-  FitsRemoval node (a.Deactivated entry) = (s ≤ entry) × IsRemoved h author node entry
-  FitsRemoval node a.Memory = Unit {0}
+  -- what may be told where a plain entry is asked for
+  abbrev pub FitsPlain : Plain S → Said C F → Type 0
+  FitsPlain p (t.served entry k catalog) = ⊥
+  FitsPlain p (t.refused k fault) = ⊥
+  FitsPlain p (t.unknown k) = ⊥
+  FitsPlain p (t.ahead length_) = ⊥
+  FitsPlain p (t.full length_) = (length_ ≡ limit) × (length h ≡ limit)
+  FitsPlain p (t.added kind entry) = (kind ≡ kind_of p) × (s ≤ entry) × IsAdded h author p entry
+  FitsPlain p t.short = Unit {0}
+
+  abbrev pub FitsSaid : Asked S → Said C F → Type 0
+  FitsSaid (compile w) told = FitsCompile w told
+  FitsSaid (plain p) told = FitsPlain p told
 
   -- under the history h, which may have `limit` entries, the reply fits the request of this author, who had seen s
   -- entries
-  abbrev pub Fits : Asked → ReplyOf C F → Type 0
-  Fits (compile w) reply = FitsCompile w reply
-  Fits (deactivate node) reply = FitsRemoval node reply
+  abbrev pub Fits : Asked S → ReplyOf C F → Type 0
+  Fits asked reply = FitsSaid asked (said reply)
 
 module _ {C F : Type 0} where
+  abbrev pub had_said : ℕ → Said C F → ℕ
+  had_said s (t.served entry k catalog) = entry + 1
+  had_said s (t.refused k fault) = k
+  had_said s (t.unknown k) = k
+  had_said s (t.ahead length_) = length_
+  had_said s (t.full length_) = length_
+  had_said s (t.added kind entry) = entry + 1
+  had_said s t.short = s
+
   -- how many entries whoever asked has seen after the reply, where it was s before
   abbrev pub had : ℕ → ReplyOf C F → ℕ
-  had s (a.Served entry k catalog) = entry + 1
-  had s (a.Refused k fault) = k
-  had s (a.UnknownNode k) = k
-  had s (a.SeenAhead length_) = length_
-  had s (a.HistoryFull length_) = length_
-  had s (a.Deactivated entry) = entry + 1
-  had s a.Memory = s
+  had s reply = had_said s (said reply)
+
+  abbrev pub named_said : Said C F → List ℕ
+  named_said (t.served entry k catalog) = entry ∷ []
+  named_said (t.refused k fault) = []
+  named_said (t.unknown k) = []
+  named_said (t.ahead length_) = []
+  named_said (t.full length_) = []
+  named_said (t.added kind entry) = entry ∷ []
+  named_said t.short = []
 
   -- the entry that the reply names, if it names one
   abbrev pub named : ReplyOf C F → List ℕ
-  named (a.Served entry k catalog) = entry ∷ []
-  named (a.Refused k fault) = []
-  named (a.UnknownNode k) = []
-  named (a.SeenAhead length_) = []
-  named (a.HistoryFull length_) = []
-  named (a.Deactivated entry) = entry ∷ []
-  named a.Memory = []
+  named reply = named_said (said reply)
 
 -- A reply that fits goes on to do so when the history grows within its limit, and fits for whoever had seen less.
 abbrev pub RepliesStay : {S C F : Type 0} → Meaning S C F → Listed S → Type 0
 RepliesStay {S} {C} {F} meaning listed =
-    (h more : List (Event S)) (limit author s : ℕ) (asked : Asked) (reply : ReplyOf C F) →
+    (h more : List (Event S)) (limit author s : ℕ) (asked : Asked S) (reply : ReplyOf C F) →
     length (h ++ more) ≤ limit → Fits meaning listed h limit author s asked reply →
     Fits meaning listed (h ++ more) limit author s asked reply
 
 abbrev pub RepliesFitForLess : {S C F : Type 0} → Meaning S C F → Listed S → Type 0
 RepliesFitForLess {S} {C} {F} meaning listed =
-    (h : List (Event S)) (limit author s less : ℕ) (asked : Asked) (reply : ReplyOf C F) → less ≤ s →
+    (h : List (Event S)) (limit author s less : ℕ) (asked : Asked S) (reply : ReplyOf C F) → less ≤ s →
     Fits meaning listed h limit author s asked reply → Fits meaning listed h limit author less asked reply

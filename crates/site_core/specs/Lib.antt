@@ -8,5 +8,10 @@ pub mod Answers
 pub mod Snapshots
 pub mod Counts
 pub mod Steps
+pub mod Asked
+pub mod Said
+pub mod Additions
+pub mod Compiling
 pub mod Fits
 pub mod Runs
+pub mod Each

@@ -2,7 +2,7 @@
 use Rattle.std.specs.Prelude.{◌≡◌, ℕ, ◌+◌, ◌≤◌, List, [], ◌∷◌, ◌++◌, length, slice_get, Some}
 use Rattle.std.specs.List.{filter_map}
 use Rattle.list_sums.specs.Counts.{total, same, times, below}
-use Rattle.res_core.specs.Asked.{Asked}
+use Rattle.site_core.specs.Asked.{Asked}
 use Rattle.site_core.specs.Meaning.{Meaning}
 use Rattle.site_core.specs.Events.{Event, opens}
 use Rattle.site_core.specs.Legal.{Legal}
@@ -45,7 +45,7 @@ times_in place hand = times place hand.places
 module _ {S C F : Type 0} (meaning : Meaning S C F) (listed : Listed S) (h : List (Event S)) (limit : ℕ) where
   -- one author's requests and their replies: each fits, the first one for an author who had seen s entries, and each
   -- other one for one who has seen what the reply before told
-  abbrev pub Runs : ℕ → ℕ → List Asked → List (ReplyOf C F) → Type 0
+  abbrev pub Runs : ℕ → ℕ → List (Asked S) → List (ReplyOf C F) → Type 0
   Runs author s [] [] = Unit {0}
   Runs author s (asked ∷ requests) (reply ∷ replies) =
       Fits meaning listed h limit author s asked reply × Runs author (had s reply) requests replies
@@ -53,7 +53,7 @@ module _ {S C F : Type 0} (meaning : Meaning S C F) (listed : Listed S) (h : Lis
   Runs author s (asked ∷ requests) [] = ⊥
 
   -- each author's requests stand in the order of all requests, and run with their replies from the opening on
-  abbrev pub EachRuns : List Asked → List (ReplyOf C F) → List Hand → Type 0
+  abbrev pub EachRuns : List (Asked S) → List (ReplyOf C F) → List Hand → Type 0
   EachRuns requests replies [] = Unit {0}
   EachRuns requests replies (hand ∷ hands) =
       RiseFrom 0 hand.places
@@ -61,10 +61,9 @@ module _ {S C F : Type 0} (meaning : Meaning S C F) (listed : Listed S) (h : Lis
       × EachRuns requests replies hands
 
 -- All requests, dealt to authors 0 up to, and without, `workers`, and their replies under one history of this site
--- which
--- they alone made.
+-- which they alone made.
 pub record Whole {S C F : Type 0} (meaning : Meaning S C F) (listed : Listed S) (limit workers : ℕ) (site : S)
-    (requests : List Asked) (replies : List (ReplyOf C F)) (h : List (Event S)) : Type 0 where
+    (requests : List (Asked S)) (replies : List (ReplyOf C F)) (h : List (Event S)) : Type 0 where
   pub legal : Legal meaning h
   pub opening : slice_get h 0 ≡ Some (opens site)
   pub few : length h ≤ limit

@@ -6,19 +6,20 @@ use Rattle.pp_values.specs.Datum.{Datum}
 use Rattle.res_core.specs.declared.export_set.ExportSet.{ExportSet}
 use Rattle.export_store.specs.Sets.{Sets}
 use Rattle.site_core.specs.Meaning.{Meaning}
-use Rattle.site_core.specs.Events.{Event, opens, publication, deactivation}
+use Rattle.site_core.specs.Asked.{Plain, next_entry}
+use Rattle.site_core.specs.Events.{Event, opens, publication}
 use Rattle.site_core.specs.Sets.{sets_after}
 use Rattle.site_core.specs.Legal.{meaning_at}
 use Rattle.site_core.specs.Core.{IsKept}
 use Rattle.site_core.specs.declared.history.TheConstants.{MOST_ENTRIES}
 
 -- A compile begins (`snap`) and ends: it publishes (`done`), or its call is dropped. The calls in flight are numbered
--- from 0.
-pub data Step : Type 0 where
-  snap : Step
-  done : (flight author : ℕ) (node : List ℕ) (facts : Datum) → Step
-  drop_call : (flight : ℕ) → Step
-  deactivate : (author : ℕ) (node : List ℕ) → Step
+-- from 0. What is asked for by one entry is added at once (`add`).
+pub data Step (S : Type 0) : Type 0 where
+  snap : Step S
+  done : (flight author : ℕ) (node : List ℕ) (facts : Datum) → Step S
+  drop_call : (flight : ℕ) → Step S
+  add : (author : ℕ) → Plain S → Step S
 
 -- a history, the version and the site that are kept beside it, and of each call in flight the number of entries that it
 -- began with
@@ -57,17 +58,17 @@ module _ {S C F : Type 0} (meaning : Meaning S C F) (limit : ℕ) where
       (option_and_then made_set (meaning_at meaning s.history k node facts))
 
   -- the state after a step, or nothing where the step can't be taken
-  abbrev pub after_step : State S → Step → Option (State S)
+  abbrev pub after_step : State S → Step S → Option (State S)
   after_step s snap = Some (with_flight s)
   after_step s (done flight author node facts) =
       if nat_lt (length s.history) limit then option_and_then (after_done s flight author node facts)
       (slice_get s.flights flight) else None
   after_step s (drop_call flight) = if nat_lt flight (length s.flights) then Some (without_flight s flight) else None
-  after_step s (deactivate author node) = if nat_lt (length s.history) limit then Some
-      (with_entry s (deactivation s.history author node)) else None
+  after_step s (add author p) =
+      if nat_lt (length s.history) limit then Some (with_entry s (next_entry s.history author p)) else None
 
   -- the state after all steps in turn
-  abbrev pub after_steps : State S → List Step → Option (State S)
+  abbrev pub after_steps : State S → List (Step S) → Option (State S)
   after_steps s [] = Some s
   after_steps s (step ∷ steps) = option_and_then (λ t. after_steps t steps) (after_step s step)
 
@@ -80,5 +81,5 @@ module _ {S C F : Type 0} (meaning : Meaning S C F) (limit : ℕ) where
 -- whatever the steps from the opening on
 abbrev pub RunsAreSound : {S C F : Type 0} → Meaning S C F → Type 0
 RunsAreSound {S} meaning =
-    (limit : ℕ) (site : S) (steps : List Step) (s : State S) → 1 ≤ limit → limit ≤ MOST_ENTRIES →
+    (limit : ℕ) (site : S) (steps : List (Step S)) (s : State S) → 1 ≤ limit → limit ≤ MOST_ENTRIES →
     after_steps meaning limit (opened_state site) steps ≡ Some s → IsSoundState meaning limit s

@@ -1,7 +1,9 @@
 //! One history of a site over any language: what was opened, published and deactivated, in order.
 #![tactic(auto)]
 
+pub mod addition;
 pub mod compile_stop;
+pub mod compiling;
 mod counts;
 pub mod done_stop;
 pub mod entries;

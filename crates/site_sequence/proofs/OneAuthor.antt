@@ -3,26 +3,27 @@ use Rattle.std.proofs.Common.{◌≡◌, ℕ, zero, suc, ◌+◌, ◌<◌, ◌�
 use Rattle.std.specs.Prelude.{nat_lt, if◌then◌else◌, option_map}
 use Rattle.std.specs.List.{cons_option}
 use Rattle.std.proofs.lemmas.Bool.{ltb-true, ltb-false}
-use Rattle.list_sums.specs.Counts.{total, same, times, below}
+use Rattle.list_sums.specs.Counts.{same, times, below}
 use Rattle.list_sums.proofs.Totals.{total-append}
 use Rattle.list_sums.proofs.Marks.{below_next, below_no}
 use Rattle.pp_values.specs.Datum.{Datum}
 use Rattle.res_core.specs.declared.export_set.ExportSet.{ExportSet}
-use Rattle.res_core.specs.Asked.{Wanted, Asked, compile, deactivate}
+use Rattle.res_core.specs.Asked.{Wanted}
+use Rattle.site_core.specs.Asked.{Plain, deactivate, Asked, compile, plain, next_entry}
 use Rattle.site_core.specs.Meaning.{Meaning}
-use Rattle.site_core.specs.Events.{Event, opens, publication, deactivation}
+use Rattle.site_core.specs.Events.{Event, opens, publication}
 use Rattle.site_core.specs.Sets.{sets_at, site_at}
 use Rattle.site_core.specs.Fits.{Listed, facts_for, IsFresh, Means, Fits, had, named}
 use Rattle.site_core.specs.Runs.{picked, RiseFrom, Runs, all_named}
 use Rattle.site_core.specs.declared.reply.ReplyOf.{ReplyOf}
 use Rattle.site_core.specs.declared.reply.ReplyOf.TheVariants as a
 use Rattle.site_core.proofs.Fitting.{means_grows, fits_grows}
-use Rattle.site_sequence.specs.Sequence.{Turn, turn, turn_meant, turn_removed, turn_known, turn_for, Takes, AnsweredInTurn}
+use Rattle.site_sequence.specs.Sequence.{Turn, turn, turn_meant, turn_added, turn_known, turn_for, Takes, AnsweredInTurn}
 use Rattle.site_sequence.specs.SequenceLaws.{TurnsAreWhole}
 use Rattle.site_sequence.specs.declared.sequence.TheConstants.{AUTHOR}
 
 -- as many numbers from the first one on
-count_from : ℕ → ℕ → List ℕ
+unfoldable pub count_from : ℕ → ℕ → List ℕ
 count_from low zero = []
 count_from low (suc n) = low ∷ count_from (low + 1) n
 
@@ -31,7 +32,7 @@ unfolding count_from
 rises low zero = tt
 rises low (suc n) = (omega arith, rises (low + 1) n)
 
-counted : (k low n : ℕ) → times k (count_from low n) + below low k ≡ below (low + n) k
+pub counted : (k low n : ℕ) → times k (count_from low n) + below low k ≡ below (low + n) k
 unfolding count_from
 counted k low zero =
     let still : low ≡ low + 0 = omega arith in let end = ap (λ m. below m k) still in omega (arith, end)
@@ -41,12 +42,12 @@ counted k low (suc n) =
     omega (arith, rest, next, end)
 
 module _ {A : Type 0} where
-  get_end : (front : List A) (x : A) (xs : List A) → slice_get (front ++ x ∷ xs) (length front) ≡ Some x
+  pub get_end : (front : List A) (x : A) (xs : List A) → slice_get (front ++ x ∷ xs) (length front) ≡ Some x
   get_end [] x xs = refl
   get_end (y ∷ front) x xs = get_end front x xs
 
   -- whatever stands behind a front stands at the numbers from the front's length on
-  picked_rest : (all front xs : List A) (low : ℕ) → all ≡ front ++ xs → low ≡ length front →
+  pub picked_rest : (all front xs : List A) (low : ℕ) → all ≡ front ++ xs → low ≡ length front →
       picked all (count_from low (length xs)) ≡ xs
   unfolding count_from
   picked_rest all front [] low is at = refl
@@ -64,7 +65,7 @@ module _ {S C F : Type 0} where
 
 module _ {S C F : Type 0} (meaning : Meaning S C F) (listed : Listed S) (limit : ℕ) where
   -- what a turn behind the entries h is, for an author who had seen s of them
-  record IsTurn (h : List (Event S)) (s : ℕ) (asked : Asked) (t : Turn S C F) : Type 0 where
+  record IsTurn (h : List (Event S)) (s : ℕ) (asked : Asked S) (t : Turn S C F) : Type 0 where
     pub more : List (Event S)
     pub goes_on : t.history ≡ h ++ more
     pub few : length t.history ≤ limit
@@ -72,7 +73,7 @@ module _ {S C F : Type 0} (meaning : Meaning S C F) (listed : Listed S) (limit :
     pub known : had s t.reply ≤ length t.history
     pub names : (entry : ℕ) → times entry (named t.reply) + below (length h) entry ≡ below (length t.history) entry
 
-  silent : (h : List (Event S)) (s : ℕ) (asked : Asked) (reply : ReplyOf C F) → length h ≤ limit →
+  silent : (h : List (Event S)) (s : ℕ) (asked : Asked S) (reply : ReplyOf C F) → length h ≤ limit →
       Fits meaning listed h limit AUTHOR s asked reply → had s reply ≤ length h → named reply ≡ [] →
       IsTurn h s asked (turn reply h)
   silent h s asked reply few fits known unnamed = record {
@@ -84,7 +85,7 @@ module _ {S C F : Type 0} (meaning : Meaning S C F) (listed : Listed S) (limit :
     names = λ entry. let none = ap (times entry) unnamed in omega (arith, none);
   }
 
-  adds_one : (h : List (Event S)) (s : ℕ) (asked : Asked) (reply : ReplyOf C F) (e : Event S) → length h < limit →
+  adds_one : (h : List (Event S)) (s : ℕ) (asked : Asked S) (reply : ReplyOf C F) (e : Event S) → length h < limit →
       Fits meaning listed (h ++ e ∷ []) limit AUTHOR s asked reply → had s reply ≡ length h + 1 →
       named reply ≡ length h ∷ [] → IsTurn h s asked (turn reply (h ++ e ∷ []))
   adds_one h s asked reply e room fits known named_is =
@@ -177,28 +178,28 @@ module _ {S C F : Type 0} (meaning : Meaning S C F) (listed : Listed S) (limit :
   unless_ahead h s w false t may ahead is =
       site_turn h s w (site_at h (length h)) t may (ltb-false (length h) w.seen ahead) refl is
 
-  removed_turn : (h : List (Event S)) (s : ℕ) (node : List ℕ) → MayAsk h s →
-      IsTurn h s (deactivate node) (turn_removed limit h node)
-  removed_turn h s node may =
-      let e = deactivation h AUTHOR node in let size = length-append h (e ∷ []) in
-      if_so (IsTurn h s (deactivate node)) (nat_lt (length h) limit) _ _
-      (λ room. adds_one h s (deactivate node) (a.Deactivated (length h)) e (ltb-true (length h) limit room)
-      (may.had, record { inside = omega (arith, size); call = _; at = get_end h e [] }) refl refl)
+  added_turn : (h : List (Event S)) (s : ℕ) (p : Plain S) → MayAsk h s → IsTurn h s (plain p) (turn_added limit h p)
+  added_turn h s (deactivate node) may =
+      let p : Plain S = deactivate node in
+      let e = next_entry h AUTHOR p in let size = length-append h (e ∷ []) in
+      if_so (IsTurn h s (plain p)) (nat_lt (length h) limit) _ _
+      (λ room. adds_one h s (plain p) (a.Deactivated (length h)) e (ltb-true (length h) limit room)
+      (refl, may.had, record { inside = omega (arith, size); call = _; at = get_end h e [] }) refl refl)
       (λ past. let is = full h s may (ltb-false (length h) limit past) in
-      silent h s (deactivate node) (a.HistoryFull (length h)) may.few (is, is) (omega arith) refl)
+      silent h s (plain p) (a.HistoryFull (length h)) may.few (is, is) (omega arith) refl)
 
-  turn_is : (h : List (Event S)) (s : ℕ) (asked : Asked) (t : Turn S C F) → MayAsk h s →
+  turn_is : (h : List (Event S)) (s : ℕ) (asked : Asked S) (t : Turn S C F) → MayAsk h s →
       turn_for meaning listed limit h asked ≡ Some t → IsTurn h s asked t
   turn_is h s (compile w) t may is = unless_ahead h s w (nat_lt (length h) w.seen) t may refl is
-  turn_is h s (deactivate node) t may is =
-      let same_turn : turn_removed limit h node ≡ t = cc in
-      subst (IsTurn h s (deactivate node)) same_turn (removed_turn h s node may)
+  turn_is h s (plain p) t may is =
+      let same_turn : turn_added limit h p ≡ t = cc in
+      subst (IsTurn h s (plain p)) same_turn (added_turn h s p may)
 
-  short : (h : List (Event S)) (s : ℕ) (asked : Asked) → MayAsk h s → IsTurn h s asked (turn a.Memory h)
+  short : (h : List (Event S)) (s : ℕ) (asked : Asked S) → MayAsk h s → IsTurn h s asked (turn a.Memory h)
   short h s (compile w) may = silent h s (compile w) a.Memory may.few tt may.had refl
-  short h s (deactivate node) may = silent h s (deactivate node) a.Memory may.few tt may.had refl
+  short h s (plain p) may = silent h s (plain p) a.Memory may.few tt may.had refl
 
-  taken : (h next : List (Event S)) (s : ℕ) (asked : Asked) (reply : ReplyOf C F) → MayAsk h s →
+  taken : (h next : List (Event S)) (s : ℕ) (asked : Asked S) (reply : ReplyOf C F) → MayAsk h s →
       Takes meaning listed limit h asked reply next → IsTurn h s asked (turn reply next)
   taken h next s asked reply may (inl is) = turn_is h s asked (turn reply next) may is
   taken h next s asked reply may (inr is) =
@@ -206,7 +207,7 @@ module _ {S C F : Type 0} (meaning : Meaning S C F) (listed : Listed S) (limit :
       (subst (λ r. IsTurn h s asked (turn r h)) (sym is.0) (short h s asked may))
 
   -- what requests in turn behind the entries h come to
-  record AreTurns (h : List (Event S)) (s : ℕ) (requests : List Asked) (replies : List (ReplyOf C F))
+  record AreTurns (h : List (Event S)) (s : ℕ) (requests : List (Asked S)) (replies : List (ReplyOf C F))
       (after : List (Event S)) : Type 0 where
     pub more : List (Event S)
     pub goes_on : after ≡ h ++ more
@@ -215,7 +216,7 @@ module _ {S C F : Type 0} (meaning : Meaning S C F) (listed : Listed S) (limit :
     pub run : Runs meaning listed after limit AUTHOR s requests replies
     pub names : (entry : ℕ) → times entry (all_named replies) + below (length h) entry ≡ below (length after) entry
 
-  one_more : (h next after : List (Event S)) (s : ℕ) (asked : Asked) (reply : ReplyOf C F) (requests : List Asked)
+  one_more : (h next after : List (Event S)) (s : ℕ) (asked : Asked S) (reply : ReplyOf C F) (requests : List (Asked S))
       (replies : List (ReplyOf C F)) → IsTurn h s asked (turn reply next) →
       AreTurns next (had s reply) requests replies after → AreTurns h s (asked ∷ requests) (reply ∷ replies) after
   one_more h next after s asked reply requests replies first later = record {
@@ -233,13 +234,13 @@ module _ {S C F : Type 0} (meaning : Meaning S C F) (listed : Listed S) (limit :
         let one = first.names entry in let rest = later.names entry in omega (arith, sum, one, rest);
   }
 
-  next_may : (h next : List (Event S)) (s : ℕ) (asked : Asked) (reply : ReplyOf C F) → MayAsk h s →
+  next_may : (h next : List (Event S)) (s : ℕ) (asked : Asked S) (reply : ReplyOf C F) → MayAsk h s →
       IsTurn h s asked (turn reply next) → MayAsk next (had s reply)
   next_may h next s asked reply may first =
       let size = ap length first.goes_on in let sum = length-append h first.more in
       record { some = omega (arith, size, sum, may.some); few = first.few; had = first.known }
 
-  turns_of : (h after : List (Event S)) (s : ℕ) (requests : List Asked) (replies : List (ReplyOf C F)) → MayAsk h s →
+  turns_of : (h after : List (Event S)) (s : ℕ) (requests : List (Asked S)) (replies : List (ReplyOf C F)) → MayAsk h s →
       AnsweredInTurn meaning listed limit h requests replies after → AreTurns h s requests replies after
   turns_of h after s [] [] may run = record {
     more = [];

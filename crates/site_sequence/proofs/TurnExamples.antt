@@ -3,7 +3,7 @@ use Rattle.std.proofs.Common.{◌≡◌, ℕ, false, List, [], ◌∷◌, Option
 use Rattle.std.specs.Prelude.{codes, if◌then◌else◌}
 use Rattle.std.specs.Str.{bytes_eq}
 use Rattle.pp_values.specs.Datum.{Datum, hash, no_entries}
-use Rattle.res_core.specs.Asked.{Asked, compile, deactivate}
+use Rattle.site_core.specs.Asked.{Asked, compile, plain, deactivate}
 use Rattle.res_core.specs.declared.export_set.ExportSet.{ExportSet}
 use Rattle.site_core.specs.Meaning.{Meaning}
 use Rattle.site_core.specs.Events.{Event, opens, publishes, deactivates}
@@ -32,10 +32,10 @@ start = opens 5 ∷ []
 abbrev published : ℕ → ℕ → List ℕ → Event ℕ
 published call k node = publishes (record { author = 0; call = call; node = node; facts = none; k = k; set = nothing })
 
-abbrev asks : List ℕ → ℕ → Asked
+abbrev asks : List ℕ → ℕ → Asked ℕ
 asks node seen = compile (record { node = node; facts = None; seen = seen })
 
-abbrev asks_with_facts : List ℕ → Asked
+abbrev asks_with_facts : List ℕ → Asked ℕ
 asks_with_facts node = compile (record { node = node; facts = Some none; seen = 0 })
 
 served : turn_for toy listed 2 start (asks (codes "a") 1) ≡ Some
@@ -62,11 +62,11 @@ refused_before_full : turn_for toy listed 1 start (asks_with_facts (codes "bad")
     (turn (r.Refused 1 (codes "bad")) start)
 refused_before_full = refl
 
-removed : turn_for toy listed 2 start (deactivate (codes "b"))
+removed : turn_for toy listed 2 start (plain (deactivate (codes "b")))
     ≡ Some (turn (r.Deactivated 1) (opens 5 ∷ deactivates (record { author = 0; call = 0; node = codes "b" }) ∷ []))
 removed = refl
 
-no_room_to_remove : turn_for toy listed 1 start (deactivate (codes "b")) ≡ Some (turn (r.HistoryFull 1) start)
+no_room_to_remove : turn_for toy listed 1 start (plain (deactivate (codes "b"))) ≡ Some (turn (r.HistoryFull 1) start)
 no_room_to_remove = refl
 
 no_site_no_turn : turn_for toy listed 2 [] (asks (codes "a") 0) ≡ None

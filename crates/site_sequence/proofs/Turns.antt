@@ -6,7 +6,7 @@ use Rattle.std.proofs.lemmas.Bool.{and_from, and_parts, or_parts, eq-eqb}
 use Rattle.std.proofs.lemmas.List.{length-append}
 use Rattle.pp_values.specs.Datum.{Datum}
 use Rattle.res_core.specs.declared.export_set.ExportSet.{ExportSet}
-use Rattle.res_core.specs.Asked.{Asked, compile, deactivate}
+use Rattle.site_core.specs.Asked.{Plain, deactivate, Asked, compile, plain}
 use Rattle.site_core.specs.Meaning.{Meaning}
 use Rattle.site_core.specs.Events.{Event}
 use Rattle.site_core.specs.Sets.{sets_at, site_at}
@@ -14,7 +14,7 @@ use Rattle.site_core.specs.Fits.{facts_for, named}
 use Rattle.site_core.specs.Runs.{all_named}
 use Rattle.site_core.specs.declared.reply.ReplyOf.{ReplyOf}
 use Rattle.site_core.specs.declared.reply.ReplyOf.TheVariants as a
-use Rattle.site_sequence.specs.Sequence.{Turn, turn, turn_meant, turn_removed, turn_known, turn_for, Takes, AnsweredInTurn, Outcome, with_turn, outcome_of}
+use Rattle.site_sequence.specs.Sequence.{Turn, turn, turn_meant, turn_added, turn_known, turn_for, Takes, AnsweredInTurn, Outcome, with_turn, outcome_of}
 use Rattle.site_sequence.specs.SequenceLaws.{is_memory, CountUp, is_made_from, are_made_in_turn, AnswersAreMeant, MeantIsAnswered, RepliesNameEntries, PublicationsAreInTurn}
 
 module _ {S C F : Type 0} where
@@ -58,8 +58,8 @@ module _ {S C F : Type 0} where
       (eq-eqb (length h) (length h) refl))
       (stays h (a.HistoryFull (length h)) refl refl)
 
-  comes_removed : (limit : ℕ) (h : List (Event S)) (node : List ℕ) → Comes h (turn_removed {C = C} {F = F} limit h node)
-  comes_removed limit h node =
+  comes_added : (limit : ℕ) (h : List (Event S)) (p : Plain S) → Comes h (turn_added {C = C} {F = F} limit h p)
+  comes_added limit h (deactivate node) =
       comes_if h (nat_lt (length h) limit) _ _ (adds h (a.Deactivated (length h)) _ refl refl refl)
       (stays h (a.HistoryFull (length h)) refl refl)
 
@@ -80,7 +80,7 @@ module _ {S C F : Type 0} (meaning : Meaning S C F) (listed : S → List ℕ →
   comes_unless h true early later t first rest is = let e : early ≡ t = cc in subst (Comes h) e first
   comes_unless h false early later t first rest is = rest is
 
-  comes : (h : List (Event S)) (asked : Asked) (t : Turn S C F) → turn_for meaning listed limit h asked ≡ Some t →
+  comes : (h : List (Event S)) (asked : Asked S) (t : Turn S C F) → turn_for meaning listed limit h asked ≡ Some t →
       Comes h t
   comes h (compile w) t is =
       comes_unless h (nat_lt (length h) w.seen) (turn (a.SeenAhead (length h)) h) _ t
@@ -88,11 +88,10 @@ module _ {S C F : Type 0} (meaning : Meaning S C F) (listed : S → List ℕ →
       (comes_at h (λ site. turn_known meaning listed limit h site w.node (facts_for listed site w))
       (site_at h (length h)) t
       (λ site. comes_known h site w.node (facts_for listed site w))) is
-  comes h (deactivate node) t is = let e : turn_removed limit h node ≡ t = cc in
-      subst (Comes h) e (comes_removed limit h node)
+  comes h (plain p) t is = let e : turn_added limit h p ≡ t = cc in subst (Comes h) e (comes_added limit h p)
 
   -- each answer names the one entry that came, or none came
-  kind_of : (h next : List (Event S)) (asked : Asked) (reply : ReplyOf C F) →
+  kind_of : (h next : List (Event S)) (asked : Asked S) (reply : ReplyOf C F) →
       Takes meaning listed limit h asked reply next →
       IsSilent h reply next ⊎ Adds h reply next
   kind_of h next asked reply (inl is) = (comes h asked (turn reply next) is).kind
@@ -145,7 +144,7 @@ module _ {S C F : Type 0} (meaning : Meaning S C F) (listed : S → List ℕ →
   in_turn h after (asked ∷ requests) [] run all = absurd run
 
   -- the turn that is meant
-  told_turn : (h next : List (Event S)) (asked : Asked) (reply : ReplyOf C F) →
+  told_turn : (h next : List (Event S)) (asked : Asked S) (reply : ReplyOf C F) →
       Takes meaning listed limit h asked reply next →
       is_memory reply ≡ false → turn_for meaning listed limit h asked ≡ Some (turn reply next)
   told_turn h next asked reply (inl is) told = is
@@ -161,11 +160,11 @@ module _ {S C F : Type 0} (meaning : Meaning S C F) (listed : S → List ℕ →
   meant h after [] (reply ∷ replies) run told = absurd run
   meant h after (asked ∷ requests) [] run told = absurd run
 
-  Meant : List (Event S) → List Asked → Outcome S C F → Type 0
+  Meant : List (Event S) → List (Asked S) → Outcome S C F → Type 0
   Meant h requests o = AnsweredInTurn meaning listed limit h requests o.replies o.history
       × (list_any is_memory o.replies ≡ false)
 
-  run_later : (h : List (Event S)) (asked : Asked) (requests : List Asked) (t : Turn S C F)
+  run_later : (h : List (Event S)) (asked : Asked S) (requests : List (Asked S)) (t : Turn S C F)
       (later : Option (Outcome S C F)) (o : Outcome S C F) →
       turn_for meaning listed limit h asked ≡ Some t →
       ((u : Outcome S C F) → later ≡ Some u → Meant t.history requests u) →
@@ -180,7 +179,7 @@ module _ {S C F : Type 0} (meaning : Meaning S C F) (listed : S → List ℕ →
             ∙ (rest u refl).1,
       )
 
-  run_from : (h : List (Event S)) (asked : Asked) (requests : List Asked) (t : Option (Turn S C F))
+  run_from : (h : List (Event S)) (asked : Asked S) (requests : List (Asked S)) (t : Option (Turn S C F))
       (o : Outcome S C F) →
       turn_for meaning listed limit h asked ≡ t → ((next : List (Event S)) (u : Outcome S C F) →
       outcome_of meaning listed limit next requests ≡ Some u → Meant next requests u) →
@@ -190,7 +189,7 @@ module _ {S C F : Type 0} (meaning : Meaning S C F) (listed : S → List ℕ →
   run_from h asked requests (Some t) o is rest all =
       run_later h asked requests t (outcome_of meaning listed limit t.history requests) o is (rest t.history) all
 
-  runs : (h : List (Event S)) (requests : List Asked) (o : Outcome S C F) →
+  runs : (h : List (Event S)) (requests : List (Asked S)) (o : Outcome S C F) →
       outcome_of meaning listed limit h requests ≡ Some o → Meant h requests o
   unfolding outcome_of Meant
   runs h [] o is = let e : record { replies = []; history = h } ≡ o = cc in subst (Meant h []) e (refl, refl)

@@ -3,11 +3,12 @@ use Rattle.std.specs.Prelude.{◌≡◌, ◌⊎◌, ℕ, nat_lt, if◌then◌els
 use Rattle.std.specs.Prelude.{Result, Ok, Err, option_map, option_and_then}
 use Rattle.pp_values.specs.Datum.{Datum}
 use Rattle.res_core.specs.declared.export_set.ExportSet.{ExportSet}
-use Rattle.res_core.specs.Asked.{Asked, compile, deactivate}
+use Rattle.site_core.specs.Asked.{Plain, Asked, compile, plain, next_entry}
 use Rattle.site_core.specs.Meaning.{Meaning}
-use Rattle.site_core.specs.Events.{Event, publication, deactivation}
+use Rattle.site_core.specs.Events.{Event, publication}
 use Rattle.site_core.specs.Sets.{sets_at, site_at}
 use Rattle.site_core.specs.Fits.{Listed, facts_for}
+use Rattle.site_core.specs.Said.{kind_of, plain_reply}
 use Rattle.site_core.specs.declared.reply.ReplyOf.{ReplyOf}
 use Rattle.site_core.specs.declared.reply.ReplyOf.TheVariants as a
 use Rattle.site_sequence.specs.declared.sequence.TheConstants.{AUTHOR}
@@ -29,10 +30,11 @@ module _ {S C F : Type 0} where
       then turn (a.Served (length h) (length h) made.0) (h ++ publication h AUTHOR node facts (length h) made.1 ∷ [])
       else turn (a.HistoryFull (length h)) h
 
-  abbrev pub turn_removed : ℕ → List (Event S) → List ℕ → Turn S C F
-  turn_removed limit h node =
+  -- where a plain entry is asked for
+  abbrev pub turn_added : ℕ → List (Event S) → Plain S → Turn S C F
+  turn_added limit h p =
       if nat_lt (length h) limit
-      then turn (a.Deactivated (length h)) (h ++ deactivation h AUTHOR node ∷ [])
+      then turn (plain_reply (kind_of p) (length h)) (h ++ next_entry h AUTHOR p ∷ [])
       else turn (a.HistoryFull (length h)) h
 
 module _ {S C F : Type 0} (meaning : Meaning S C F) (listed : Listed S) (limit : ℕ) where
@@ -42,21 +44,20 @@ module _ {S C F : Type 0} (meaning : Meaning S C F) (listed : Listed S) (limit :
   turn_known h site node (Some facts) = turn_meant limit h node facts (meaning site node facts (sets_at h (length h)))
 
   -- a request's turn after the entries h, where the first cause of a refusal is told; none where no site was opened
-  abbrev pub turn_for : List (Event S) → Asked → Option (Turn S C F)
+  abbrev pub turn_for : List (Event S) → Asked S → Option (Turn S C F)
   turn_for h (compile w) =
       if nat_lt (length h) w.seen
       then Some (turn (a.SeenAhead (length h)) h)
       else option_map (λ site. turn_known h site w.node (facts_for listed site w)) (site_at h (length h))
-  turn_for h (deactivate node) = Some (turn_removed limit h node)
+  turn_for h (plain p) = Some (turn_added limit h p)
 
   -- The request is answered so, and this is the history after it. Want of memory may be the answer to any request, and
-  -- leaves the
-  -- history as it was.
-  abbrev pub Takes : List (Event S) → Asked → ReplyOf C F → List (Event S) → Type 0
+  -- leaves the history as it was.
+  abbrev pub Takes : List (Event S) → Asked S → ReplyOf C F → List (Event S) → Type 0
   Takes h asked reply after = (turn_for h asked ≡ Some (turn reply after)) ⊎ ((reply ≡ a.Memory) × (after ≡ h))
 
   -- the requests are answered so in turn, and this is the history after the last one
-  abbrev pub AnsweredInTurn : List (Event S) → List Asked → List (ReplyOf C F) → List (Event S) → Type 0
+  abbrev pub AnsweredInTurn : List (Event S) → List (Asked S) → List (ReplyOf C F) → List (Event S) → Type 0
   AnsweredInTurn h [] [] after = after ≡ h
   AnsweredInTurn h (asked ∷ requests) (reply ∷ replies) after =
       (next : List (Event S)) × Takes h asked reply next × AnsweredInTurn next requests replies after
@@ -75,7 +76,7 @@ module _ {S C F : Type 0} where
 
 module _ {S C F : Type 0} (meaning : Meaning S C F) (listed : Listed S) (limit : ℕ) where
   -- what comes of the requests in turn, where memory is never wanting
-  unfoldable pub outcome_of : List (Event S) → List Asked → Option (Outcome S C F)
+  unfoldable pub outcome_of : List (Event S) → List (Asked S) → Option (Outcome S C F)
   outcome_of h [] = Some (record { replies = []; history = h })
   outcome_of h (asked ∷ requests) =
       option_and_then (λ t. option_map (with_turn t) (outcome_of t.history requests))

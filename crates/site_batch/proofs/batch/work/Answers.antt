@@ -1,4 +1,5 @@
 use Rattle.std.proofs.Common.{refl}
+use Rattle.site_core.specs.Asked.{all_asks}
 use Rattle.site_batch.specs.Work.{HasWorked}
 use Rattle.site_batch.specs.Gathered.{shown}
 use Rattle.site_batch.specs.Shares.{IsIdle}
@@ -16,7 +17,7 @@ pub returns : goal.returns
 returns g c =
     let before = c.loop-pass.invariant in
     jobs_came (λ w. (w.pass, w.seat)) (λ w. w.requests.now)
-    (λ requests share out. HasWorked g.L.Language.meaning g.L.Language.listed requests share.0 share.1 out.pass out.seat
+    (λ requests share out. HasWorked g.L.Language.meaning g.L.Language.listed (all_asks requests) share.0 share.1 out.pass out.seat
     (shown out.answers)) (IsIdle c.args.site.now c.args.claims.now) c.args.requests.now c.loop-pass.jobs.items _
     c.args.shares.items c.run_jobs.result (no_items _ _ before.3 c.in-None.ensures.steps.0)
     (before.0, before.1, before.2) c.run_jobs.ensures

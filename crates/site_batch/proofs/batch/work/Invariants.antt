@@ -1,7 +1,7 @@
 -- Each share so far has a job, and the others are left.
 use Rattle.std.proofs.Common.{◌≡◌, ◌++◌, map, length}
 use Rattle.std.specs.Vec.Iter.{into_iter_items, into_iter_len}
-use Rattle.site_batch.specs.Answers.{Each}
+use Rattle.site_core.specs.Each.{Each}
 use Rattle.site_batch.specs.Shares.{IsIdle}
 use Rattle.site_batch.proofs.batch.work.Given as goal
 

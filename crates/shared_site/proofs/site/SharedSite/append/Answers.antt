@@ -1,6 +1,6 @@
 use Rattle.std.proofs.Common.{subst}
 use mathlib.Core.List.{IsPrefix}
-use Rattle.shared_site.specs.Additions.{entry_of}
+use Rattle.site_core.specs.Additions.{entry_of}
 use Rattle.shared_site.proofs.Turns.{found, has_added, has_refused, may_add_still, one_entry}
 use Rattle.shared_site.proofs.site.SharedSite.append.Goals as goal
 

@@ -1,12 +1,14 @@
-use Rattle.std.proofs.Common.{subst, List, ℕ}
-use Rattle.site_core.specs.Events.{deactivation}
-use Rattle.shared_site.specs.Known.{HasAdded}
-use Rattle.shared_site.proofs.Answered.{removed}
+use Rattle.std.proofs.Common.{List, ℕ, sym, subst}
+use Rattle.site_core.specs.Asked.{plain, deactivate, next_entry}
+use Rattle.shared_site.specs.Known.{HasAsked, IsAnswered}
+use Rattle.shared_site.proofs.Answered.{plain_ended}
 use Rattle.shared_site.proofs.site.SharedSite.deactivate.Goals as goal
 
-pub returns-in-Ok-append : goal.returns-in-Ok-append
-returns-in-Ok-append g c =
-    removed g.L.Language.meaning g.L.Language.listed c.args.pass.now c.append.new.pass c.args.node.now c.in-Ok-append.entry
-    c.in-Ok-append.ensures.later c.in-Ok-append.ensures.legal
-    (subst (λ (node : List ℕ). HasAdded (λ h. deactivation h c.args.pass.now.author node) c.in-Ok-append.entry c.args.pass.now c.append.new.pass)
-    c.in-Ok.ensures c.in-Ok-append.ensures.asked)
+pub returns : goal.returns
+returns g c =
+    subst (λ reply. IsAnswered g.L.Language.meaning g.L.Language.listed (plain (deactivate c.args.node.now)) reply
+    c.args.pass.now c.append.new.pass) (sym c.deactivated.ensures)
+    (plain_ended g.L.Language.meaning g.L.Language.listed c.args.pass.now c.append.new.pass
+    (deactivate c.args.node.now) c.append.result c.append.ensures.later c.append.ensures.legal
+    (subst (λ (node : List ℕ). HasAsked (λ h. next_entry h c.args.pass.now.author (deactivate node)) c.append.result
+    c.args.pass.now c.append.new.pass) c.in-Ok.ensures c.append.ensures.asked))

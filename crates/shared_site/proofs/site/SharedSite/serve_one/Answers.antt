@@ -1,60 +1,41 @@
-use Rattle.std.proofs.Common.{◌≡◌, subst, ap, sym, ◌∙◌, List, ℕ}
-use Rattle.std.specs.Prelude.{Err}
-use Rattle.pp_values.specs.Datum.{Datum}
-use Rattle.pp_values.specs.Views.{view}
+use Rattle.std.proofs.Common.{sym, subst}
 use Rattle.res_core.specs.RequestViews.{wanted}
-use Rattle.site_core.specs.Events.{publication}
-use Rattle.site_core.specs.Fits.{facts_for}
-use Rattle.site_core.specs.declared.done_stop.DoneStop.{DoneStop}
-use Rattle.shared_site.specs.Known.{HasAdded, HasAsked}
-use Rattle.shared_site.proofs.Answered.{served, full}
+use Rattle.site_core.specs.Asked.{compile}
+use Rattle.site_core.proofs.Meant.{may_publish}
+use Rattle.shared_site.specs.Known.{IsAnswered}
+use Rattle.shared_site.proofs.Answered.{told, published}
 use Rattle.shared_site.proofs.site.SharedSite.serve_one.Goals as goal
 
-pub returns-in-Ok-append : goal.returns-in-Ok-append
-returns-in-Ok-append g c =
-    let same : (c.in-Ok-copy.node, view c.in-Ok-copy-2.facts) ≡ (c.args.request.now.node, view c.in-Some.facts.now) =
-    λ i. (c.in-Ok-copy.ensures i, c.in-Ok-copy-2.ensures i) in
-    served g.L.Language.meaning g.L.Language.listed c.args.pass.now c.snap.new.pass c.append.new.pass c.in-Ok.snapshot
-    (wanted c.args.request.now) (view c.in-Some.facts.now) c.in-Ok-answer.compiled.0 c.in-Ok-answer.compiled.1
-    c.in-Ok-append.entry
-    (record {
-      later = c.in-Ok.ensures.later;
-      own = c.in-Ok.ensures.own;
-      number = c.in-Ok.ensures.number;
-      of = c.in-Ok.ensures.of;
-      seen = c.if-request-k.false;
-      given =
-          ap (λ s. facts_for g.L.Language.listed s (wanted c.args.request.now)) (sym c.deref.ensures)
-          ∙ sym c.in-Some.ensures.these;
-      meant =
-          ap (λ s. g.L.Language.meaning s c.args.request.now.node (view c.in-Some.facts.now) c.in-Ok.snapshot.version)
-          (sym c.deref-2.ensures)
-          ∙ c.in-Ok-answer.ensures;
-    })
-    c.in-Ok-append.ensures.later c.in-Ok-append.ensures.legal
-    (subst (λ (x : List ℕ × Datum). HasAdded (λ h. publication h c.snap.new.pass.author x.0 x.1 c.in-Ok.snapshot.k
-    c.in-Ok-answer.compiled.1) c.in-Ok-append.entry c.snap.new.pass c.append.new.pass) same c.in-Ok-append.ensures.asked)
+pub append-answer-requires-clause-may : goal.append-answer-requires-clause-may
+append-answer-requires-clause-may g c =
+    may_publish g.L.Language.meaning g.L.Language.listed (wanted c.args.request.now) c.in-Ok.snapshot
+    c.in-Ok-compiled.catalog c.in-Ok-compiled.addition c.snap.new.pass.front c.in-Ok-compiled.ensures c.in-Ok.ensures.of
 
-pub returns-in-Err-Full : goal.returns-in-Err-Full
-returns-in-Err-Full g c =
-    full g.L.Language.meaning g.L.Language.listed c.args.pass.now c.snap.new.pass c.append.new.pass c.in-Ok.snapshot
-    (wanted c.args.request.now) (view c.in-Some.facts.now) c.in-Ok-answer.compiled.0 c.in-Ok-answer.compiled.1
-    c.in-Err-Full.length
+pub returns-in-Ok-compiled : goal.returns-in-Ok-compiled
+returns-in-Ok-compiled g c =
+    subst (λ reply. IsAnswered g.L.Language.meaning g.L.Language.listed (compile (wanted c.args.request.now)) reply
+    c.args.pass.now c.append-answer.new.pass) (sym c.served.ensures)
+    (published g.L.Language.meaning g.L.Language.listed c.args.pass.now c.snap.new.pass c.append-answer.new.pass
+    c.in-Ok.snapshot (wanted c.args.request.now) c.in-Ok-compiled.catalog c.in-Ok-compiled.addition
+    c.append-answer.result
     (record {
       later = c.in-Ok.ensures.later;
       own = c.in-Ok.ensures.own;
+      legal = c.in-Ok.ensures.legal;
       number = c.in-Ok.ensures.number;
       of = c.in-Ok.ensures.of;
-      seen = c.if-request-k.false;
-      given =
-          ap (λ s. facts_for g.L.Language.listed s (wanted c.args.request.now)) (sym c.deref.ensures)
-          ∙ sym c.in-Some.ensures.these;
-      meant =
-          ap (λ s. g.L.Language.meaning s c.args.request.now.node (view c.in-Some.facts.now) c.in-Ok.snapshot.version)
-          (sym c.deref-2.ensures)
-          ∙ c.in-Ok-answer.ensures;
     })
-    c.in-Err-Full.ensures.later c.in-Err-Full.ensures.legal
-    (subst (λ (e : DoneStop). HasAsked (λ h. publication h c.snap.new.pass.author c.in-Ok-copy.node
-    (view c.in-Ok-copy-2.facts) c.in-Ok.snapshot.k c.in-Ok-answer.compiled.1) (Err e) c.snap.new.pass c.append.new.pass)
-    c.in-Err-Full.field-0-is c.in-Err-Full.ensures.asked)
+    c.in-Ok-compiled.ensures c.append-answer.ensures.later c.append-answer.ensures.legal c.append-answer.ensures.asked)
+
+pub returns-in-Err : goal.returns-in-Err
+returns-in-Err g c =
+    told g.L.Language.meaning g.L.Language.listed c.args.pass.now c.snap.new.pass c.in-Ok.snapshot
+    (wanted c.args.request.now) c.in-Err.reply
+    (record {
+      later = c.in-Ok.ensures.later;
+      own = c.in-Ok.ensures.own;
+      legal = c.in-Ok.ensures.legal;
+      number = c.in-Ok.ensures.number;
+      of = c.in-Ok.ensures.of;
+    })
+    c.in-Err.ensures

@@ -1,15 +1,15 @@
 ghost use Rattle.std.specs.Prelude.{◌≡◌, OnOk, OnErr};
 ghost use Rattle.site_core.specs.Core.{with_event};
 ghost use Rattle.site_core.specs.Answers.{Stops};
-ghost use Rattle.shared_site.specs.Additions.{entry_of, MayAdd};
+ghost use Rattle.site_core.specs.Additions.{entry_of, MayAdd};
 
+use crate::done_stop::DoneStop;
+use crate::language::Language;
+use crate::snapshot::Snapshot;
+use crate::state::CoreState;
 use pp_values::text::Text;
 use pp_values::value::Value;
 use res_core::export_set::ExportSet;
-use site_core::done_stop::DoneStop;
-use site_core::language::Language;
-use site_core::snapshot::Snapshot;
-use site_core::state::CoreState;
 use std::alloc::Global;
 
 /// An entry that is to be added to a history.
@@ -23,7 +23,7 @@ pub enum Addition<S> {
         set: ExportSet,
     },
     /// The end of a node's set.
-    Removal {
+    Deactivation {
         node: Text,
     },
 }
@@ -47,6 +47,6 @@ pub fn add<L: Language>(
             snapshot,
             set,
         } => core.done(alloc, author, node, facts, snapshot, set),
-        Addition::Removal { node } => core.deactivate(alloc, author, node),
+        Addition::Deactivation { node } => core.deactivate(alloc, author, node),
     }
 }

@@ -61,7 +61,7 @@ y = codes "y"
 
 -- the main manifest's statements
 abbrev top : Here
-top = record { scope = record { number = 0 }; owner = 0 }
+top = record { scope = record { number = 0 }; owner = 0; typed = false }
 
 abbrev at : ℕ → Place
 at line = record { file = codes "manifests/site.pp"; line = line }

@@ -104,7 +104,7 @@ sample = record {
 -- ---- the world: `Class[main]` is declared
 
 abbrev pub top : Here
-top = record { scope = record { number = 0 }; owner = 0 }
+top = record { scope = record { number = 0 }; owner = 0; typed = false }
 
 abbrev pub place : ℕ → Place
 place at = record { file = codes "manifests/site.pp"; line = at }

@@ -1,5 +1,5 @@
 -- Where the body of an instance or of a node is evaluated.
-use Rattle.std.specs.Prelude.{ℕ, ◌+◌, length, Some, Ok}
+use Rattle.std.specs.Prelude.{ℕ, ◌+◌, false, length, Some, Ok}
 use Rattle.override_rules.specs.Meaning.{scope_opened}
 use Rattle.scope_core.specs.Scopes.{entered}
 use Rattle.scope_core.specs.declared.scope_kind.ScopeKind.{ScopeKind}
@@ -14,6 +14,7 @@ abbrev pub next_here : World → Here
 next_here w = record {
   scope = record { number = length w.scopes.scopes };
   owner = length w.owners.others + 1;
+  typed = false;
 }
 
 -- The new scope is entered from one, and has another one as its dynamic parent.

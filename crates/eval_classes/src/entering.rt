@@ -29,5 +29,9 @@ pub fn enter_body(
         resource: owner.resource,
         scope: scope.number,
     })?;
-    Ok(Here { scope, owner })
+    Ok(Here {
+        scope,
+        owner,
+        typed: false,
+    })
 }

@@ -165,7 +165,11 @@ fn own(
     Ok(Listed {
         number,
         line: class.at,
-        here: Here { scope, owner },
+        here: Here {
+            scope,
+            owner,
+            typed: false,
+        },
     })
 }
 

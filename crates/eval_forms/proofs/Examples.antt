@@ -232,7 +232,7 @@ and_values = (λ here w. refl, λ here w. refl, λ here w. refl, λ here w. refl
 -- ---- assignments
 
 abbrev top : Here
-top = record { scope = record { number = 0 }; owner = 0 }
+top = record { scope = record { number = 0 }; owner = 0; typed = false }
 
 -- `$a = e`
 abbrev sets_a : Expr → Here → Step Datum

@@ -118,7 +118,7 @@ titled_by title attributes at = body title attributes at
 -- ---- the world: `Class[main]`, which has the tags `class` and `main`, is declared
 
 abbrev pub here : Here
-here = record { scope = record { number = 0 }; owner = 0 }
+here = record { scope = record { number = 0 }; owner = 0; typed = false }
 
 abbrev pub place : ℕ → Place
 place at = record { file = codes "manifests/site.pp"; line = at }

@@ -1,5 +1,5 @@
 -- The steps that read and change one table of the world.
-use Rattle.std.specs.Prelude.{ℕ, List, [], ◌∷◌, ◌++◌, length, Result, Ok, Err}
+use Rattle.std.specs.Prelude.{ℕ, false, List, [], ◌∷◌, ◌++◌, length, Result, Ok, Err}
 use Rattle.pp_values.specs.Datum.{Datum}
 use Rattle.pp_values.specs.Faults as faults
 use Rattle.pp_values.specs.declared.fault.Fault.{Fault}
@@ -35,7 +35,7 @@ empty environment = record {
 
 -- where the statements of the main manifest are evaluated
 abbrev pub top : Here
-top = record { scope = record { number = 0 }; owner = 0 }
+top = record { scope = record { number = 0 }; owner = 0; typed = false }
 
 -- ---- places and faults
 
@@ -73,10 +73,10 @@ assign here x d line = λ w. with_scopes (scopes.assign here.scope.number x d (p
 
 -- ---- calls of lambdas
 
--- where the body of a lambda that stands here is evaluated
+-- where the body of a lambda that stands here is evaluated: what is evaluated in it is not within a parameter's type
 unfoldable pub enter_lambda : Here → Step Here
 enter_lambda here = λ w. Ok (
-  record { scope = record { number = length w.scopes.scopes }; owner = here.owner },
+  record { scope = record { number = length w.scopes.scopes }; owner = here.owner; typed = false },
   record w { scopes = scopes.entered kind.Lambda here.scope.number w.scopes },
 )
 

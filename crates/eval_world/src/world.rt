@@ -186,6 +186,7 @@ impl<'a> World<'a> {
         Ok(Here {
             scope,
             owner: here.owner,
+            typed: false,
         })
     }
 

@@ -46,7 +46,8 @@ fn fill_list(
     for item in items {
         filled.push(fill(alloc, world, answers, item)?)?;
     }
-    Ok(Values::from_vec(filled)?)
+    let values = Values::from_vec(filled)?;
+    Ok(values)
 }
 
 #[cycle(fill)]

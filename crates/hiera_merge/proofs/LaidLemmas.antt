@@ -1,23 +1,16 @@
 -- The lower's pairs gone through one after another, in place of the higher's: what both ways lead to is the same.
 use Rattle.std.proofs.Common.{◌≡◌, ℕ, ◌≤◌, Bool, true, false, not, cond, None, Some, Option, IsTrue, List, [], ◌∷◌, refl, ap, sym, subst, ◌∙◌, arith, true≢false}
 use Rattle.std.specs.Prelude.{option_map, unwrap_or}
-use Rattle.std.specs.Cmp.{first_so, second_so, signed_Decides}
-use Rattle.std.proofs.lemmas.Slice.Eq.{bytes_eq-Decides}
+use Rattle.std.specs.Cmp.{first_so, second_so}
 use Rattle.pp_values.specs.Datum.{Datum, undef, flag, int, text, list, hash, reference, kind, default, Pair, Entries, no_entries, entry, entries_of, pairs_of}
 use Rattle.pp_values.specs.Keys.{is_key, same_key, are_distinct, lacks, value_at, with_pair, without_key}
 use Rattle.pp_values.specs.Places.{place_of}
 use Rattle.pp_values.specs.Sizes.{datum_size, pairs_size, entries_size}
-use Rattle.pp_values.proofs.Distinct.{with_pair-no_place, with_pair-place, without_key-no_place, without_key-place, are_distinct-with_value, are_distinct-append, are_distinct-without_place}
+use Rattle.pp_values.proofs.Distinct.{one_key, not_so, with_pair-no_place, with_pair-place, without_key-no_place, without_key-place, are_distinct-with_value, are_distinct-append, are_distinct-without_place}
 use Rattle.hiera_merge.specs.Merges.{pairs_in, deep, deep_pairs}
 use Rattle.hiera_merge.specs.DeepSteps.{met, laid}
 
 -- ---- keys
-
--- two keys that are the same are one
-pub one_key : (a b : Datum) → same_key a b ≡ true → a ≡ b
-one_key (int x) (int y) h = ap int ((signed_Decides x y).0 h)
-one_key (text x) (text y) h = ap text ((bytes_eq-Decides x y).0 h)
-one_key a b h = absurd (true≢false (sym h))
 
 -- the order of the two says nothing
 turned : (a b : Datum) → same_key a b ≡ true → same_key b a ≡ true
@@ -34,16 +27,12 @@ by_turns false true f g = absurd (true≢false (sym (g refl)))
 pub either_way : (a b : Datum) → same_key a b ≡ same_key b a
 either_way a b = by_turns (same_key a b) (same_key b a) (turned a b) (turned b a)
 
-pub not_so : (b : Bool) → IsTrue (not b) → b ≡ false
-not_so true is = absurd (cc is)
-not_so false is = refl
-
 -- ---- a key that no pair has
 
 pub apart : (k : Datum) (p : Pair) (ps : List Pair) → IsTrue (lacks k (p ∷ ps)) → same_key k p.0 ≡ false
 apart k p ps h = either_way k p.0 ∙ not_so (same_key p.0 k) (first_so (not (same_key p.0 k)) _ h)
 
-no_value : (k : Datum) (ps : List Pair) → IsTrue (lacks k ps) → value_at k ps ≡ None
+pub no_value : (k : Datum) (ps : List Pair) → IsTrue (lacks k ps) → value_at k ps ≡ None
 no_value k [] h = refl
 no_value k (p ∷ ps) h =
     ap (λ b. cond b (Some p.1) (value_at k ps)) (apart k p ps h)
@@ -123,13 +112,16 @@ by_place k v ps None at key distinct =
 by_place k v ps (Some n) at key distinct =
     ap are_distinct (with_pair-place k v ps n at) ∙ are_distinct-with_value v n ps ∙ distinct
 
+pub pair_distinct : (k v : Datum) (ps : List Pair) → IsTrue (is_key k) → IsTrue (are_distinct ps)
+    → IsTrue (are_distinct (with_pair k v ps))
+pair_distinct k v ps = by_place k v ps (place_of k ps) refl
+
 pub deep_distinct : (hs ls : List Pair) → IsTrue (are_distinct hs) → IsTrue (are_distinct ls)
     → IsTrue (are_distinct (deep_pairs (entries_of hs) ls))
 deep_distinct [] ls h g = g
 deep_distinct (p ∷ hs) ls h g =
     deep_distinct hs (with_pair p.0 (unwrap_or (option_map (deep p.1) (value_at p.0 ls)) p.1) ls) (rest_distinct p hs h)
-    (by_place p.0 (unwrap_or (option_map (deep p.1) (value_at p.0 ls)) p.1) ls (place_of p.0 ls) refl
-    (first_so (is_key p.0) _ h) g)
+    (pair_distinct p.0 (unwrap_or (option_map (deep p.1) (value_at p.0 ls)) p.1) ls (first_so (is_key p.0) _ h) g)
 
 -- ---- sizes
 

@@ -18,10 +18,11 @@ use Rattle.pp_values.specs.Datum.{Datum, undef, flag, int, text, list, hash, ref
 use Rattle.pp_values.specs.Keys.{same_key, are_distinct, lacks, value_at, without_key}
 use Rattle.pp_values.specs.Places.{place_of}
 use Rattle.pp_values.specs.Sizes.{datum_size, data_size, pairs_size}
+use Rattle.pp_values.proofs.Distinct.{one_key}
 use Rattle.pp_values.proofs.Lists.{members_of-data_of, entries_of-pairs_of, data_of-members_of}
 use Rattle.hiera_merge.specs.Merges.{pairs_in, members_in, joined, is_hash, is_list, deep, deep_merge}
 use Rattle.hiera_merge.specs.DeepSteps.{Stack, AreKeyed, members_of_all, lists_joined, up_from, met, laid, laid_all, raised, put_stack, put_stacks, put_hashes, top, raised_at, stack, stacks, merged_stack, over, stacks_size}
-use Rattle.hiera_merge.proofs.LaidLemmas.{pairs_fall, one_key, either_way, apart, laid_whole, deep_distinct, rest_lacks, rest_distinct}
+use Rattle.hiera_merge.proofs.LaidLemmas.{pairs_fall, either_way, apart, laid_whole, deep_distinct, rest_lacks, rest_distinct}
 
 -- ---- one key taken out, and another looked for
 

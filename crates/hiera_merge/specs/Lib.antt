@@ -1,4 +1,5 @@
 pub mod Merges
+pub mod KeyPlaces
 pub mod DeepSteps
 pub mod Options
 pub mod Digging

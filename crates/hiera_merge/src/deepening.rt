@@ -128,7 +128,8 @@ fn hashes_up(alloc: Global, lower: Vec<Value>, high: Pairs) -> Result<Pairs, Mem
     are_keyed(lower.as_slice());
     is_keyed(&high);
     let columns = columns_of(alloc, lower, high)?;
-    Ok(Pairs::from_vec(columns_merged(alloc, columns)?)?)
+    let pairs = Pairs::from_vec(columns_merged(alloc, columns)?)?;
+    Ok(pairs)
 }
 
 /// Tells that no hash among the values has a key twice.

@@ -1,6 +1,8 @@
 //! Resources are listed one after another, as they become ready.
 ghost use Rattle.std.specs.Prelude.{◌≡◌, length, IfOk, MatchOption};
 ghost use Rattle.rel_graph.specs.Before.{Direct};
+ghost use Rattle.rel_graph.specs.Chains.{Paired};
+ghost use Rattle.rel_graph.specs.Cycles.{HasNoCycle};
 ghost use Rattle.rel_graph.specs.Listing.{Listing, IsStuck};
 ghost use Rattle.rel_graph.specs.Marks.{AllBlocked, IsLeastFree};
 ghost use Rattle.rel_graph.specs.Pairs.{AllBelow};
@@ -23,7 +25,7 @@ fn least_free(count: u32, left: &[bool], blocked: &[bool]) -> Option<u32>
     None
 }
 
-/// Lists what is ready, the least index first, until nothing is.
+/// Lists what is ready, the least index first, until nothing is. Nothing stands inside itself.
 pub fn list_ready(
     alloc: Global,
     containers: &[(u32, u32)],
@@ -32,6 +34,7 @@ pub fn list_ready(
 ) -> Result<Listed, AllocError>
     requires below { AllBelow containers.now count }
     requires edges_below { AllBelow edges.now count }
+    requires contains { HasNoCycle (Paired containers.now) }
     ensures listing { IfOk result (λ v. Listing (Direct containers.now edges.now) count v.left.items v.order.items) }
     ensures stuck { IfOk result (λ v. IsStuck (Direct containers.now edges.now) v.left.items) }
 {

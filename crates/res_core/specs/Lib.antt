@@ -6,6 +6,7 @@ pub mod Criteria
 pub mod CriteriaCodes
 pub mod ExportSetCodes
 pub mod ExportedCodes
+pub mod Lines
 pub mod Metaparameters
 pub mod NamesForms
 pub mod NativeRows

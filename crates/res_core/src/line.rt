@@ -1,6 +1,8 @@
-ghost use Rattle.std.specs.Prelude.{◌≡◌};
+ghost use Rattle.std.specs.Prelude.{◌≡◌, IfOk};
+ghost use Rattle.res_core.specs.Lines.{line_of};
 
-use pp_values::{Place, Text, Value};
+use pp_values::{Memory, Place, Text, Value, copy};
+use std::alloc::Global;
 
 /// A line within a resource, an override, a default statement or a collector's block: a name, `=>` or `+>`, and a value.
 pub struct Line {
@@ -24,6 +26,21 @@ impl Drop for Line {
 }
 
 impl Line {
+    /// A line that says the same.
+    pub fn copy(&self, alloc: Global) -> Result<Line, Memory>
+        ensures { IfOk result (λ l. line_of l ≡ line_of self.now) }
+    {
+        let name = self.name.copy(alloc)?;
+        let at = self.at.copy(alloc)?;
+        let value = copy(alloc, &self.value)?;
+        Ok(Line {
+            name,
+            append: self.append,
+            value,
+            at,
+        })
+    }
+
     /// The name, the value and the place.
     pub fn into_parts(self) -> (Text, Value, Place)
         ensures name { result.0 ≡ self.name }

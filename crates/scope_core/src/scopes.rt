@@ -1,9 +1,11 @@
-ghost use Rattle.std.specs.Prelude.{◌≡◌, None, length, map, option_map, is_ok, if◌then◌else◌, slice_get, IfOk, OnOk};
+ghost use Rattle.std.specs.Prelude.{◌≡◌, None, length, map, option_map, is_ok, if◌then◌else◌, slice_get, IfOk};
 ghost use Rattle.std.specs.Char.{to_ascii_lowercase};
 ghost use Rattle.pp_values.specs.Views.{view};
 ghost use Rattle.scope_core.specs.Names.{value_of_class};
 ghost use Rattle.scope_core.specs.Outcomes.{Changes, Puts, Reads};
 ghost use Rattle.scope_core.specs.Scopes as spec;
+ghost use Rattle.scope_core.specs.declared.owner.Owner.TheVariants as o;
+ghost use Rattle.scope_core.specs.declared.scope_kind.ScopeKind.TheVariants as k;
 
 use crate::binding::Binding;
 use crate::cutting::{cut, has_capital, without_front_colons};
@@ -56,7 +58,7 @@ impl Scopes {
     }
 
     /// A new scope without names. `parent` is the scope that a lambda's call is within, and for a class with a parent
-    /// class that class's scope; for others it does not count.
+    /// class that class's scope; for others it does not count. Where there is no memory, all stays as it was.
     #[inline(always)]
     pub fn enter(
         &mut self,
@@ -65,7 +67,7 @@ impl Scopes {
         parent: ScopeId,
     ) -> Result<ScopeId, Memory>
         ensures number { IfOk result (λ id. id.number ≡ length self.old.scopes) }
-        ensures scopes { OnOk result (self.new ≡ spec.entered kind parent.number self.old) }
+        ensures scopes { self.new ≡ (if is_ok result then spec.entered kind parent.number self.old else self.old) }
     {
         let Ok(number) = u32::try_from(self.scopes.len()) else {
             return Err(Memory);
@@ -75,10 +77,7 @@ impl Scopes {
                 self.add(Owner::Node, parent)?;
                 self.node = number;
             }
-            ScopeKind::Class(name) => {
-                self.classes.set(alloc, lowered(alloc, name)?, number)?;
-                self.add(Owner::Class, parent)?;
-            }
+            ScopeKind::Class(name) => self.add_class(alloc, name, parent, number)?,
             ScopeKind::Instance => self.add(Owner::Instance, parent)?,
             ScopeKind::Lambda => self.add(Owner::Lambda, parent)?,
         }
@@ -87,9 +86,33 @@ impl Scopes {
 
     #[inline(always)]
     fn add(&mut self, owner: Owner, parent: ScopeId) -> Result<(), Memory>
-        ensures { OnOk result (self.new ≡ spec.added owner parent.number self.old) }
+        ensures { self.new ≡ (if is_ok result then spec.added owner parent.number self.old else self.old) }
     {
         self.scopes.push(Scope::new(owner, parent.number))?;
+        Ok(())
+    }
+
+    /// The scope of a class, which has its name from then on. It is taken back where there is no memory for the name.
+    fn add_class(
+        &mut self,
+        alloc: Global,
+        name: Text,
+        parent: ScopeId,
+        number: u32,
+    ) -> Result<(), Memory>
+        ensures { self.new
+            ≡ (if is_ok result
+            then record (spec.added o.Class parent.number self.old) {
+              classes = spec.classes_after (k.Class name) number self.old.classes;
+            }
+            else self.old) }
+    {
+        let name = lowered(alloc, name)?;
+        self.add(Owner::Class, parent)?;
+        if self.classes.set(alloc, name, number).is_err() {
+            drop(self.scopes.pop());
+            return Err(Memory);
+        }
         Ok(())
     }
 

@@ -28,6 +28,7 @@ module _ (faults from to : ℕ) (bytes buffer : List ℕ) (next : to ≡ from + 
       left = left;
       read = ap Some read;
       written = refl;
+      shut = refl;
     };
     ended = λ none room. ap Some (ended none room);
   }

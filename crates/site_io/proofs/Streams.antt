@@ -20,6 +20,7 @@ nothing_read s = record {
   left = Consumes-nil s.left;
   read = sym (append_known-nil s.read);
   written = refl;
+  shut = refl;
 }
 
 pub nothing_written : (s : Stream) → HasWritten [] s s
@@ -28,6 +29,7 @@ nothing_written s = record {
   left = refl;
   read = refl;
   written = sym (append_known-nil s.written);
+  shut = refl;
 }
 
 pub read_then_read : {xs ys : List ℕ} {s t u : Stream} → HasRead xs s t → HasRead ys t u → HasRead (xs ++ ys) s u
@@ -36,6 +38,7 @@ read_then_read {xs} {ys} {s} {t} {u} first second = record {
   left = Consumes-trans s.left t.left u.left xs ys first.left second.left;
   read = second.read ∙ ap (λ known. append_known known ys) first.read ∙ append_known-append s.read xs ys;
   written = second.written ∙ first.written;
+  shut = second.shut ∙ first.shut;
 }
 
 pub written_then_written : {xs ys : List ℕ} {s t u : Stream} → HasWritten xs s t → HasWritten ys t u → HasWritten (xs ++ ys) s u
@@ -44,6 +47,7 @@ written_then_written {xs} {ys} {s} {t} {u} first second = record {
   left = second.left ∙ first.left;
   read = second.read ∙ first.read;
   written = second.written ∙ ap (λ known. append_known known ys) first.written ∙ append_known-append s.written xs ys;
+  shut = second.shut ∙ first.shut;
 }
 
 -- A read that failed moved nothing.
@@ -53,6 +57,7 @@ read_then_failed {xs} {s} {t} {u} first second = record {
   left = subst (λ known. Consumes s.left known xs) (sym second.left) first.left;
   read = second.read ∙ first.read;
   written = second.written ∙ first.written;
+  shut = second.shut ∙ first.shut;
 }
 
 pub written_then_failed : {xs : List ℕ} {s t u : Stream} → HasWritten xs s t → HasFailed t u → HasWritten xs s u
@@ -61,6 +66,7 @@ written_then_failed {xs} {s} {t} {u} first second = record {
   left = second.left ∙ first.left;
   read = second.read ∙ first.read;
   written = second.written ∙ first.written;
+  shut = second.shut ∙ first.shut;
 }
 
 -- What was within a limit is past it by the bytes of one more read at most.

@@ -10,10 +10,10 @@ use Rattle.site_io.specs.Stream.{Stream}
 
 -- a reader, of which nothing is left once it has ended
 abbrev pub reader_stream : ℕ → Bool → Stream
-reader_stream faults ended = record { faults = faults; left = (if ended then Some [] else None); read = None; written = None }
+reader_stream faults ended = record { faults = faults; left = (if ended then Some [] else None); read = None; written = None; shut = None }
 
 abbrev pub writer_stream : ℕ → Stream
-writer_stream faults = record { faults = faults; left = None; read = None; written = None }
+writer_stream faults = record { faults = faults; left = None; read = None; written = None; shut = None }
 
 -- an adapter over a reader, which still has these bytes
 pub record Reading : Type 0 where

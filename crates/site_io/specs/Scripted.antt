@@ -22,11 +22,11 @@ pub record IsNextCall (failed : Bool) (before after : Scripted) : Type 0 where
 
 -- the stream of a source in memory, from which these bytes were read and those are left
 abbrev pub source_stream : ℕ → List ℕ → List ℕ → Stream
-source_stream faults read left = record { faults = faults; left = Some left; read = Some read; written = None }
+source_stream faults read left = record { faults = faults; left = Some left; read = Some read; written = None; shut = None }
 
 -- the stream of a sink in memory, to which these bytes were written
 abbrev pub sink_stream : ℕ → List ℕ → Stream
-sink_stream faults bytes = record { faults = faults; left = None; read = None; written = Some bytes }
+sink_stream faults bytes = record { faults = faults; left = None; read = None; written = Some bytes; shut = None }
 
 -- a sink that has room for so many bytes more
 pub record ScriptedSink : Type 0 where

@@ -1,5 +1,5 @@
 -- What contracts see of an object of the outside, and what a call does to it.
-use Rattle.std.specs.Prelude.{◌≡◌, ℕ, ◌+◌, ◌-◌, ◌^◌, ◌≤◌, min, List, Option}
+use Rattle.std.specs.Prelude.{◌≡◌, ℕ, ◌+◌, ◌-◌, ◌^◌, ◌≤◌, min, Bool, List, Option}
 use Rattle.std.specs.Io.KnownBytes.{Consumes, append_known}
 
 -- A count of faults, and what the object tells of its bytes: `None` where it tells nothing.
@@ -11,6 +11,8 @@ pub record Stream : Type 0 where
   pub read : Option (List ℕ)
   -- the bytes written so far
   pub written : Option (List ℕ)
+  -- whether it was shut, as a connection is; a source and a sink are never shut, and tell nothing of it
+  pub shut : Option Bool
 
 -- one more, but a u64 stands still at its last value
 abbrev pub next_count : ℕ → ℕ
@@ -27,6 +29,7 @@ pub record HasRead (bytes : List ℕ) (before after : Stream) : Type 0 where
   pub left : Consumes before.left after.left bytes
   pub read : after.read ≡ append_known before.read bytes
   pub written : after.written ≡ before.written
+  pub shut : after.shut ≡ before.shut
 
 -- these bytes were written, and nothing else changed but, perhaps, the count
 pub record HasWritten (bytes : List ℕ) (before after : Stream) : Type 0 where
@@ -34,6 +37,7 @@ pub record HasWritten (bytes : List ℕ) (before after : Stream) : Type 0 where
   pub left : after.left ≡ before.left
   pub read : after.read ≡ before.read
   pub written : after.written ≡ append_known before.written bytes
+  pub shut : after.shut ≡ before.shut
 
 -- the count rose, and nothing else changed
 pub record HasFailed (before after : Stream) : Type 0 where
@@ -42,3 +46,4 @@ pub record HasFailed (before after : Stream) : Type 0 where
   pub left : after.left ≡ before.left
   pub read : after.read ≡ before.read
   pub written : after.written ≡ before.written
+  pub shut : after.shut ≡ before.shut

@@ -107,7 +107,7 @@ data_grows f arguments line here =
 
 -- where the body of a lambda is evaluated, and the world then
 abbrev own_of : Here → World → Here
-own_of here w = record { scope = record { number = length w.scopes.scopes }; owner = here.owner }
+own_of here w = record { scope = record { number = length w.scopes.scopes }; owner = here.owner; typed = false }
 
 abbrev entered_by : Here → World → World
 entered_by here w = record w { scopes = scopes.entered kind.Lambda here.scope.number w.scopes }

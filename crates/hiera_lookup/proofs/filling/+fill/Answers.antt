@@ -48,7 +48,7 @@ fill_pairs-fill-requires-in-loop-key t c =
 
 pub fill_list-returns : goal.fill_list-returns
 fill_list-returns t c =
-    let made : c.in_ok-from_vec.value ≡ map (filled ((seen c.args.world.now).reads) (answer_to c.args.answers.now))
+    let made : c.in_ok-values.values ≡ map (filled ((seen c.args.world.now).reads) (answer_to c.args.answers.now))
     (views c.args.items.now) =
     grind (arith, common_steps) in
     ap data_of made ∙ sym (list_filled-data_of _ _ _)

@@ -21,9 +21,9 @@ hashes_up-from_vec-requires t c =
 
 pub hashes_up-returns : goal.hashes_up-returns
 hashes_up-returns t c =
-    hashes_joined (views c.args.lower.items) c.args.high c.in_ok-from_vec.value _
+    hashes_joined (views c.args.lower.items) c.args.high c.in_ok-pairs.pairs _
     (subst (λ xs. AreKeyed (views xs)) c.as_slice.ensures.value c.are_keyed.ensures) c.is_keyed.ensures
-    c.in_ok-columns.ensures.columns (c.in_ok-from_vec.ensures ∙ c.in_ok-columns_merged.ensures)
+    c.in_ok-columns.ensures.columns (c.in_ok-pairs.ensures ∙ c.in_ok-columns_merged.ensures)
 
 pub columns_merged-loop-column-preserved : goal.columns_merged-loop-column-preserved
 columns_merged-loop-column-preserved t c =

@@ -1,4 +1,5 @@
 mod Examples
+mod Lending
 mod Levels
 mod NodeLines
 mod Pairs

@@ -10,20 +10,24 @@ use Rattle.pp_values.specs.Faults.{fault}
 use Rattle.pp_values.specs.declared.fault.Fault.{Fault}
 use Rattle.pp_values.specs.declared.fault.What.TheVariants as what
 use Rattle.res_core.specs.TagNames.{segments, is_word_byte, is_tag_byte}
+use Rattle.scope_core.specs.Names.{last_cut}
 use Rattle.scope_core.specs.Scopes as scopes
 use Rattle.eval_world.specs.Environment.{Environment}
 use Rattle.eval_world.specs.Owners.{owner_at}
-use Rattle.eval_world.specs.Worlds.{assign, write_log}
+use Rattle.eval_world.specs.Inner.{Inner}
+use Rattle.eval_world.specs.Outcomes.{◌>>=◌, ◌>>◌}
+use Rattle.eval_world.specs.Worlds.{assign, read, write_log}
 use Rattle.eval_classes.specs.Definitions.{below, class_found, comes_to, define_found, definition_of, file_of}
 use Rattle.eval_classes.specs.Definitions.{module_of, module_path, parent_of}
 use Rattle.eval_classes.specs.Included.{declared_once, include_from, include_names, include_rule, included, names_asked}
 use Rattle.eval_classes.specs.Included.{contain_rule, names_from}
 use Rattle.eval_classes.specs.Listing.{chain_declared, chain_from, class_declared, class_reference, declare_rule}
-use Rattle.eval_classes.specs.Listing.{enter_all, enter_chain, enter_scope, last_checked, list_all, list_rule, own_rule}
+use Rattle.eval_classes.specs.Listing.{class_names, enter_all, enter_chain, enter_scope, list_all, list_rule, own_rule}
 use Rattle.eval_classes.specs.Listing.{run_all, scope_among}
+use Rattle.eval_classes.specs.OwnNames.{names_rule}
 use Rattle.eval_classes.specs.declared.including.Including.TheVariants as including
 use Rattle.eval_classes.proofs.Samples.{a, b, c, class, entry, define_entry, site_of, read_file, faulty_file}
-use Rattle.eval_classes.proofs.Samples.{place, refuses, sample, seen, top, world}
+use Rattle.eval_classes.proofs.Samples.{logged, place, refuses, sample, seen, top, world}
 
 -- ---- files
 
@@ -115,7 +119,7 @@ child_and_parent : seen (include_rule sample including.Include b (place 7) top (
       (2 ∷ 2 ∷ 1 ∷ 2 ∷ []) ∷ (1 ∷ 3 ∷ 2 ∷ 1 ∷ []) ∷ [],
     )
 unfolding include_rule declared_once class_declared chain_declared chain_from enter_chain enter_all enter_scope list_all
-    list_rule declare_rule own_rule last_checked run_all scope_among contain_rule class_found parent_of comes_to
+    list_rule declare_rule own_rule class_names names_rule assign scopes.assign run_all scope_among contain_rule class_found parent_of comes_to
     definition_of segments is_word_byte is_tag_byte normal without_front_colons write_log owner_at
 child_and_parent = refl
 
@@ -123,7 +127,7 @@ child_and_parent = refl
 once : seen (include_from sample including.Include (a ∷ a ∷ []) (place 7) top (world family))
     ≡ Ok ((a, a ∷ codes "class" ∷ codes "main" ∷ []) ∷ [], (1 ∷ 2 ∷ 1 ∷ 1 ∷ []) ∷ [])
 unfolding include_from include_rule declared_once class_declared chain_declared chain_from enter_chain enter_all enter_scope
-    list_all list_rule declare_rule own_rule last_checked run_all scope_among contain_rule class_found parent_of comes_to
+    list_all list_rule declare_rule own_rule class_names names_rule assign scopes.assign run_all scope_among contain_rule class_found parent_of comes_to
     definition_of segments is_word_byte is_tag_byte normal without_front_colons write_log owner_at
 once = refl
 
@@ -134,16 +138,36 @@ parent_before : seen (include_from sample including.Include (a ∷ b ∷ []) (pl
       (1 ∷ 2 ∷ 1 ∷ 1 ∷ []) ∷ (2 ∷ 3 ∷ 2 ∷ 2 ∷ []) ∷ [],
     )
 unfolding include_from include_rule declared_once class_declared chain_declared chain_from enter_chain enter_all enter_scope
-    list_all list_rule declare_rule own_rule last_checked run_all scope_among contain_rule class_found parent_of comes_to
+    list_all list_rule declare_rule own_rule class_names names_rule assign scopes.assign run_all scope_among contain_rule class_found parent_of comes_to
     definition_of segments is_word_byte is_tag_byte normal without_front_colons write_log owner_at
 parent_before = refl
+
+-- a class body that leaves in the log what it reads of these names
+abbrev reading : Inner
+reading = record sample {
+  class = λ n line here. logged here (codes "b::title") >> logged here (codes "b::module_name") >> logged here (codes "name");
+}
+
+-- the names of a class are there when its parent is evaluated: the first three lines are those of the parent's body
+names_first : seen (include_rule reading including.Include b (place 7) top
+    (world (site_of (entry a (class a [] None 2) ∷ []) (read_file (codes "modules/b/manifests/init.pp")
+    (entry b (class b [] (Some a) 3) ∷ []) ∷ []))))
+    ≡ Ok (
+      (b, b ∷ codes "class" ∷ codes "main" ∷ []) ∷ (a, a ∷ b ∷ codes "class" ∷ codes "main" ∷ []) ∷ [],
+      b ∷ b ∷ a ∷ b ∷ b ∷ b ∷ [],
+    )
+unfolding include_rule declared_once class_declared chain_declared chain_from enter_chain enter_all enter_scope list_all
+    list_rule declare_rule own_rule class_names names_rule assign scopes.assign run_all scope_among contain_rule class_found
+    parent_of comes_to definition_of segments is_word_byte is_tag_byte normal without_front_colons write_log owner_at read
+    scopes.read scopes.found last_cut scopes.seen_from
+names_first = refl
 
 -- a parent that is no class of the site is F4 at the place of the child
 no_parent : seen (include_rule sample including.Include c (place 7) top
     (world (site_of (entry c (class c [] (Some m) 3) ∷ []) [])))
     ≡ refuses 7 (what.UnknownClass m)
 unfolding include_rule declared_once class_declared chain_declared chain_from enter_chain enter_all enter_scope list_all
-    list_rule declare_rule own_rule last_checked run_all scope_among contain_rule class_found parent_of comes_to
+    list_rule declare_rule own_rule class_names names_rule assign scopes.assign run_all scope_among contain_rule class_found parent_of comes_to
     definition_of segments is_word_byte is_tag_byte normal without_front_colons write_log owner_at
 no_parent = refl
 

@@ -6,7 +6,9 @@ pub mod Rising
 pub mod Scopes
 pub mod Segments
 pub mod Stacks
+pub mod Upward
 pub mod Ways
+mod AboveExamples
 mod DataExamples
 mod Examples
 mod Samples

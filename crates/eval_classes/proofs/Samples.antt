@@ -31,7 +31,7 @@ use Rattle.res_book.specs.declared.row.Row.{Row}
 use Rattle.res_core.specs.declared.declared.Declared.{Declared}
 use Rattle.eval_world.specs.Inner.{Inner}
 use Rattle.eval_world.specs.Environment.{Environment}
-use Rattle.eval_world.specs.Outcomes.{Outcome, Step, ◌>>◌, pure}
+use Rattle.eval_world.specs.Outcomes.{Outcome, Step, ◌>>=◌, ◌>>◌, pure}
 use Rattle.eval_world.specs.Worlds.{empty, fault, read, write_log}
 use Rattle.eval_world.specs.declared.here.Here.{Here}
 use Rattle.eval_world.specs.declared.world.World.{World}
@@ -90,6 +90,14 @@ meant (Form-F.Text t) at here = write_log (codes "value") t >> pure (d.text t)
 meant (Form-F.Variable x) at here = read here x at
 meant Form-F.Default at here = fault here at (what.Failed [])
 meant _ at here = pure d.undef
+
+abbrev log_text : Datum → Step Datum
+log_text (d.text t) = write_log (codes "value") t >> pure (d.text t)
+log_text value = pure value
+
+-- the value of a variable, which is left in the log where it is a text
+abbrev pub logged : Here → List ℕ → Step Datum
+logged here x = read here x 1 >>= log_text
 
 -- a class body leaves its title in the log, and a block the text `block`
 abbrev pub sample : Inner

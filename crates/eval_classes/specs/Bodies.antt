@@ -1,4 +1,5 @@
--- What the bodies of classes and instances mean. Both have names, parameters and a block.
+-- What the bodies of classes and instances mean. Both have parameters and a block. The names of a class were set when
+-- it was listed, those of an instance are set here.
 use Rattle.std.specs.Prelude.{ℕ, List, [], ◌++◌, Option, None, Some, option_map, unwrap_or, slice_get, Ok, codes}
 use Rattle.pp_tree.specs.declared.expr.Expr.{Expr}
 use Rattle.pp_tree.specs.declared.param.Param.{Param}
@@ -15,26 +16,16 @@ use Rattle.res_core.specs.declared.declared.Declared.{Declared}
 use Rattle.scope_core.specs.declared.scope_kind.ScopeKind.TheVariants as kind
 use Rattle.eval_world.specs.Inner.{Inner}
 use Rattle.eval_world.specs.Outcomes.{Step, ◌>>=◌, ◌>>◌, pure, answered}
-use Rattle.eval_world.specs.Worlds.{assign}
 use Rattle.eval_world.specs.declared.here.Here.{Here}
 use Rattle.eval_world.specs.Environment.{Environment}
 use Rattle.eval_world.specs.declared.world.World.{World}
 use Rattle.eval_classes.specs.declared.body_owner.BodyOwner.{BodyOwner}
 use Rattle.eval_classes.specs.Definitions.{class_found, define_found, file_of, module_of}
 use Rattle.eval_classes.specs.Entering.{enter_rule}
+use Rattle.eval_classes.specs.OwnNames.{names_rule}
 use Rattle.eval_classes.specs.Parameters.{Given, bind_from}
 
 -- ---- what both have
-
-abbrev pub name_rule : List ℕ → List ℕ → ℕ → Here → Step (Unit {0})
-name_rule name text line own = assign own name (d.text text) line
-
--- `title`, `name` and `module_name`
-unfoldable pub names_rule : List ℕ → List ℕ → ℕ → Here → Step (Unit {0})
-names_rule title home line own = do
-  name_rule (codes "title") title line own
-  name_rule (codes "name") title line own
-  name_rule (codes "module_name") home line own
 
 -- the values of the parameters are kept
 abbrev pub kept : ℕ → List Setting → World → World
@@ -43,12 +34,11 @@ kept number bound w = record w { book = with_bound number bound w.book }
 abbrev pub keep : ℕ → List Setting → Step (Unit {0})
 keep number bound = λ w. Ok (tt, kept number bound w)
 
--- The names, the parameters, and then the block, one level further in. A block that is too deep is refused at the line
--- of the definition.
-unfoldable pub body_rule : Inner → Given → Reference → Place → List ℕ → List (Param Expr) → List Statement → ℕ → ℕ →
-    Here → Step Datum
-body_rule inner given of at home params block number line own = do
-  names_rule of.title home line own
+-- The parameters, and then the block, one level further in. A block that is too deep is refused at the line of the
+-- definition.
+unfoldable pub body_rule : Inner → Given → Reference → Place → List (Param Expr) → List Statement → ℕ → ℕ → Here →
+    Step Datum
+body_rule inner given of at params block number line own = do
   bound ← bind_from inner given [] params of at own
   keep number bound
   inner.block block line own
@@ -59,7 +49,7 @@ body_rule inner given of at home params block number line own = do
 unfoldable pub class_body : Inner → List Setting → Reference → Place → ℕ → ℕ → Here → Step Datum
 class_body inner given of at number line own = do
   c ← (λ w. answered (class_found w.environment of.title at) w)
-  (λ w. body_rule inner (set_in given) of at (module_of w.environment of.title) c.params c.block number line own w)
+  body_rule inner (set_in given) of at c.params c.block number line own
 
 abbrev pub class_by : Inner → Option Declared → ℕ → ℕ → Here → Step Datum
 class_by inner None number line own = pure d.undef
@@ -72,11 +62,12 @@ class_rule inner number line own = λ w. class_by inner (item_at w.book number) 
 
 -- ---- instances
 
--- the same of an instance
+-- the same of an instance, whose names are set first
 unfoldable pub instance_body : Inner → List Setting → Reference → Place → ℕ → ℕ → Here → Step Datum
 instance_body inner given of at number line own = do
   f ← (λ w. answered (define_found w.environment of.kind at) w)
-  (λ w. body_rule inner (set_in given) of at (module_of w.environment of.kind) f.params f.block number line own w)
+  (λ w. names_rule of.title (module_of w.environment of.kind) line own w)
+  body_rule inner (set_in given) of at f.params f.block number line own
 
 -- its attributes are given, overrides and default statements included
 abbrev pub attributes_at : World → ℕ → List Setting

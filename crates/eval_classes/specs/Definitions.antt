@@ -131,6 +131,10 @@ class_found m name at = class_among name at (definition_of m name)
 abbrev pub class_name : Class → List ℕ
 class_name c = normal c.name.text
 
+-- the source of what a class declares
+abbrev pub class_source : List ℕ → List ℕ
+class_source name = codes "class " ++ name
+
 -- ---- the parent of a class
 
 -- the name behind `inherits`

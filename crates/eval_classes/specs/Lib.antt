@@ -1,6 +1,7 @@
 -- What the clauses of `site_main` rest on, and a reader has to believe: Attributes, Bodies, Definitions, Entering,
--- Included, Listing, Parameters, Stacks
--- What functions promise one another, what types keep, and what proofs read: Answers, AttributeSets
+-- Included, Listing, OwnNames, Parameters, Stacks
+-- What functions promise one another, what types keep, and what proofs read: Above, Answers, AttributeSets
+pub mod Above
 pub mod Answers
 pub mod AttributeSets
 pub mod Attributes
@@ -9,5 +10,6 @@ pub mod Definitions
 pub mod Entering
 pub mod Included
 pub mod Listing
+pub mod OwnNames
 pub mod Parameters
 pub mod Stacks

@@ -25,8 +25,9 @@ use Rattle.eval_world.specs.declared.world.World.{World}
 use Rattle.eval_classes.specs.declared.listed.Listed.{Listed}
 use Rattle.eval_classes.specs.Stacks.{Chain, Entered, chain_of}
 use Rattle.eval_classes.specs.Attributes.{given_tags, tags_in}
-use Rattle.eval_classes.specs.Definitions.{class_found, class_name, class_told, definition_of, file_of}
-use Rattle.eval_classes.specs.Definitions.{longest_way, param_names, parent_of}
+use Rattle.eval_classes.specs.Definitions.{class_found, class_name, class_source, class_told, definition_of, file_of}
+use Rattle.eval_classes.specs.Definitions.{longest_way, module_of, param_names, parent_of}
+use Rattle.eval_classes.specs.OwnNames.{names_rule}
 
 -- ---- which classes are declared
 
@@ -84,9 +85,9 @@ or_done (Some c) done further = further c
 
 -- a class behind those that are there, and then its parents
 unfoldable pub chain_from : ℕ → List Class → Class → Environment → List Row → Chain
-chain_from zero before c m book = chain_of c before
+chain_from zero before c m book = chain_of c before (parent_of m c)
 chain_from (suc left) before c m book =
-    or_done (next_class m book c) (chain_of c before) (λ p. chain_from left (c ∷ before) p m book)
+    or_done (next_class m book c) (chain_of c before (parent_of m c)) (λ p. chain_from left (c ∷ before) p m book)
 
 -- ---- their scopes
 
@@ -105,13 +106,10 @@ scope_of_row (Some number) w = scope_among (length w.book + 1) 0 number w.owners
 abbrev pub scope_of_name : List ℕ → World → ℕ
 scope_of_name name w = scope_of_row (number_of (class_reference name) w.book) w
 
-abbrev pub scope_of_class : Option (List ℕ) → World → ℕ
-scope_of_class None w = 0
-scope_of_class (Some name) w = scope_of_name name w
-
 -- the scope that a class is entered from whose parent is declared already, or that has none
-abbrev pub outer_scope : Class → World → ℕ
-outer_scope c w = scope_of_class (parent_of w.environment c) w
+abbrev pub outer_scope : Option (List ℕ) → World → ℕ
+outer_scope None w = 0
+outer_scope (Some name) w = scope_of_name name w
 
 abbrev pub with_class_scope : Class → ℕ → World → World
 with_class_scope c parent w = record w { scopes = entered (kind.Class (class_name c)) parent w.scopes }
@@ -130,7 +128,7 @@ enter_all (c ∷ cs) parent done = do
 -- The last parent is entered first, from the scope of its own parent, or else from top scope.
 unfoldable pub enter_chain : Chain → Step (List Entered)
 enter_chain chain = do
-  scope ← (λ w. enter_scope chain.last (outer_scope chain.last w) w)
+  scope ← (λ w. enter_scope chain.last (outer_scope chain.parent w) w)
   enter_all chain.before scope ((chain.last, scope) ∷ [])
 
 -- ---- listing
@@ -138,7 +136,7 @@ enter_chain chain = do
 abbrev pub class_owner : Environment → Class → ℕ → ℕ → Owner
 class_owner m c number scope = record {
   file = file_of m (class_name c);
-  source = codes "class " ++ class_name c;
+  source = class_source (class_name c);
   resource = number;
   scope = scope;
 }
@@ -157,11 +155,17 @@ own_rule c scope number from = λ w. Ok (
   },
 )
 
+-- its names are set, before any body is evaluated
+unfoldable pub class_names : List ℕ → Listed → Step (Unit {0})
+class_names name l = λ w. names_rule name (module_of w.environment name) l.line l.here w
+
 -- it is declared; its body is evaluated later
 unfoldable pub list_rule : Entered → List Setting → Place → ℕ → Step Listed
 list_rule e given at from = do
   number ← declare_rule e.0 given at from
-  own_rule e.0 e.1 number from
+  l ← own_rule e.0 e.1 number from
+  class_names (class_name e.0) l
+  pure l
 
 -- One after another, each declared by the one before, and all at the place of the first. Only to the first is anything
 -- given. The last one comes first in the answer.
@@ -178,9 +182,6 @@ known_parent (Some name) at = do
   c ← (λ w. answered (class_found w.environment name at) w)
   pure tt
 
-unfoldable pub last_checked : Class → Place → Step (Unit {0})
-last_checked c at = λ w. known_parent (parent_of w.environment c) at w
-
 -- ---- evaluating
 
 -- the bodies of these classes, in order
@@ -195,7 +196,7 @@ unfoldable pub chain_declared : Inner → Chain → List Setting → Place → �
 chain_declared inner chain given at from = do
   es ← enter_chain chain
   ls ← list_all es given at from []
-  last_checked chain.last at
+  known_parent chain.parent at
   run_all inner ls
 
 unfoldable pub class_declared : Inner → Class → List Setting → Place → ℕ → Step (Unit {0})

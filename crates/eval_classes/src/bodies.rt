@@ -1,22 +1,21 @@
 //! What the bodies of classes and instances do.
-ghost use Rattle.std.specs.Prelude.{◌≡◌, ◌<◌, length, IfOk};
+ghost use Rattle.std.specs.Prelude.{◌≡◌, ◌<◌, length};
 ghost use Rattle.eval_classes.specs.Bodies as spec;
 ghost use Rattle.eval_world.specs.Nests.{Nests};
-ghost use Rattle.eval_world.specs.Outcomes.{Gives, nothing, same};
-ghost use Rattle.pp_values.specs.Datum as d;
+ghost use Rattle.eval_world.specs.Outcomes.{Gives, same};
 ghost use Rattle.res_core.specs.AttributeViews.{set_in};
 
 use crate::binding::Binding;
 use crate::definitions::{class_found, define_found};
 use crate::homes::module_of;
 use crate::listed::Listed;
+use crate::own_names::set_names;
 use crate::parameters::bind;
 use eval_world::{Evaluated, Forms, Goal, Here, Meaning, World};
 use pp_tree::Param;
 use pp_tree::statement::Block;
-use pp_values::{Memory, Stop, Text, Value};
+use pp_values::{Stop, Value};
 use res_core::{Attributes, copy_attributes};
-use std::alloc::Global;
 
 /// The body of the class of this declaration, whose scope is entered. It is refused at this line where it is too deep.
 #[tactic(auto, unfolding(crate::specs::Bodies::class_rule))]
@@ -73,9 +72,8 @@ fn bound_class<F: Fn(&mut World<'_>, Goal<'_>, Here, u32) -> Result<Evaluated, S
 {
     let alloc = world.heap.alloc();
     let class = class_found(alloc, &world.environment, &binding.of.title, &binding.at)?;
-    let home = module_of(alloc, &world.environment, &binding.of.title)?;
     let params = class.params.as_slice();
-    run_body(forms, world, binding, &home, params, &class.block, body)
+    run_body(forms, world, binding, params, &class.block, body)
 }
 
 /// The instance of this declaration, whose scope is entered. It is refused at this line where it is too deep.
@@ -139,54 +137,29 @@ fn bound_instance<
     let kind = binding.of.kind.as_text();
     let define = define_found(alloc, &world.environment, kind, &binding.at)?;
     let home = module_of(alloc, &world.environment, kind)?;
+    set_names(world, &binding.of.title, &home, body)?;
     let params = define.params.as_slice();
-    run_body(forms, world, binding, &home, params, &define.block, body)
+    run_body(forms, world, binding, params, &define.block, body)
 }
 
-/// The names, the parameters, and then the block.
+/// The parameters, and then the block.
 #[tactic(auto, unfolding(crate::specs::Bodies::body_rule))]
 fn run_body<F: Fn(&mut World<'_>, Goal<'_>, Here, u32) -> Result<Evaluated, Stop>, M: Meaning>(
     forms: &Forms<F, M>,
     world: &mut World<'_>,
     binding: &Binding,
-    home: &Text,
     params: &[Param],
     block: &Block,
     body: Listed,
 ) -> Result<Evaluated, Stop>
     requires nests { Nests (M.within forms.now.left) forms.now.left (F.pre forms.now.inner) (F.post forms.now.inner) }
     ensures { Gives same (spec.body_rule (M.within forms.now.left) (set_in binding.now.given) binding.now.of
-        binding.now.at home.now params.now block.now body.number body.line body.here world.old) result
+        binding.now.at params.now block.now body.number body.line body.here world.old) result
         world.new }
 {
-    set_names(world, &binding.of.title, home, body)?;
     let bound = bind(forms, world, binding, params, body.here)?;
     keep(world, body.number, bound);
     forms.block(world, block, body.line, body.here)
-}
-
-/// `title`, `name` and `module_name`.
-#[tactic(auto, unfolding(crate::specs::Bodies::names_rule))]
-fn set_names(world: &mut World<'_>, title: &Text, home: &Text, body: Listed) -> Result<(), Stop>
-    ensures { Gives nothing (spec.names_rule title.now home.now body.line body.here world.old) result world.new }
-{
-    set_name(world, "title", title, body)?;
-    set_name(world, "name", title, body)?;
-    set_name(world, "module_name", home, body)
-}
-
-fn set_name(world: &mut World<'_>, name: &str, text: &Text, body: Listed) -> Result<(), Stop>
-    ensures { Gives nothing (spec.name_rule name.now text.now body.line body.here world.old) result world.new }
-{
-    let name = Text::from_str(world.heap.alloc(), name)?;
-    let text = text_value(world.heap.alloc(), text)?;
-    world.assign(body.here, &name, text, body.line)
-}
-
-fn text_value(alloc: Global, text: &Text) -> Result<Evaluated, Memory>
-    ensures { IfOk result (λ e. e ≡ d.text text.now) }
-{
-    Ok(Evaluated::new(Value::Text(text.copy(alloc)?)))
 }
 
 /// Keeps the values of the parameters.

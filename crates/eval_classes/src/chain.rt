@@ -1,4 +1,5 @@
 use pp_tree::definition::Class;
+use pp_values::Text;
 
 /// Classes that are declared together: a class and its parents. Contracts see what they say by `chain_seen`.
 #[derive(Drop)]
@@ -7,4 +8,6 @@ pub struct Chain<'a> {
     pub last: &'a Class,
     /// The class, and then those of its parents that stand before the last.
     pub before: Vec<&'a Class>,
+    /// The name of the last one's own parent, which is declared already or is no class of the site.
+    pub parent: Option<Text>,
 }

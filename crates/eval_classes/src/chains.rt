@@ -28,26 +28,36 @@ pub fn chain_of<'a>(
     let mut before = Vec::new(alloc);
     let mut last = class;
     for _turn in 0..DECLARATION_LIMIT {
-        let Some(parent) = next_class(alloc, environment, book, last)? else {
-            return Ok(Chain { last, before });
+        let parent = parent_of(alloc, environment, last)?;
+        let Some(next) = next_class(alloc, environment, book, &parent)? else {
+            return Ok(Chain {
+                last,
+                before,
+                parent,
+            });
         };
         before.push(last)?;
-        last = parent;
+        last = next;
     }
-    Ok(Chain { last, before })
+    let parent = parent_of(alloc, environment, last)?;
+    Ok(Chain {
+        last,
+        before,
+        parent,
+    })
 }
 
-/// The parent, where it is a class of the site that is not declared yet.
+/// The class of this name, where the site has one that is not declared yet.
 fn next_class<'a>(
     alloc: Global,
     environment: &Environment<'a>,
     book: &Book,
-    class: &Class,
+    name: &Option<Text>,
 ) -> Result<Option<&'a Class>, Memory>
-    ensures { IfOk result (λ o. option_copied o ≡ spec.next_class environment.now book.now class.now) }
+    ensures { IfOk result (λ o. option_copied o
+        ≡ spec.unless_declared book.now (spec.class_at environment.now name.now)) }
 {
-    let parent = parent_of(alloc, environment, class)?;
-    let class = class_at(alloc, environment, &parent)?;
+    let class = class_at(alloc, environment, name)?;
     unless_declared(alloc, book, class)
 }
 

@@ -13,7 +13,7 @@ use crate::declaring::{is_declared, number_of};
 use crate::definitions::class_found;
 use crate::including::Including;
 use crate::listed::Listed;
-use crate::listing::{check_last, enter_chain, list_all};
+use crate::listing::{check_parent, enter_chain, list_all};
 use crate::names::class_name;
 use eval_world::{Evaluated, Forms, Goal, Here, Meaning, World};
 use pp_tree::definition::Class;
@@ -203,10 +203,14 @@ fn declare_chain<
     ensures { Gives nothing (listing.chain_declared (M.within forms.now.left) (chain_seen chain.entry) given.now at.now
         from world.old) result world.new }
 {
-    let last = chain.last;
-    let entered = enter_chain(world, chain)?;
+    let Chain {
+        last,
+        before,
+        parent,
+    } = chain;
+    let entered = enter_chain(world, last, before, &parent)?;
     let listed = list_all(world, entered, given, at, from)?;
-    check_last(world, last, at)?;
+    check_parent(world, &parent, at)?;
     run_all(forms, world, listed)
 }
 

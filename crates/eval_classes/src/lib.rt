@@ -1,6 +1,7 @@
 //! Classes and defines: where their definitions are found, how a class is declared, and what their bodies mean.
 #![tactic(auto)]
 
+mod above;
 mod asked;
 mod attribute_set;
 mod attributes;
@@ -22,11 +23,13 @@ mod instances;
 mod listed;
 mod listing;
 mod names;
+mod own_names;
 mod parameters;
 mod parents;
 mod paths;
 mod tagging;
 
+pub use above::{right_of, sources_above};
 pub use attribute_set::AttributeSet;
 pub use attributes::is_value;
 pub use bodies::{class_body, instance_body};

@@ -1,17 +1,17 @@
 //! The classes of a chain, as their scopes are entered and as they are listed.
 ghost use Rattle.std.specs.Prelude.{◌≡◌, ◌+◌, [], IfOk};
+ghost use Rattle.eval_classes.specs.Definitions.{class_name};
 ghost use Rattle.eval_classes.specs.Listing as spec;
-ghost use Rattle.eval_classes.specs.Stacks.{chain_seen, class_seen, entered_seen, stack_of};
+ghost use Rattle.eval_classes.specs.Stacks.{chain_of, class_seen, entered_seen, stack_of};
 ghost use Rattle.eval_world.specs.Outcomes.{Gives, nothing, same};
 
-use crate::chain::Chain;
 use crate::declaring::{declare, number_of};
 use crate::definitions::class_found;
 use crate::entered::Entered;
-use crate::homes::file_of;
+use crate::homes::{file_of, module_of};
 use crate::listed::Listed;
-use crate::names::class_name;
-use crate::parents::parent_of;
+use crate::names::{class_name, class_source};
+use crate::own_names::set_names;
 use eval_world::{Environment, Here, Owner, Owners, World};
 use pp_tree::definition::Class;
 use pp_values::{Memory, Place, Stop, Text};
@@ -21,12 +21,16 @@ use std::alloc::Global;
 
 /// Enters the scopes of these classes, the last parent's first.
 #[tactic(auto, unfolding(crate::specs::Listing::enter_chain))]
-pub fn enter_chain<'a>(world: &mut World<'a>, chain: Chain<'a>) -> Result<Vec<Entered<'a>>, Stop>
-    ensures { Gives (λ v. stack_of entered_seen v.items) (spec.enter_chain (chain_seen chain.entry) world.old) result
-        world.new }
+pub fn enter_chain<'a>(
+    world: &mut World<'a>,
+    last: &'a Class,
+    before: Vec<&'a Class>,
+    parent: &Option<Text>,
+) -> Result<Vec<Entered<'a>>, Stop>
+    ensures { Gives (λ v. stack_of entered_seen v.items) (spec.enter_chain (chain_of last.now
+        (stack_of class_seen before.entry.items) parent.now) world.old) result world.new }
 {
-    let Chain { last, before } = chain;
-    let outer = outer_scope(world, last)?;
+    let outer = outer_scope(world, parent)?;
     let scope = enter_scope(world, last, outer)?;
     let mut first = Vec::new(world.heap.alloc());
     first.push(Entered { class: last, scope })?;
@@ -68,11 +72,11 @@ fn enter_scope(world: &mut World<'_>, class: &Class, parent: u32) -> Result<Scop
 }
 
 /// The scope that a class is entered from: that of its parent, which is declared already, or else top scope.
-fn outer_scope(world: &World<'_>, class: &Class) -> Result<u32, Memory>
-    ensures { IfOk result (λ n. n ≡ spec.outer_scope class.now world.now) }
+fn outer_scope(world: &World<'_>, parent: &Option<Text>) -> Result<u32, Memory>
+    ensures { IfOk result (λ n. n ≡ spec.outer_scope parent.now world.now) }
 {
-    match parent_of(world.heap.alloc(), &world.environment, class)? {
-        Some(parent) => scope_of_class(world, &parent),
+    match parent {
+        Some(parent) => scope_of_class(world, parent),
         None => Ok(0),
     }
 }
@@ -138,7 +142,19 @@ fn list_class(
         world.new }
 {
     let number = declare(world, entered.class, given, at, from)?;
-    own(world, entered.class, entered.scope, number, from)
+    let listed = own(world, entered.class, entered.scope, number, from)?;
+    name_class(world, entered.class, listed)?;
+    Ok(listed)
+}
+
+/// Sets the names of a class, before any body is evaluated.
+#[tactic(auto, unfolding(crate::specs::Listing::class_names))]
+fn name_class(world: &mut World<'_>, class: &Class, listed: Listed) -> Result<(), Stop>
+    ensures { Gives nothing (spec.class_names (class_name class.now) listed world.old) result world.new }
+{
+    let name = class_name(world.heap.alloc(), class)?;
+    let home = module_of(world.heap.alloc(), &world.environment, &name)?;
+    set_names(world, &name, &home, listed)
 }
 
 /// What the class declares belongs to a new owner.
@@ -184,24 +200,22 @@ fn class_owner(
 {
     let name = class_name(alloc, class)?;
     let file = file_of(alloc, environment, &name)?;
-    let mut source = String::from_str(alloc, "class ")?;
-    source.push_str(name.as_str())?;
+    let source = class_source(alloc, &name)?;
     Ok(Owner {
         file,
-        source: Text::new(source),
+        source,
         resource: number,
         scope,
     })
 }
 
 /// The parent of the last one has to be a class of the site.
-#[tactic(auto, unfolding(crate::specs::Listing::last_checked))]
-pub fn check_last(world: &World<'_>, class: &Class, at: &Place) -> Result<(), Stop>
-    ensures { Gives nothing (spec.last_checked class.now at.now world.now) result world.now }
+pub fn check_parent(world: &World<'_>, parent: &Option<Text>, at: &Place) -> Result<(), Stop>
+    ensures { Gives nothing (spec.known_parent parent.now at.now world.now) result world.now }
 {
-    match parent_of(world.heap.alloc(), &world.environment, class)? {
+    match parent {
         Some(parent) => {
-            let _class = class_found(world.heap.alloc(), &world.environment, &parent, at)?;
+            let _class = class_found(world.heap.alloc(), &world.environment, parent, at)?;
             Ok(())
         }
         None => Ok(()),

@@ -46,6 +46,15 @@ pub fn class_name(alloc: Global, class: &Class) -> Result<Text, Memory>
     normal_name(alloc, &class.name.text)
 }
 
+/// The source of what the class of this name declares.
+pub fn class_source(alloc: Global, name: &Text) -> Result<Text, Memory>
+    ensures { IfOk result (λ source. source ≡ spec.class_source name.now) }
+{
+    let mut source = String::from_str(alloc, "class ")?;
+    source.push_str(name.as_str())?;
+    Ok(Text::new(source))
+}
+
 /// The reference to the class of this name.
 pub fn class_reference(alloc: Global, name: &Text) -> Result<Reference, Memory>
     ensures { IfOk result (λ r. r ≡ listing.class_reference name.now) }

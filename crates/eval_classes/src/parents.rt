@@ -1,5 +1,5 @@
 //! The parents of classes.
-ghost use Rattle.std.specs.Prelude.{◌≡◌, IfOk};
+ghost use Rattle.std.specs.Prelude.{◌≡◌, IfOk, IsTrue, Some};
 ghost use Rattle.std.specs.Option.{option_copied};
 ghost use Rattle.eval_classes.specs.Definitions as spec;
 
@@ -39,8 +39,9 @@ fn inherits_itself(
     comes_to(alloc, environment, &name, parent)
 }
 
-/// Whether one of these classes has this name: the first, its parent, and so on.
-#[tactic(auto, using(crate::proofs::Ways::further, crate::proofs::Ways::at_end, crate::proofs::Ways::too_long))]
+/// Whether one of these classes has this name: the first, its parent, and so on. One of those that were passed is
+/// marked, a later one after twice as many turns, and a way that comes back to the mark has gone round.
+#[tactic(auto, using(crate::proofs::Ways::further, crate::proofs::Ways::at_end, crate::proofs::Ways::too_long, crate::proofs::Ways::round, crate::proofs::Ways::none_marked, crate::proofs::Ways::marked, crate::proofs::Ways::mark_stays))]
 fn comes_to(
     alloc: Global,
     environment: &Environment<'_>,
@@ -50,16 +51,34 @@ fn comes_to(
     ensures { IfOk result (λ b. b ≡ spec.comes_to spec.longest_way environment.now name.now first) }
 {
     let mut at = first;
-    for _turn in 0..DECLARATION_LIMIT {
+    let mut mark = None;
+    let mut next_mark = 0;
+    for turn in 0..DECLARATION_LIMIT {
         let Some(here) = at else {
             return Ok(false);
         };
         if here == *name {
             return Ok(true);
         }
+        if is_marked(&mark, &here) {
+            return Ok(false);
+        }
         at = parent_at(alloc, environment, &here)?;
+        if turn >= next_mark {
+            mark = Some(here);
+            next_mark = 2 * turn;
+        }
     }
     Ok(false)
+}
+
+fn is_marked(mark: &Option<Text>, name: &Text) -> bool
+    ensures { IsTrue result → (mark.now ≡ Some name.now) }
+{
+    match mark {
+        Some(marked) => marked == name,
+        None => false,
+    }
 }
 
 fn parent_at(

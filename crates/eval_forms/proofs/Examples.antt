@@ -300,12 +300,7 @@ unless_values : Makes (unless_rule sample (unless_of undef first (Some second)) 
     × Makes (unless_rule sample (unless_of (num 5) first None) 7) d.undef
     × RefusesX (unless_rule sample (unless_of x first None) 7)
 unfolding unless_rule otherwise_rule truth_rule form.out-Form denote.Hole.Carrier.out
-unless_values = (
-  λ here w. refl,
-  λ here w. refl,
-  λ here w. refl,
-  λ here w. refl,
-)
+unless_values = (λ here w. refl, λ here w. refl, λ here w. refl, λ here w. refl)
 
 -- ---- `case`
 

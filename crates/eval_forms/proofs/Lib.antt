@@ -1,7 +1,9 @@
 mod Samples
 mod Examples
+mod KnownExamples
 mod Elsewhere
 mod Numbers
 mod Operations
 mod Integers
+mod Lending
 mod Placing

@@ -16,7 +16,7 @@ mod prefixes;
 mod selectors;
 mod types;
 
-pub use accesses::accessed;
+pub use accesses::{accessed, lent};
 pub use assigning::assigned;
 pub use cases::case_of;
 pub use chains::binary;

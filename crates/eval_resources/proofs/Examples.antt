@@ -34,17 +34,19 @@ use Rattle.res_core.specs.declared.native_type.NativeType.TheVariants as native
 use Rattle.eval_classes.specs.Attributes.{given_tags}
 use Rattle.eval_classes.specs.Definitions.{class_found, define_found, definition_of}
 use Rattle.eval_classes.specs.Listing.{class_reference}
-use Rattle.eval_resources.specs.Bodies.{bodies_rule, bodies_from, body_rule, defaults_from, default_rule, filled}
+use Rattle.eval_resources.specs.Bodies.{all_not_among, bodies_rule, bodies_from, body_rule, defaults_from, default_rule}
+use Rattle.eval_resources.specs.Bodies.{filled}
 use Rattle.eval_resources.specs.Checks.{tested, class_tested, kind_checked, title_checked, names_known, names_apart}
 use Rattle.eval_resources.specs.Checks.{lines_checked}
 use Rattle.eval_resources.specs.Collectors.{tag_compared, native_by, register, tag_asked, collected_by}
 use Rattle.eval_resources.specs.Declaring.{set_from, declare_rule, item_of, container_in}
 use Rattle.eval_resources.specs.Resources.{title_rule, declared_rule, titles_rule, declare_bodies, resource_rule, act_rule}
-use Rattle.eval_resources.specs.Lines.{Line, Body}
-use Rattle.eval_resources.specs.Reading.{line, lines_from, attribute_rule, setting_rule, splat_rule, splatted}
-use Rattle.eval_resources.proofs.Samples.{text, int, nested, told, word, undef, default, a_hash, a_list}
-use Rattle.eval_resources.proofs.Samples.{fails, sample}
-use Rattle.eval_resources.proofs.Samples.{sets, adds, titled_by, here, place, said, Tells, Refuses, Declares, Fails}
+use Rattle.res_core.specs.Lines.{Line}
+use Rattle.res_core.specs.declared.body.Body.{Body}
+use Rattle.attribute_lines.specs.Reading.{line, lines_from, attribute_rule, setting_rule}
+use Rattle.attribute_lines.proofs.Samples.{text, int, nested, told, word, undef, default, a_list, fails, sample}
+use Rattle.attribute_lines.proofs.Samples.{sets, here, place, said, Tells, Refuses}
+use Rattle.eval_resources.proofs.Samples.{titled_by, Declares, Fails}
 use Rattle.eval_resources.proofs.Samples.{Registers, main, class_a, owner, overridden, book_by}
 use Rattle.eval_world.specs.Owners.{owner_at}
 use Rattle.eval_world.specs.Environment.{Environment}
@@ -59,33 +61,10 @@ b = codes "b"
 abbrev c : List ℕ
 c = codes "c"
 
--- ---- lines
-
-in_order : Tells (lines_from sample [] (sets a (told c) 3 ∷ sets b (told a) 4 ∷ []) here)
-    (said a c 3 ∷ said b a 4 ∷ []) (c ∷ a ∷ [])
-unfolding lines_from attribute_rule setting_rule write_log out-Form denote.Hole.Carrier.out owner_at
-in_order environment = refl
-
--- the pairs of a splat stand in its place, at its line; 3 becomes a text
-splat_in_place : Tells (lines_from sample [] (sets a (word c) 3 ∷ adds a_hash 4 ∷ sets b (word c) 5 ∷ []) here)
-    (said a c 3 ∷ said (codes "owner") (codes "root") 4 ∷ said (codes "3") c 4 ∷ said b c 5 ∷ []) []
-unfolding lines_from attribute_rule setting_rule splat_rule splatted out-Form denote.Hole.Carrier.out owner_at digits
-splat_in_place environment = refl
-
--- F11 where it is no hash, at the line of the attribute
-splat_of_list : Refuses (lines_from sample [] (sets a (word c) 3 ∷ adds a_list 4 ∷ sets b (fails 5) 5 ∷ []) here)
-    4 (what.BadOperand (codes "*"))
-unfolding lines_from attribute_rule setting_rule splat_rule out-Form denote.Hole.Carrier.out owner_at
-splat_of_list environment = refl
-
-first_fault : Refuses (lines_from sample [] (sets a (fails 3) 3 ∷ adds a_list 4 ∷ []) here)
-    3 (what.UnknownVariable (codes "x"))
-unfolding lines_from attribute_rule setting_rule splat_rule out-Form denote.Hole.Carrier.out owner_at
-first_fault environment = refl
-
 -- ---- bodies
 
--- The default body is evaluated first, wherever it stands; then titles, then attributes. What a body writes is its own.
+-- The default body is evaluated first, wherever it stands; then titles, then attributes. What a body writes is its own,
+-- and what a default body behind it fills in stands behind that.
 default_body : Tells
     (bodies_rule sample
     (titled_by (told a) (sets a (told b) 2 ∷ []) 2
@@ -93,17 +72,24 @@ default_body : Tells
     ∷ []) here)
     (record {
       titles = text a ∷ [];
-      lines = said b c 4 ∷ said a b 2 ∷ [];
+      lines = said a b 2 ∷ said b c 4 ∷ [];
       at = place 2;
     } ∷ [])
     (c ∷ c ∷ a ∷ b ∷ [])
-unfolding bodies_rule defaults_from default_rule bodies_from body_rule lines_from attribute_rule setting_rule write_log out-Form denote.Hole.Carrier.out owner_at
+unfolding bodies_rule defaults_from default_rule bodies_from body_rule all_not_among lines_from attribute_rule setting_rule write_log out-Form denote.Hole.Carrier.out owner_at
 default_body environment = refl
 
 -- an Undef that is written hides the default's value
-undef_is_written : filled (line a false d.undef (place 2) ∷ []) (said a c 3 ∷ said b c 3 ∷ [])
-    ≡ said b c 3 ∷ line a false d.undef (place 2) ∷ []
+undef_is_written : filled (line a false d.undef (place 2) ∷ []) 0 ((said a c 3 ∷ said b c 3 ∷ []) ∷ [])
+    ≡ line a false d.undef (place 2) ∷ said b c 3 ∷ []
+unfolding all_not_among
 undef_is_written = refl
+
+-- lines stand in the order of the expression: those of the default body before a body, its own, those of the one behind
+in_place : filled (said a c 2 ∷ []) 1 ((said b c 1 ∷ said a b 1 ∷ []) ∷ (said c c 3 ∷ []) ∷ [])
+    ≡ said b c 1 ∷ said a c 2 ∷ said c c 3 ∷ []
+unfolding all_not_among
+in_place = refl
 
 -- several default bodies are joined, so a name may stand twice; all bodies are filled in
 defaults_joined : Tells
@@ -116,13 +102,13 @@ defaults_joined : Tells
     (record { titles = text a ∷ []; lines = said a b 1 ∷ said a c 3 ∷ said b c 3 ∷ []; at = place 2 }
     ∷ record { titles = text b ∷ []; lines = said b c 3 ∷ said a a 4 ∷ []; at = place 4 } ∷ [])
     []
-unfolding bodies_rule defaults_from default_rule bodies_from body_rule lines_from attribute_rule setting_rule out-Form denote.Hole.Carrier.out owner_at
+unfolding bodies_rule defaults_from default_rule bodies_from body_rule all_not_among lines_from attribute_rule setting_rule out-Form denote.Hole.Carrier.out owner_at
 defaults_joined environment = refl
 
 -- lists of titles are flattened
-titles_flattened : Tells (body_rule sample [] (titled_by a_list [] 2) here)
+titles_flattened : Tells (body_rule sample [] 0 (titled_by a_list [] 2) here)
     (record { titles = text a ∷ text b ∷ int 4 ∷ []; lines = []; at = place 2 }) []
-unfolding body_rule lines_from out-Form denote.Hole.Carrier.out owner_at
+unfolding body_rule all_not_among lines_from out-Form denote.Hole.Carrier.out owner_at
 titles_flattened environment = refl
 
 -- ---- the tests of a title
@@ -384,14 +370,14 @@ no_container = refl
 whole : Declares (resource_rule sample
     (resource mark.Exported (codes "::nOtify") (titled_by (word a) [] 7 ∷ []) 6) here)
     (notify mode.Exported a 7 ∷ [])
-unfolding resource_rule bodies_rule defaults_from bodies_from body_rule lines_from declare_bodies titles_rule title_rule declared_rule declare_rule tested kind_checked native_of title_checked lines_checked names_known names_apart attributes_of set_from segments is_word_byte is_tag_byte line_tests owner_at out-Form denote.Hole.Carrier.out normal without_front_colons
+unfolding resource_rule bodies_rule defaults_from bodies_from body_rule all_not_among lines_from declare_bodies titles_rule title_rule declared_rule declare_rule tested kind_checked native_of title_checked lines_checked names_known names_apart attributes_of set_from segments is_word_byte is_tag_byte line_tests owner_at out-Form denote.Hole.Carrier.out normal without_front_colons
 whole environment = refl
 
 -- all bodies are evaluated before any test: the second one's F2 comes before the first one's F8, and before F5
 evaluated_first : Fails (resource_rule sample
     (resource mark.Plain (codes "nothing") (titled_by undef [] 2 ∷ titled_by (fails 3) [] 3 ∷ []) 1) here)
     3 (what.UnknownVariable (codes "x"))
-unfolding resource_rule bodies_rule defaults_from bodies_from body_rule lines_from owner_at out-Form denote.Hole.Carrier.out
+unfolding resource_rule bodies_rule defaults_from bodies_from body_rule all_not_among lines_from owner_at out-Form denote.Hole.Carrier.out
 evaluated_first environment = refl
 
 -- of all other actions nothing is built

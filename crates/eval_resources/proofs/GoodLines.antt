@@ -9,7 +9,7 @@ use Rattle.pp_values.proofs.RisingLemmas.{has_text-with_texts}
 use Rattle.res_core.specs.AttributeChecks.{is_known, known_checked}
 use Rattle.eval_resources.specs.Checks.{already_set, lines_checked, names_apart, names_known}
 use Rattle.eval_resources.specs.GoodLines.{are_apart, are_known, is_named}
-use Rattle.eval_resources.specs.Lines.{Line}
+use Rattle.res_core.specs.Lines.{Line}
 
 -- ---- tests
 

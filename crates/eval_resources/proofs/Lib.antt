@@ -1,4 +1,3 @@
-pub mod Back
 pub mod GoodLines
 pub mod NameSets
 pub mod NativeKinds

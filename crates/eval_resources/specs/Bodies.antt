@@ -1,5 +1,5 @@
--- The bodies of a resource expression: the `default` body first, and then each other one.
-use Rattle.std.specs.Prelude.{ℕ, Bool, true, false, not, List, [], ◌∷◌, ◌++◌, filter, map}
+-- The bodies of a resource expression: those whose title is `default` first, and then each other one.
+use Rattle.std.specs.Prelude.{ℕ, ◌+◌, Bool, true, false, not, List, [], ◌∷◌, ◌++◌, drop, filter, map, take}
 use Rattle.pp_tree.specs.Building.{form_of}
 use Rattle.pp_tree.specs.Layers.{FormLayer}
 use Rattle.pp_tree.specs.declared.collector.Test.TheOpen.{Form-F}
@@ -12,8 +12,9 @@ use Rattle.eval_world.specs.Inner.{Inner}
 use Rattle.eval_world.specs.Outcomes.{Step, ◌>>=◌, ◌>>◌, pure}
 use Rattle.eval_world.specs.Worlds.{place_at}
 use Rattle.eval_world.specs.declared.here.Here.{Here}
-use Rattle.eval_resources.specs.Lines.{Line, Body}
-use Rattle.eval_resources.specs.Reading.{lines_from}
+use Rattle.res_core.specs.Lines.{Line}
+use Rattle.res_core.specs.declared.body.Body.{Body}
+use Rattle.attribute_lines.specs.Reading.{lines_from}
 
 abbrev pub is_default_by : FormLayer → Bool
 is_default_by Form-F.Default = true
@@ -26,19 +27,20 @@ is_default_literal e = is_default_by (out-Form (form_of e))
 abbrev pub is_default : tree.Body Expr → Bool
 is_default b = is_default_literal b.title
 
--- ---- the default body
+-- ---- the default bodies
 
--- its lines behind those that are there: several default bodies are joined
-unfoldable pub default_rule : Inner → List Line → tree.Body Expr → Here → Step (List Line)
+-- the lines of one more of them, behind those of the others
+unfoldable pub default_rule : Inner → List (List Line) → tree.Body Expr → Here → Step (List (List Line))
 default_rule inner done b here = do
   inner.value b.title here
-  lines_from inner done b.attributes here
+  lines ← lines_from inner [] b.attributes here
+  pure (done ++ lines ∷ [])
 
-abbrev pub default_more : Inner → Bool → List Line → tree.Body Expr → Here → Step (List Line)
+abbrev pub default_more : Inner → Bool → List (List Line) → tree.Body Expr → Here → Step (List (List Line))
 default_more inner true done b here = default_rule inner done b here
 default_more inner false done b here = pure done
 
-unfoldable pub defaults_from : Inner → List Line → List (tree.Body Expr) → Here → Step (List Line)
+unfoldable pub defaults_from : Inner → List (List Line) → List (tree.Body Expr) → Here → Step (List (List Line))
 defaults_from inner done [] here = pure done
 defaults_from inner done (b ∷ bs) here = do
   more ← default_more inner (is_default b) done b here
@@ -53,35 +55,46 @@ line_names = map (λ l. l.name)
 abbrev pub not_among : List (List ℕ) → List Line → List Line
 not_among names ls = filter (λ l. not (has_text names l.name)) ls
 
--- the default lines whose names are not written in the body, with whatever value
-abbrev pub unwritten : List Line → List Line → List Line
-unwritten own defaults = not_among (line_names own) defaults
+-- those of several bodies, one behind another
+unfoldable pub all_not_among : List (List ℕ) → List (List Line) → List Line
+all_not_among names [] = []
+all_not_among names (ls ∷ more) = not_among names ls ++ all_not_among names more
 
--- what the default body fills in, and behind that what the body writes itself
-abbrev pub filled : List Line → List Line → List Line
-filled own defaults = unwritten own defaults ++ own
+-- the default lines whose names are not written in the body, with whatever value
+abbrev pub unwritten : List Line → List (List Line) → List Line
+unwritten own defaults = all_not_among (line_names own) defaults
+
+-- The lines stand as they do in the expression: what the default bodies before a body fill in, what it writes itself,
+-- and what the default bodies behind it fill in. So many of them stand before it.
+abbrev pub filled : List Line → ℕ → List (List Line) → List Line
+filled own before defaults = (unwritten own (take before defaults) ++ own) ++ unwritten own (drop before defaults)
 
 -- The titles come first, then the lines. Lists of titles are flattened.
-unfoldable pub body_rule : Inner → List Line → tree.Body Expr → Here → Step Body
-body_rule inner defaults b here = do
+unfoldable pub body_rule : Inner → List (List Line) → ℕ → tree.Body Expr → Here → Step Body
+body_rule inner defaults before b here = do
   title ← inner.value b.title here
   own ← lines_from inner [] b.attributes here
-  (λ w. pure (record { titles = flat title; lines = filled own defaults; at = place_at w here b.at }) w)
+  (λ w. pure (record { titles = flat title; lines = filled own before defaults; at = place_at w here b.at }) w)
 
-abbrev pub body_more : Inner → Bool → List Line → List Body → tree.Body Expr → Here → Step (List Body)
-body_more inner true defaults done b here = pure done
-body_more inner false defaults done b here = do
-  body ← body_rule inner defaults b here
+abbrev pub body_more : Inner → Bool → List (List Line) → ℕ → List Body → tree.Body Expr → Here → Step (List Body)
+body_more inner true defaults before done b here = pure done
+body_more inner false defaults before done b here = do
+  body ← body_rule inner defaults before b here
   pure (done ++ body ∷ [])
 
-unfoldable pub bodies_from : Inner → List Line → List Body → List (tree.Body Expr) → Here → Step (List Body)
-bodies_from inner defaults done [] here = pure done
-bodies_from inner defaults done (b ∷ bs) here = do
-  more ← body_more inner (is_default b) defaults done b here
-  bodies_from inner defaults more bs here
+-- how many default bodies stand before the next body
+abbrev pub before_next : Bool → ℕ → ℕ
+before_next true before = before + 1
+before_next false before = before
 
--- all bodies but the default one, whose lines are filled in
+unfoldable pub bodies_from : Inner → List (List Line) → ℕ → List Body → List (tree.Body Expr) → Here → Step (List Body)
+bodies_from inner defaults before done [] here = pure done
+bodies_from inner defaults before done (b ∷ bs) here = do
+  more ← body_more inner (is_default b) defaults before done b here
+  bodies_from inner defaults (before_next (is_default b) before) more bs here
+
+-- all bodies but the default ones, whose lines are filled in
 unfoldable pub bodies_rule : Inner → List (tree.Body Expr) → Here → Step (List Body)
 bodies_rule inner bs here = do
   defaults ← defaults_from inner [] bs here
-  bodies_from inner defaults [] bs here
+  bodies_from inner defaults 0 [] bs here

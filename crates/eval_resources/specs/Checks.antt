@@ -24,7 +24,8 @@ use Rattle.res_core.specs.declared.form.Form.TheVariants as form
 use Rattle.res_core.specs.declared.native_type.NativeType.{NativeType}
 use Rattle.eval_classes.specs.Definitions.{class_found, class_name, define_found, param_names}
 use Rattle.eval_classes.specs.Listing.{class_reference}
-use Rattle.eval_resources.specs.Lines.{Line, Body}
+use Rattle.res_core.specs.Lines.{Line}
+use Rattle.res_core.specs.declared.body.Body.{Body}
 use Rattle.eval_resources.specs.declared.known_kind.KnownKind.{KnownKind}
 use Rattle.eval_resources.specs.declared.named.Named.{Named}
 use Rattle.eval_world.specs.Environment.{Environment}

@@ -19,7 +19,8 @@ use Rattle.eval_world.specs.Worlds.{put}
 use Rattle.eval_world.specs.declared.here.Here.{Here}
 use Rattle.eval_world.specs.declared.owner.Owner.{Owner}
 use Rattle.eval_resources.specs.declared.named.Named.{Named}
-use Rattle.eval_resources.specs.Lines.{Line, Body}
+use Rattle.res_core.specs.Lines.{Line}
+use Rattle.res_core.specs.declared.body.Body.{Body}
 
 -- ---- attributes
 

@@ -4,7 +4,7 @@ use Rattle.std.specs.Str.{bytes_eq}
 use Rattle.res_core.specs.AttributeChecks.{is_known}
 use Rattle.pp_values.specs.declared.reference.Reference.{Reference}
 use Rattle.eval_resources.specs.Checks.{lines_checked}
-use Rattle.eval_resources.specs.Lines.{Line}
+use Rattle.res_core.specs.Lines.{Line}
 
 -- all have names that such a resource takes
 unfoldable pub are_known : List (List ℕ) → List Line → Bool

@@ -26,7 +26,8 @@ use Rattle.eval_classes.specs.Attributes.{is_value}
 use Rattle.eval_classes.specs.Listing.{class_declared}
 use Rattle.eval_resources.specs.Checks.{class_tested, tested}
 use Rattle.eval_resources.specs.Declaring.{declare_rule, set_from}
-use Rattle.eval_resources.specs.Lines.{Line, Body, bodies_of}
+use Rattle.res_core.specs.Lines.{Line}
+use Rattle.res_core.specs.declared.body.Body.{Body}
 
 -- ---- one title
 
@@ -80,7 +81,7 @@ declare_bodies inner written kind (b ∷ bs) here = do
 -- what a statement asks for is done; of all but resources it is not built
 unfoldable pub act_rule : Inner → Action → ℕ → Here → Step (Unit {0})
 act_rule inner (action.Resource written kind bodies) at here =
-    declare_bodies inner written kind (bodies_of bodies) here
+    declare_bodies inner written kind bodies here
 act_rule inner (action.Override target lines) at here = not_built here at
 act_rule inner (action.Defaults kind lines) at here = not_built here at
 act_rule inner (action.Collect exported kind query lines) at here = not_built here at

@@ -1,6 +1,6 @@
 //! What statements ask for, with their values there.
 ghost use Rattle.std.specs.Prelude.{◌≡◌, option_map, find};
-ghost use Rattle.eval_resources.specs.Lines.{bodies_of, body_of, line_of, lines_of};
+ghost use Rattle.res_core.specs.Lines.{line_of, lines_of};
 ghost use Rattle.eval_resources.specs.Resources as spec;
 ghost use Rattle.eval_world.specs.Nests.{Nests};
 ghost use Rattle.eval_world.specs.Outcomes.{Gives, nothing};
@@ -74,7 +74,7 @@ fn declare_bodies<
 ) -> Result<(), Stop>
     requires { Nests (M.within forms.now.left) forms.now.left (F.pre forms.now.inner) (F.post forms.now.inner) }
     ensures { Gives nothing
-        (spec.declare_bodies (M.within forms.now.left) form kind.now (bodies_of bodies.now) here world.old) result
+        (spec.declare_bodies (M.within forms.now.left) form kind.now bodies.now here world.old) result
         world.new }
 {
     let mut rest = bodies;
@@ -100,7 +100,7 @@ fn declare_titles<
 ) -> Result<(), Stop>
     requires { Nests (M.within forms.now.left) forms.now.left (F.pre forms.now.inner) (F.post forms.now.inner) }
     ensures { Gives nothing
-        (spec.titles_rule (M.within forms.now.left) form kind.now (views titles.now) (body_of body.now) here world.old)
+        (spec.titles_rule (M.within forms.now.left) form kind.now (views titles.now) body.now here world.old)
         result world.new }
 {
     let mut rest = titles;
@@ -123,7 +123,7 @@ fn declare_title<F: Fn(&mut World<'_>, Goal<'_>, Here, u32) -> Result<Evaluated,
 ) -> Result<(), Stop>
     requires { Nests (M.within forms.now.left) forms.now.left (F.pre forms.now.inner) (F.post forms.now.inner) }
     ensures { Gives nothing
-        (spec.title_rule (M.within forms.now.left) form kind.now (view title.now) (body_of body.now) here world.old)
+        (spec.title_rule (M.within forms.now.left) form kind.now (view title.now) body.now here world.old)
         result world.new }
 {
     if kind.is("class") {
@@ -144,7 +144,7 @@ fn declare_resource(
     here: Here,
 ) -> Result<(), Stop>
     ensures { Gives nothing
-        (spec.declared_rule form kind.now (view title.now) (body_of body.now) here world.old) result world.new }
+        (spec.declared_rule form kind.now (view title.now) body.now here world.old) result world.new }
 {
     let alloc = world.heap.alloc();
     let named = tested(alloc, &world.environment, kind, title, body)?;
@@ -168,7 +168,7 @@ fn declare_class_title<
 ) -> Result<(), Stop>
     requires { Nests (M.within forms.now.left) forms.now.left (F.pre forms.now.inner) (F.post forms.now.inner) }
     ensures { Gives nothing
-        (spec.class_title_rule (M.within forms.now.left) form (view title.now) (body_of body.now) here world.old)
+        (spec.class_title_rule (M.within forms.now.left) form (view title.now) body.now here world.old)
         result world.new }
 {
     let alloc = world.heap.alloc();

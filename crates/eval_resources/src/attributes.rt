@@ -1,7 +1,7 @@
 //! The attributes that lines set.
 ghost use Rattle.std.specs.Prelude.{◌≡◌, [], IfOk};
 ghost use Rattle.eval_resources.specs.Declaring as spec;
-ghost use Rattle.eval_resources.specs.Lines.{line_of, lines_of};
+ghost use Rattle.res_core.specs.Lines.{line_of, lines_of};
 
 use eval_classes::{AttributeSet, is_value};
 use eval_world::Evaluated;

@@ -1,20 +1,19 @@
 //! The bodies of a resource expression.
-ghost use Rattle.std.specs.Prelude.{◌≡◌, ◌∷◌, ◌++◌, [], IfOk};
+ghost use Rattle.std.specs.Prelude.{◌≡◌, ◌+◌, ◌^◌, ◌<◌, ◌≤◌, ◌∷◌, ◌++◌, [], length, IfOk};
 ghost use Rattle.eval_resources.specs.Bodies as spec;
-ghost use Rattle.eval_resources.specs.Lines.{lines_of, bodies_of, body_of};
 ghost use Rattle.eval_world.specs.Nests.{Nests};
-ghost use Rattle.eval_world.specs.Outcomes.{Gives};
+ghost use Rattle.eval_world.specs.Outcomes.{Gives, same};
 
 use crate::filling::filled;
-use crate::reading::lines;
+use attribute_lines::lines;
 use eval_classes::flat;
 use eval_world::{Evaluated, Forms, Goal, Here, Meaning, World};
 use pp_tree::expr::{Expr, Form};
 use pp_tree::resource::Body as Written;
-use pp_values::{Items, Stop};
+use pp_values::{Items, Memory, Stop};
 use res_core::{Bodies, Body, Lines};
 
-/// All bodies but the default one, whose lines are filled in.
+/// All bodies but the default ones, whose lines are filled in.
 #[tactic(auto, unfolding(crate::specs::Bodies::bodies_rule))]
 pub fn bodies<F: Fn(&mut World<'_>, Goal<'_>, Here, u32) -> Result<Evaluated, Stop>, M: Meaning>(
     forms: &Forms<F, M>,
@@ -23,25 +22,25 @@ pub fn bodies<F: Fn(&mut World<'_>, Goal<'_>, Here, u32) -> Result<Evaluated, St
     here: Here,
 ) -> Result<Bodies, Stop>
     requires { Nests (M.within forms.now.left) forms.now.left (F.pre forms.now.inner) (F.post forms.now.inner) }
-    ensures { Gives bodies_of (spec.bodies_rule (M.within forms.now.left) written.now here world.old) result world.new }
+    ensures { Gives same (spec.bodies_rule (M.within forms.now.left) written.now here world.old) result world.new }
 {
     let defaults = defaults(forms, world, written, here)?;
-    others(forms, world, &defaults, written, here)
+    others(forms, world, defaults.as_slice(), written, here)
 }
 
-/// The lines of the default bodies, joined.
+/// The lines of each default body.
 #[tactic(auto, unfolding(crate::specs::Bodies::defaults_from))]
 fn defaults<F: Fn(&mut World<'_>, Goal<'_>, Here, u32) -> Result<Evaluated, Stop>, M: Meaning>(
     forms: &Forms<F, M>,
     world: &mut World<'_>,
     written: &Items<Written>,
     here: Here,
-) -> Result<Lines, Stop>
+) -> Result<Items<Lines>, Stop>
     requires { Nests (M.within forms.now.left) forms.now.left (F.pre forms.now.inner) (F.post forms.now.inner) }
-    ensures { Gives lines_of
+    ensures { Gives same
         (spec.defaults_from (M.within forms.now.left) [] written.now here world.old) result world.new }
 {
-    let mut done = Lines::new(world.heap.alloc());
+    let mut done = Items::new(world.heap.alloc());
     let mut rest = written.as_slice();
     while let Some((body, more)) = rest.split_first() {
         done = with_default(forms, world, done, body, here)?;
@@ -50,22 +49,44 @@ fn defaults<F: Fn(&mut World<'_>, Goal<'_>, Here, u32) -> Result<Evaluated, Stop
     Ok(done)
 }
 
-#[tactic(auto, unfolding(crate::specs::Bodies::default_rule))]
 fn with_default<F: Fn(&mut World<'_>, Goal<'_>, Here, u32) -> Result<Evaluated, Stop>, M: Meaning>(
     forms: &Forms<F, M>,
     world: &mut World<'_>,
-    done: Lines,
+    done: Items<Lines>,
     body: &Written,
     here: Here,
-) -> Result<Lines, Stop>
+) -> Result<Items<Lines>, Stop>
     requires { Nests (M.within forms.now.left) forms.now.left (F.pre forms.now.inner) (F.post forms.now.inner) }
-    ensures { Gives lines_of (spec.default_more (M.within forms.now.left) (spec.is_default body.now) (lines_of done)
+    ensures { Gives same (spec.default_more (M.within forms.now.left) (spec.is_default body.now) done
         body.now here world.old) result world.new }
 {
     if is_default(body) {
-        drop(forms.value(world, &body.title, here)?);
-        return lines(forms, world, done, &body.attributes, here);
+        return with_lines(forms, world, done, body, here);
     }
+    Ok(done)
+}
+
+#[tactic(auto, unfolding(crate::specs::Bodies::default_rule))]
+fn with_lines<F: Fn(&mut World<'_>, Goal<'_>, Here, u32) -> Result<Evaluated, Stop>, M: Meaning>(
+    forms: &Forms<F, M>,
+    world: &mut World<'_>,
+    done: Items<Lines>,
+    body: &Written,
+    here: Here,
+) -> Result<Items<Lines>, Stop>
+    requires { Nests (M.within forms.now.left) forms.now.left (F.pre forms.now.inner) (F.post forms.now.inner) }
+    ensures { Gives same (spec.default_rule (M.within forms.now.left) done body.now here world.old) result world.new }
+{
+    drop(forms.value(world, &body.title, here)?);
+    let none = Lines::new(world.heap.alloc());
+    let lines = lines(forms, world, none, &body.attributes, here)?;
+    Ok(with_last(done, lines)?)
+}
+
+fn with_last(mut done: Items<Lines>, lines: Lines) -> Result<Items<Lines>, Memory>
+    ensures { IfOk result (λ ls. ls ≡ done ++ lines ∷ []) }
+{
+    done.push(lines)?;
     Ok(done)
 }
 
@@ -89,40 +110,53 @@ fn is_default_literal(title: &Expr) -> bool
 fn others<F: Fn(&mut World<'_>, Goal<'_>, Here, u32) -> Result<Evaluated, Stop>, M: Meaning>(
     forms: &Forms<F, M>,
     world: &mut World<'_>,
-    defaults: &Lines,
+    defaults: &[Lines],
     written: &Items<Written>,
     here: Here,
 ) -> Result<Bodies, Stop>
     requires { Nests (M.within forms.now.left) forms.now.left (F.pre forms.now.inner) (F.post forms.now.inner) }
-    ensures { Gives bodies_of (spec.bodies_from (M.within forms.now.left) (lines_of defaults.now) []
+    ensures { Gives same (spec.bodies_from (M.within forms.now.left) defaults.now 0 []
         written.now here world.old) result world.new }
 {
+    let count = written.len();
+    let mut before = 0;
     let mut done = Bodies::new(world.heap.alloc());
     let mut rest = written.as_slice();
     while let Some((body, more)) = rest.split_first() {
-        done = with_other(forms, world, defaults, done, body, here)?;
+        done = with_other(forms, world, defaults, before, done, body, here)?;
+        before = before_next(body, before);
         rest = more;
     }
     Ok(done)
 }
 
+/// How many default bodies stand before the next body, where so many stand before this one.
+fn before_next(body: &Written, before: usize) -> usize
+    requires { before + 1 < 2 ^ 64 }
+    ensures next { result ≡ spec.before_next (spec.is_default body.now) before }
+    ensures most { result ≤ before + 1 }
+{
+    if is_default(body) { before + 1 } else { before }
+}
+
 fn with_other<F: Fn(&mut World<'_>, Goal<'_>, Here, u32) -> Result<Evaluated, Stop>, M: Meaning>(
     forms: &Forms<F, M>,
     world: &mut World<'_>,
-    defaults: &Lines,
+    defaults: &[Lines],
+    before: usize,
     done: Bodies,
     body: &Written,
     here: Here,
 ) -> Result<Bodies, Stop>
     requires { Nests (M.within forms.now.left) forms.now.left (F.pre forms.now.inner) (F.post forms.now.inner) }
-    ensures { Gives bodies_of (spec.body_more (M.within forms.now.left) (spec.is_default body.now)
-        (lines_of defaults.now) (bodies_of done) body.now here world.old) result world.new }
+    ensures { Gives same (spec.body_more (M.within forms.now.left) (spec.is_default body.now)
+        defaults.now before done body.now here world.old) result world.new }
 {
     if is_default(body) {
         return Ok(done);
     }
     let mut done = done;
-    let body = other(forms, world, defaults, body, here)?;
+    let body = other(forms, world, defaults, before, body, here)?;
     done.push(body)?;
     Ok(done)
 }
@@ -132,12 +166,13 @@ fn with_other<F: Fn(&mut World<'_>, Goal<'_>, Here, u32) -> Result<Evaluated, St
 fn other<F: Fn(&mut World<'_>, Goal<'_>, Here, u32) -> Result<Evaluated, Stop>, M: Meaning>(
     forms: &Forms<F, M>,
     world: &mut World<'_>,
-    defaults: &Lines,
+    defaults: &[Lines],
+    before: usize,
     body: &Written,
     here: Here,
 ) -> Result<Body, Stop>
     requires { Nests (M.within forms.now.left) forms.now.left (F.pre forms.now.inner) (F.post forms.now.inner) }
-    ensures { Gives body_of (spec.body_rule (M.within forms.now.left) (lines_of defaults.now) body.now here world.old)
+    ensures { Gives same (spec.body_rule (M.within forms.now.left) defaults.now before body.now here world.old)
         result world.new }
 {
     let title = forms.value(world, &body.title, here)?;
@@ -145,6 +180,6 @@ fn other<F: Fn(&mut World<'_>, Goal<'_>, Here, u32) -> Result<Evaluated, Stop>, 
     let own = lines(forms, world, none, &body.attributes, here)?;
     let at = world.place(here, body.at)?;
     let titles = flat(world.heap.alloc(), title.as_value())?;
-    let lines = filled(world.heap.alloc(), own, defaults)?;
+    let lines = filled(world.heap.alloc(), own, before, defaults)?;
     Ok(Body { titles, lines, at })
 }

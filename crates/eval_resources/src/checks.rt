@@ -2,7 +2,7 @@
 ghost use Rattle.std.specs.Prelude.{◌≡◌, ◌∷◌, [], IfOk, IsTrue};
 ghost use Rattle.eval_resources.specs.Checks as spec;
 ghost use Rattle.eval_resources.specs.GoodLines as good;
-ghost use Rattle.eval_resources.specs.Lines.{body_of, line_of, lines_of};
+ghost use Rattle.res_core.specs.Lines.{line_of, lines_of};
 ghost use Rattle.pp_values.specs.Answers.{Answers};
 ghost use Rattle.pp_values.specs.Views.{view};
 ghost use Rattle.res_core.specs.AttributeViews.{settings};
@@ -26,14 +26,14 @@ pub fn tested(
     title: &Value,
     body: &Body,
 ) -> Result<Named, Stop>
-    ensures { Answers result (spec.tested environment.now kind.now (view title.now) (body_of body.now)) }
+    ensures { Answers result (spec.tested environment.now kind.now (view title.now) body.now) }
 {
     let known = check_kind(alloc, environment, kind, &body.at)?;
     title_tested(alloc, known, title, body)
 }
 
 fn title_tested(alloc: Global, known: KnownKind, title: &Value, body: &Body) -> Result<Named, Stop>
-    ensures { Answers result (spec.title_tested known (view title.now) (body_of body.now)) }
+    ensures { Answers result (spec.title_tested known (view title.now) body.now) }
 {
     let title = check_title(alloc, title, &body.at)?;
     check_lines_of(alloc, &known, &title, body.lines.as_slice())?;

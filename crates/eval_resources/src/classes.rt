@@ -2,7 +2,7 @@
 ghost use Rattle.std.specs.Prelude.{◌≡◌, IfOk};
 ghost use Rattle.eval_classes.specs.Answers.{Lends};
 ghost use Rattle.eval_resources.specs.Checks as spec;
-ghost use Rattle.eval_resources.specs.Lines.{body_of, lines_of};
+ghost use Rattle.res_core.specs.Lines.{lines_of};
 ghost use Rattle.pp_values.specs.Answers.{Answers};
 ghost use Rattle.pp_values.specs.Views.{view};
 
@@ -23,7 +23,7 @@ pub fn class_tested<'a>(
     title: &Value,
     body: &Body,
 ) -> Result<&'a Class, Stop>
-    ensures { Lends result (spec.class_tested environment.now form (view title.now) (body_of body.now)) }
+    ensures { Lends result (spec.class_tested environment.now form (view title.now) body.now) }
 {
     check_form(alloc, form, title, &body.at)?;
     let class = class_titled(alloc, environment, title, &body.at)?;

@@ -1,7 +1,6 @@
 //! What a title of a body puts into the book.
 ghost use Rattle.std.specs.Prelude.{◌≡◌, ◌<◌, length, IfOk, IsTrue};
 ghost use Rattle.eval_resources.specs.Declaring as spec;
-ghost use Rattle.eval_resources.specs.Lines.{body_of};
 ghost use Rattle.eval_world.specs.Outcomes.{Gives, same};
 ghost use Rattle.eval_world.specs.Worlds.{put};
 ghost use Rattle.res_book.specs.Rows.{is_contained};
@@ -24,7 +23,7 @@ pub fn declare(
     body: &Body,
     here: Here,
 ) -> Result<u32, Stop>
-    ensures number { Gives same (spec.declare_rule form named (body_of body.now) here world.old) result world.new }
+    ensures number { Gives same (spec.declare_rule form named body.now here world.old) result world.new }
     ensures within { IfOk result (λ n. n < length world.new.book) }
 {
     let owner = world.owners.get(here.owner);
@@ -59,7 +58,7 @@ fn item_of(
     named: Named,
     body: &Body,
 ) -> Result<Declared, Memory>
-    ensures { IfOk result (λ d. d ≡ spec.item_of owner.now book.now named (body_of body.now)) }
+    ensures { IfOk result (λ d. d ≡ spec.item_of owner.now book.now named body.now) }
 {
     let container = container_in(book, owner.resource);
     let set = attributes(alloc, body.lines.as_slice())?;

@@ -1,36 +1,56 @@
-//! What the default body fills into another body.
-ghost use Rattle.std.specs.Prelude.{◌≡◌, ◌++◌, ◌∷◌, [], not, filter, if◌then◌else◌, IfOk, OnOk};
+//! What default bodies fill into another body.
+ghost use Rattle.std.specs.Prelude.{◌≡◌, ◌++◌, ◌∷◌, [], drop, filter, if◌then◌else◌, not, take, IfOk, OnOk};
 ghost use Rattle.eval_resources.specs.Bodies as spec;
-ghost use Rattle.eval_resources.specs.Lines.{lines_of, line_of};
+ghost use Rattle.res_core.specs.Lines.{lines_of, line_of};
 ghost use Rattle.pp_values.specs.Rising.{has_text, sorted, with_texts};
 
-use pp_values::{Memory, Text, copy};
+use pp_values::{Memory, Text};
 use res_core::{Line, Lines};
 use std::alloc::Global;
 use std::collections::BTreeSet;
 
-/// The lines of the default body whose names a body doesn't write, and behind them its own. Where there is no default
-/// body these are its own.
-pub fn filled(alloc: Global, own: Lines, defaults: &Lines) -> Result<Lines, Memory>
-    ensures { IfOk result (λ ls. lines_of ls ≡ spec.filled (lines_of own) (lines_of defaults.now)) }
+/// The own lines of a body, behind what the default bodies before it fill in, and before what the others do. So many
+/// stand before it. Where there is no default body these are its own.
+#[tactic(auto, using(crate::proofs::NameSets::filled_by_none))]
+pub fn filled(alloc: Global, own: Lines, before: usize, defaults: &[Lines]) -> Result<Lines, Memory>
+    ensures { IfOk result (λ ls. ls ≡ spec.filled own before defaults.now) }
 {
-    match defaults.as_slice() {
+    match defaults {
         [] => Ok(own),
-        [_, ..] => filled_with(alloc, own, defaults.as_slice()),
+        [_, ..] => filled_with(alloc, own, before, defaults),
     }
 }
 
 #[tactic(auto, using(crate::proofs::NameSets::unwritten_sorted))]
-fn filled_with(alloc: Global, own: Lines, defaults: &[Line]) -> Result<Lines, Memory>
-    ensures { IfOk result (λ ls. lines_of ls ≡ spec.filled (lines_of own) (lines_of defaults.now)) }
+fn filled_with(
+    alloc: Global,
+    own: Lines,
+    before: usize,
+    defaults: &[Lines],
+) -> Result<Lines, Memory>
+    ensures { IfOk result (λ ls. ls ≡ spec.filled own before defaults.now) }
 {
     let names = names_of(alloc, own.as_slice())?;
-    let unwritten = with_unwritten(alloc, Lines::new(alloc), &names, defaults)?;
-    joined(unwritten, own)
+    let (front, back) = parted(defaults, before);
+    let filled = with_all_unwritten(alloc, Lines::new(alloc), &names, front)?;
+    let filled = joined(filled, own)?;
+    with_all_unwritten(alloc, filled, &names, back)
+}
+
+/// So many of them, and the others.
+#[tactic(auto, using(crate::proofs::NameSets::all_taken, crate::proofs::NameSets::none_left))]
+fn parted(defaults: &[Lines], count: usize) -> (&[Lines], &[Lines])
+    ensures front { result.0.now ≡ take count defaults.now }
+    ensures back { result.1.now ≡ drop count defaults.now }
+{
+    if count < defaults.len() {
+        return defaults.split_at(count);
+    }
+    (defaults, &[])
 }
 
 fn joined(mut done: Lines, more: Lines) -> Result<Lines, Memory>
-    ensures { IfOk result (λ ls. lines_of ls ≡ lines_of done ++ lines_of more) }
+    ensures { IfOk result (λ ls. ls ≡ done ++ more) }
 {
     done.append(more)?;
     Ok(done)
@@ -57,6 +77,25 @@ pub fn has_name(names: &BTreeSet<Text>, name: &Text) -> bool
     names.contains(name)
 }
 
+/// The lines of several bodies whose names are not among these, behind those that are there.
+#[tactic(auto, unfolding(crate::specs::Bodies::all_not_among), using(crate::proofs::NameSets::all_not_among_step))]
+fn with_all_unwritten(
+    alloc: Global,
+    done: Lines,
+    names: &BTreeSet<Text>,
+    bodies: &[Lines],
+) -> Result<Lines, Memory>
+    ensures { IfOk result (λ ls. ls ≡ done ++ spec.all_not_among names.now.keys bodies.now) }
+{
+    let mut all = done;
+    let mut rest = bodies;
+    while let Some((lines, more)) = rest.split_first() {
+        all = with_unwritten(alloc, all, names, lines.as_slice())?;
+        rest = more;
+    }
+    Ok(all)
+}
+
 /// The lines whose names are not among these, behind those that are there.
 #[tactic(auto, using(crate::proofs::NameSets::not_among_step))]
 fn with_unwritten(
@@ -65,8 +104,8 @@ fn with_unwritten(
     names: &BTreeSet<Text>,
     lines: &[Line],
 ) -> Result<Lines, Memory>
-    ensures { IfOk result (λ ls. lines_of ls
-        ≡ lines_of done ++ spec.not_among names.now.keys (lines_of lines.now)) }
+    ensures { IfOk result (λ ls. ls
+        ≡ done ++ spec.not_among names.now.keys (lines_of lines.now)) }
 {
     let mut all = done;
     let mut rest = lines;
@@ -83,26 +122,12 @@ fn with_one(
     names: &BTreeSet<Text>,
     line: &Line,
 ) -> Result<Lines, Memory>
-    ensures { IfOk result (λ ls. lines_of ls
-        ≡ lines_of done ++ spec.not_among names.now.keys (line_of line.now ∷ [])) }
+    ensures { IfOk result (λ ls. ls
+        ≡ done ++ spec.not_among names.now.keys (line_of line.now ∷ [])) }
 {
     if has_name(names, &line.name) {
         return Ok(done);
     }
-    done.push(copied(alloc, line)?)?;
+    done.push(line.copy(alloc)?)?;
     Ok(done)
-}
-
-fn copied(alloc: Global, line: &Line) -> Result<Line, Memory>
-    ensures { IfOk result (λ l. line_of l ≡ line_of line.now) }
-{
-    let name = line.name.copy(alloc)?;
-    let at = line.at.copy(alloc)?;
-    let value = copy(alloc, &line.value)?;
-    Ok(Line {
-        name,
-        append: line.append,
-        value,
-        at,
-    })
 }

@@ -12,12 +12,10 @@ mod filling;
 mod kinds;
 mod known_kind;
 mod named;
-mod reading;
 mod resources;
 
 pub use acting::act;
 pub use checks::check_attributes;
 pub use collecting::collector;
 pub use declaring::container_in;
-pub use reading::lines;
 pub use resources::resource;

@@ -89,13 +89,13 @@ fn line_parts(alloc: Global) -> Result<bool, Memory> {
         value: Value::Int(7),
         at,
     })?;
-    match lines.pop() {
-        Some(line) => {
+    match lines.as_slice() {
+        [line] => {
             let append = line.append;
-            let (name, value, at) = line.into_parts();
+            let (name, value, at) = line.copy(alloc)?.into_parts();
             Ok(append && name.is("mode") && matches!(&value, Value::Int(7)) && at.line == 3)
         }
-        None => Ok(false),
+        _ => Ok(false),
     }
 }
 

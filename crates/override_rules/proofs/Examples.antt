@@ -252,6 +252,17 @@ other_scope : mode_of (state [] (with_scope scopes 7 (Some 0)) (file_mode 7 b []
 unfolding after_lines nearest_within
 other_scope = refl
 
+-- scope 5 was opened already, and keeps its parent
+opened_again : with_scope scopes 5 (Some 7) ≡ scopes
+opened_again = refl
+
+-- so it does where it has none
+no_parent_again : with_scope (with_scope [] 5 None) 5 (Some 0) ≡ with_scope [] 5 None
+no_parent_again = refl
+
+in_order : with_scope (with_scope [] 5 (Some 2)) 2 None ≡ (2, None) ∷ (5, Some 2) ∷ []
+in_order = refl
+
 no_parent : mode_of (state [] (with_scope (with_scope [] 0 None) 5 None) (file_mode 0 b [])) (file_x []) ≡ None
 unfolding after_lines nearest_within
 no_parent = refl

@@ -10,4 +10,5 @@ pub mod Gathered
 pub mod Among
 pub mod Alone
 pub mod Ranges
+pub mod Opening
 pub mod Examples

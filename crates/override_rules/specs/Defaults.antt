@@ -38,8 +38,13 @@ defaults_for kind = filter (λ d. bytes_eq kind d.0.kind)
 abbrev pub parent_of : List Scope → ℕ → Option (Option ℕ)
 parent_of scopes scope = lookup (is_at (nat_cmp scope)) scopes
 
+abbrev pub opened_by : Option (Option ℕ) → List Scope → ℕ → Option ℕ → List Scope
+opened_by (Some held) scopes scope parent = scopes
+opened_by None scopes scope parent = insert_entry nat_cmp scopes scope parent
+
+-- One scope more. A dynamic parent is set once: a scope that was opened keeps the one that it has.
 abbrev pub with_scope : List Scope → ℕ → Option ℕ → List Scope
-with_scope = insert_entry nat_cmp
+with_scope scopes scope parent = opened_by (parent_of scopes scope) scopes scope parent
 
 abbrev pub or_else : Option Datum → Option Datum → Option Datum
 or_else None next = next

@@ -1,7 +1,7 @@
 -- What the clauses of `site_main` rest on, and a reader has to believe: Lines, Changes, Fold, Defaults, Rights,
 -- SetLines, Meaning, Names
 -- What functions promise one another, what types keep, and what proofs read: Targets, Numbers, Keys, Counts, Codes,
--- Inside
+-- Inside, Ways
 pub mod Targets
 pub mod Lines
 pub mod Numbers
@@ -16,3 +16,4 @@ pub mod Meaning
 pub mod Names
 pub mod Codes
 pub mod Inside
+pub mod Ways

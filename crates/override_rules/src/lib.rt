@@ -18,6 +18,7 @@ mod rights;
 mod scopes;
 mod target;
 mod testing;
+mod ways;
 
 pub use override_line::{OverrideLine, Right};
 pub use overrides::Overrides;

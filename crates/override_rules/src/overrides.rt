@@ -257,8 +257,8 @@ impl Overrides {
         first_orphan(self.lines.as_slice(), book)
     }
 
-    /// Opens a scope, which may then have defaults, and take those of its dynamic parent. Each scope is opened once,
-    /// after its parent; one that was never opened has no parent and no default.
+    /// Opens a scope, which may then have defaults, and take those of its dynamic parent. A parent is set once: where the
+    /// scope was opened before, it keeps the one that it has. One that was never opened has no parent and no default.
     ///
     /// Where there is no memory, all stays as it was.
     pub fn open_scope(&mut self, scope: u32, parent: Option<u32>) -> Result<(), Memory>

@@ -46,11 +46,16 @@ impl Scopes {
         self.parents.get(&scope).copied()
     }
 
-    /// Opens a scope. Where there is no memory, all stays as it was.
+    /// Opens a scope, which keeps its parent where it was opened before. Where there is no memory, all stays as it was.
     pub fn open(&mut self, scope: u32, parent: Option<u32>) -> Result<(), Memory>
         ensures { self.new ≡ (if is_ok result then with_scope self.old scope parent else self.old) }
     {
-        self.parents.insert(scope, parent)?;
-        Ok(())
+        match self.parent(scope) {
+            Some(_parent) => Ok(()),
+            None => {
+                self.parents.insert(scope, parent)?;
+                Ok(())
+            }
+        }
     }
 }

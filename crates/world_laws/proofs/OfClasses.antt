@@ -24,16 +24,17 @@ use Rattle.eval_world.specs.Outcomes.{Step}
 use Rattle.eval_world.specs.Owners.{owner_at}
 use Rattle.eval_world.specs.Worlds.{place_at, put}
 use Rattle.eval_world.specs.declared.here.Here.{Here}
-use Rattle.eval_classes.specs.Bodies.{name_rule, names_rule, keep, body_rule, class_body, class_by, class_rule}
+use Rattle.eval_classes.specs.Bodies.{keep, body_rule, class_body, class_by, class_rule}
 use Rattle.eval_classes.specs.Bodies.{instance_body, attributes_at, instance_by, instance_rule, instance_owner, run_item}
 use Rattle.eval_classes.specs.Bodies.{run_by, run_rule}
-use Rattle.eval_classes.specs.Definitions.{class_name, longest_way, module_of, parent_of}
+use Rattle.eval_classes.specs.Definitions.{class_name, longest_way, module_of}
 use Rattle.eval_classes.specs.Entering.{enter_rule, with_body}
 use Rattle.eval_classes.specs.Included.{contain_by, contain_rule, unless_there, declared_once, include_rule, include_from}
 use Rattle.eval_classes.specs.Included.{include_names, included_by, included, names_asked}
-use Rattle.eval_classes.specs.Listing.{class_item, class_reference, is_declared, declare_rule, chain_from}
+use Rattle.eval_classes.specs.Listing.{class_names, class_item, class_reference, is_declared, declare_rule, chain_from}
 use Rattle.eval_classes.specs.Listing.{outer_scope, class_owner, enter_scope, enter_all, enter_chain, own_rule, list_rule, list_all}
-use Rattle.eval_classes.specs.Listing.{known_parent, last_checked, run_all, chain_declared, class_declared}
+use Rattle.eval_classes.specs.Listing.{known_parent, run_all, chain_declared, class_declared}
+use Rattle.eval_classes.specs.OwnNames.{names_rule}
 use Rattle.eval_classes.specs.Parameters.{Given, is_class, data_by, default_rule, counted, or_else, data_or_default}
 use Rattle.eval_classes.specs.Parameters.{value_rule, typed, bind_rule, bind_from}
 use Rattle.eval_classes.specs.Stacks.{Chain, Entered}
@@ -67,6 +68,13 @@ declare_grows c given at from =
 keep_grows : (number : ℕ) (bound : List Setting) → Grows (keep number bound)
 keep_grows number bound = record { reaches = λ w. book_grows w _ (grows-bound number bound w.book) }
 
+-- ---- names of a body
+
+names_grow : (title home : List ℕ) (line : ℕ) (own : Here) → Grows (names_rule title home line own)
+unfolding names_rule
+names_grow title home line own =
+    and_then (assign_grows own _ _ line) (λ u. and_then (assign_grows own _ _ line) (λ v. assign_grows own _ _ line))
+
 -- ---- the scopes of classes, and their owners
 
 scope_grows : (c : Class) (parent : ℕ) → Grows (enter_scope c parent)
@@ -81,7 +89,7 @@ scopes_grow (c ∷ cs) parent done = and_then (scope_grows c parent) (λ scope. 
 enter_chain_grows : (chain : Chain) → Grows (enter_chain chain)
 unfolding enter_chain
 enter_chain_grows chain =
-    and_then (told (λ w. enter_scope chain.last (outer_scope chain.last w)) (λ w. scope_grows chain.last _))
+    and_then (told (λ w. enter_scope chain.last (outer_scope chain.parent w)) (λ w. scope_grows chain.last _))
     (λ scope. scopes_grow chain.before scope _)
 
 own_grows : (c : Class) (scope number from : ℕ) → Grows (own_rule c scope number from)
@@ -90,9 +98,15 @@ own_grows c scope number from = record {
   reaches = λ w. owner_added w (class_owner w.environment c number scope) scope (Some (owner_at from w.owners).scope);
 }
 
+class_names_grow : (name : List ℕ) (l : Listed) → Grows (class_names name l)
+unfolding class_names
+class_names_grow name l = told (λ w. names_rule name (module_of w.environment name) l.line l.here)
+    (λ w. names_grow name _ l.line l.here)
+
 list_grows : (e : Entered) (given : List Setting) (at : Place) (from : ℕ) → Grows (list_rule e given at from)
 unfolding list_rule
-list_grows e given at from = and_then (declare_grows e.0 given at from) (λ number. own_grows e.0 e.1 number from)
+list_grows e given at from = and_then (declare_grows e.0 given at from) (λ number.
+    and_then (own_grows e.0 e.1 number from) (λ l. and_then (class_names_grow (class_name e.0) l) (λ u. pure_grows)))
 
 lists_grow : (es : List Entered) (given : List Setting) (at : Place) (from : ℕ) (done : List Listed) →
     Grows (list_all es given at from done)
@@ -104,10 +118,6 @@ lists_grow (e ∷ es) given at from done =
 known_grows : (parent : Option (List ℕ)) (at : Place) → Grows (known_parent parent at)
 known_grows None at = pure_grows
 known_grows (Some name) at = and_then (answer_grows _) (λ c. pure_grows)
-
-last_grows : (c : Class) (at : Place) → Grows (last_checked c at)
-unfolding last_checked
-last_grows c at = told (λ w. known_parent (parent_of w.environment c) at) (λ w. known_grows _ at)
 
 -- ---- `contain`
 
@@ -129,13 +139,6 @@ unfolding contain_rule
 contain_grows including.Include c here = pure_grows
 contain_grows including.Contain c here =
     told (λ w. contain_by (number_of (class_reference (class_name c)) w.book) here) (λ w. contain_by_grows _ here)
-
--- ---- names of a body
-
-names_grow : (title home : List ℕ) (line : ℕ) (own : Here) → Grows (names_rule title home line own)
-unfolding names_rule
-names_grow title home line own =
-    and_then (assign_grows own _ _ line) (λ u. and_then (assign_grows own _ _ line) (λ v. assign_grows own _ _ line))
 
 typed_grows : (t : Option Expr) (own : Here) → Grows (typed t own)
 typed_grows None own = pure_grows
@@ -163,7 +166,7 @@ module _ (inner : Inner) (g : GrowsInner inner) where
       Grows (chain_declared inner chain given at from)
   unfolding chain_declared
   chain_grows chain given at from = and_then (enter_chain_grows chain) (λ es.
-      and_then (lists_grow es given at from []) (λ ls. and_then (last_grows chain.last at) (λ u. runs_grow ls)))
+      and_then (lists_grow es given at from []) (λ ls. and_then (known_grows chain.parent at) (λ u. runs_grow ls)))
 
   pub class_declared_grows : (c : Class) (given : List Setting) (at : Place) (from : ℕ) →
       Grows (class_declared inner c given at from)
@@ -246,20 +249,17 @@ module _ (inner : Inner) (g : GrowsInner inner) where
 
   -- ---- bodies
 
-  pub body_grows : (given : Given) (of : Reference) (at : Place) (home : List ℕ) (params : List (Param Expr))
-      (block : List Statement) (number line : ℕ) (own : Here) →
-      Grows (body_rule inner given of at home params block number line own)
+  pub body_grows : (given : Given) (of : Reference) (at : Place) (params : List (Param Expr)) (block : List Statement)
+      (number line : ℕ) (own : Here) → Grows (body_rule inner given of at params block number line own)
   unfolding body_rule
-  body_grows given of at home params block number line own = and_then (names_grow of.title home line own) (λ u.
-      and_then (binds_grow given [] params of at own) (λ bound.
-      and_then (keep_grows number bound) (λ v. g.block block line own)))
+  body_grows given of at params block number line own = and_then (binds_grow given [] params of at own) (λ bound.
+      and_then (keep_grows number bound) (λ v. g.block block line own))
 
   class_body_grows : (given : List Setting) (of : Reference) (at : Place) (number line : ℕ) (own : Here) →
       Grows (class_body inner given of at number line own)
   unfolding class_body
-  class_body_grows given of at number line own = and_then (answer_grows _) (λ c. told
-      (λ w. body_rule inner (set_in given) of at (module_of w.environment of.title) c.params c.block number line own)
-      (λ w. body_grows _ of at _ c.params c.block number line own))
+  class_body_grows given of at number line own =
+      and_then (answer_grows _) (λ c. body_grows (set_in given) of at c.params c.block number line own)
 
   class_by_grows : (item : Option Declared) (number line : ℕ) (own : Here) →
       Grows (class_by inner item number line own)
@@ -274,9 +274,9 @@ module _ (inner : Inner) (g : GrowsInner inner) where
   instance_body_grows : (given : List Setting) (of : Reference) (at : Place) (number line : ℕ) (own : Here) →
       Grows (instance_body inner given of at number line own)
   unfolding instance_body
-  instance_body_grows given of at number line own = and_then (answer_grows _) (λ f. told
-      (λ w. body_rule inner (set_in given) of at (module_of w.environment of.kind) f.params f.block number line own)
-      (λ w. body_grows _ of at _ f.params f.block number line own))
+  instance_body_grows given of at number line own = and_then (answer_grows _) (λ f. and_then
+      (told (λ w. names_rule of.title (module_of w.environment of.kind) line own) (λ w. names_grow of.title _ line own))
+      (λ u. body_grows (set_in given) of at f.params f.block number line own))
 
   instance_by_grows : (item : Option Declared) (number line : ℕ) (own : Here) →
       Grows (instance_by inner item number line own)

@@ -26,12 +26,13 @@ use Rattle.eval_world.specs.Worlds.{put}
 use Rattle.eval_world.specs.declared.here.Here.{Here}
 use Rattle.override_rules.specs.Meaning.{stands}
 use Rattle.eval_resources.specs.Bodies.{is_default, default_rule, default_more, defaults_from, body_rule, body_more}
-use Rattle.eval_resources.specs.Bodies.{bodies_from, bodies_rule}
+use Rattle.eval_resources.specs.Bodies.{before_next, bodies_from, bodies_rule}
 use Rattle.eval_resources.specs.Collectors.{native_asked, tag_of, tag_asked, asked_by, register, collected_by}
 use Rattle.eval_resources.specs.Collectors.{collector_rule}
 use Rattle.eval_resources.specs.Declaring.{set_from, item_of, mode_of, declare_rule}
-use Rattle.eval_resources.specs.Lines.{Line, Body}
-use Rattle.eval_resources.specs.Reading.{setting_rule, splat_by, splat_rule, attribute_rule, lines_from}
+use Rattle.res_core.specs.Lines.{Line}
+use Rattle.res_core.specs.declared.body.Body.{Body}
+use Rattle.attribute_lines.specs.Reading.{setting_rule, splat_by, splat_rule, attribute_rule, lines_from}
 use Rattle.eval_resources.specs.Resources.{declared_rule, class_title_rule, title_rule, titles_rule, declare_bodies}
 use Rattle.eval_resources.specs.Resources.{relations_checked}
 use Rattle.eval_resources.specs.Resources.{form_of, resource_rule}
@@ -102,42 +103,47 @@ module _ (inner : Inner) (g : GrowsInner inner) where
 
   -- ---- bodies
 
-  default_grows : (done : List Line) (b : tree_body.Body Expr) (here : Here) → Grows (default_rule inner done b here)
+  default_grows : (done : List (List Line)) (b : tree_body.Body Expr) (here : Here) →
+      Grows (default_rule inner done b here)
   unfolding default_rule
-  default_grows done b here = and_then (g.value b.title here) (λ v. lines_grow done b.attributes here)
+  default_grows done b here = and_then (g.value b.title here) (λ v.
+      and_then (lines_grow [] b.attributes here) (λ lines. pure_grows))
 
-  default_more_grows : (is : Bool) (done : List Line) (b : tree_body.Body Expr) (here : Here) →
+  default_more_grows : (is : Bool) (done : List (List Line)) (b : tree_body.Body Expr) (here : Here) →
       Grows (default_more inner is done b here)
   default_more_grows true done b here = default_grows done b here
   default_more_grows false done b here = pure_grows
 
-  defaults_grow : (done : List Line) (bs : List (tree_body.Body Expr)) (here : Here) →
+  defaults_grow : (done : List (List Line)) (bs : List (tree_body.Body Expr)) (here : Here) →
       Grows (defaults_from inner done bs here)
   unfolding defaults_from
   defaults_grow done [] here = pure_grows
   defaults_grow done (b ∷ bs) here =
       and_then (default_more_grows (is_default b) done b here) (λ more. defaults_grow more bs here)
 
-  body_grows : (defaults : List Line) (b : tree_body.Body Expr) (here : Here) → Grows (body_rule inner defaults b here)
+  body_grows : (defaults : List (List Line)) (before : ℕ) (b : tree_body.Body Expr) (here : Here) →
+      Grows (body_rule inner defaults before b here)
   unfolding body_rule
-  body_grows defaults b here = and_then (g.value b.title here) (λ title.
+  body_grows defaults before b here = and_then (g.value b.title here) (λ title.
       and_then (lines_grow [] b.attributes here) (λ own. record { reaches = same_world }))
 
-  body_more_grows : (is : Bool) (defaults : List Line) (done : List Body) (b : tree_body.Body Expr) (here : Here) →
-      Grows (body_more inner is defaults done b here)
-  body_more_grows true defaults done b here = pure_grows
-  body_more_grows false defaults done b here = and_then (body_grows defaults b here) (λ body. pure_grows)
+  body_more_grows : (is : Bool) (defaults : List (List Line)) (before : ℕ) (done : List Body)
+      (b : tree_body.Body Expr) (here : Here) → Grows (body_more inner is defaults before done b here)
+  body_more_grows true defaults before done b here = pure_grows
+  body_more_grows false defaults before done b here =
+      and_then (body_grows defaults before b here) (λ body. pure_grows)
 
-  bodies_grow : (defaults : List Line) (done : List Body) (bs : List (tree_body.Body Expr)) (here : Here) →
-      Grows (bodies_from inner defaults done bs here)
+  bodies_grow : (defaults : List (List Line)) (before : ℕ) (done : List Body) (bs : List (tree_body.Body Expr))
+      (here : Here) → Grows (bodies_from inner defaults before done bs here)
   unfolding bodies_from
-  bodies_grow defaults done [] here = pure_grows
-  bodies_grow defaults done (b ∷ bs) here =
-      and_then (body_more_grows (is_default b) defaults done b here) (λ more. bodies_grow defaults more bs here)
+  bodies_grow defaults before done [] here = pure_grows
+  bodies_grow defaults before done (b ∷ bs) here =
+      and_then (body_more_grows (is_default b) defaults before done b here)
+      (λ more. bodies_grow defaults (before_next (is_default b) before) more bs here)
 
   all_bodies_grow : (bs : List (tree_body.Body Expr)) (here : Here) → Grows (bodies_rule inner bs here)
   unfolding bodies_rule
-  all_bodies_grow bs here = and_then (defaults_grow [] bs here) (λ defaults. bodies_grow defaults [] bs here)
+  all_bodies_grow bs here = and_then (defaults_grow [] bs here) (λ defaults. bodies_grow defaults 0 [] bs here)
 
   -- ---- titles
 

@@ -1,7 +1,7 @@
 -- The first of the rest is the first of all.
 use Rattle.std.proofs.Common.{◌≡◌, length}
 use Rattle.std.specs.Prelude.{find}
-use Rattle.eval_resources.specs.Lines.{lines_of}
+use Rattle.res_core.specs.Lines.{lines_of}
 use Rattle.eval_resources.specs.Resources.{relates}
 use Rattle.eval_resources.proofs.acting.first_relation.Given as goal
 

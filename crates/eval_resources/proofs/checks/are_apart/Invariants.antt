@@ -1,7 +1,7 @@
 -- What is left decides.
 use Rattle.std.proofs.Common.{◌≡◌, length}
 use Rattle.eval_resources.specs.GoodLines.{are_apart}
-use Rattle.eval_resources.specs.Lines.{lines_of}
+use Rattle.res_core.specs.Lines.{lines_of}
 use Rattle.eval_resources.proofs.checks.are_apart.Given as goal
 
 abbrev pub invariant-loop-line : goal.invariant-loop-line

@@ -1,6 +1,5 @@
 use Rattle.std.proofs.Common.{ap, subst, ◌∙◌}
 use Rattle.eval_resources.specs.Declaring.{declare_rule, item_of, mode_of}
-use Rattle.eval_resources.specs.Lines.{body_of}
 use Rattle.eval_world.specs.Outcomes.{Gives, same}
 use Rattle.eval_world.specs.Worlds.{put}
 use Rattle.eval_resources.proofs.declaring.declare.Goals as goal
@@ -9,7 +8,7 @@ pub returns-clause-number : goal.returns-clause-number
 unfolding declare_rule
 returns-clause-number c =
     let w = c.args.world.now in
-    let body = body_of c.args.body.now in
+    let body = c.args.body.now in
     subst (λ d. Gives same (put d (mode_of c.args.form) w) c.put.result c.put.new.world)
     (c.in_ok-item.ensures ∙ ap (λ o. item_of o w.book c.args.named body) c.get-owner.ensures)
     (subst (λ m. Gives same (put c.in_ok-item.item m w) c.put.result c.put.new.world) c.mode_of.ensures c.put.ensures.number)

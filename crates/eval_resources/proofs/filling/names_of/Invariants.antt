@@ -2,7 +2,7 @@
 use Rattle.std.proofs.Common.{◌≡◌, length}
 use Rattle.pp_values.specs.Rising.{sorted, with_texts}
 use Rattle.eval_resources.specs.Bodies.{line_names}
-use Rattle.eval_resources.specs.Lines.{lines_of}
+use Rattle.res_core.specs.Lines.{lines_of}
 use Rattle.eval_resources.proofs.filling.names_of.Given as goal
 
 abbrev pub invariant-loop-line : goal.invariant-loop-line

@@ -10,11 +10,11 @@ use Rattle.pp_values.specs.Datum.{Datum, Pair, pairs_of}
 use Rattle.pp_values.specs.TextOf.{text_of}
 use Rattle.pp_values.specs.declared.fault.What.TheVariants as what
 use Rattle.pp_values.specs.declared.place.Place.{Place}
+use Rattle.res_core.specs.Lines.{Line}
 use Rattle.eval_world.specs.Inner.{Inner}
 use Rattle.eval_world.specs.Outcomes.{Step, ◌>>=◌, pure}
 use Rattle.eval_world.specs.Worlds.{fault, place_at}
 use Rattle.eval_world.specs.declared.here.Here.{Here}
-use Rattle.eval_resources.specs.Lines.{Line}
 
 abbrev pub line : List ℕ → Bool → Datum → Place → Line
 line name append value at = record { name = name; append = append; value = value; at = at }

@@ -1,13 +1,12 @@
 -- What is left decides.
 use Rattle.std.proofs.Common.{◌≡◌, length}
 use Rattle.pp_values.specs.Views.{pair_views}
-use Rattle.eval_resources.specs.Lines.{lines_of}
-use Rattle.eval_resources.specs.Reading.{splatted}
-use Rattle.eval_resources.proofs.reading.with_pairs.Given as goal
+use Rattle.attribute_lines.specs.Reading.{splatted}
+use Rattle.attribute_lines.proofs.reading.with_pairs.Given as goal
 
 abbrev pub invariant-loop-pair : goal.invariant-loop-pair
 invariant-loop-pair l =
-    splatted (lines_of l.fn.done) (pair_views l.pairs) l.at ≡ splatted (lines_of l.all) (pair_views l.rest) l.at
+    splatted l.fn.done (pair_views l.pairs) l.at ≡ splatted l.all (pair_views l.rest) l.at
 
 abbrev pub decreases-loop-pair : goal.decreases-loop-pair
 decreases-loop-pair l = length l.rest

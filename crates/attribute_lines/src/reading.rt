@@ -1,9 +1,8 @@
 //! The lines within braces.
 ghost use Rattle.std.specs.Prelude.{◌≡◌, ◌∷◌, ◌++◌, [], IfOk};
-ghost use Rattle.eval_resources.specs.Lines.{lines_of};
-ghost use Rattle.eval_resources.specs.Reading as spec;
+ghost use Rattle.attribute_lines.specs.Reading as spec;
 ghost use Rattle.eval_world.specs.Nests.{Nests};
-ghost use Rattle.eval_world.specs.Outcomes.{Gives};
+ghost use Rattle.eval_world.specs.Outcomes.{Gives, same};
 ghost use Rattle.pp_values.specs.Views.{pair_views, view};
 
 use eval_world::{Evaluated, Forms, Goal, Here, Meaning, World};
@@ -23,8 +22,8 @@ pub fn lines<F: Fn(&mut World<'_>, Goal<'_>, Here, u32) -> Result<Evaluated, Sto
     here: Here,
 ) -> Result<Lines, Stop>
     requires { Nests (M.within forms.now.left) forms.now.left (F.pre forms.now.inner) (F.post forms.now.inner) }
-    ensures { Gives lines_of
-        (spec.lines_from (M.within forms.now.left) (lines_of done) attributes.now here world.old) result world.new }
+    ensures { Gives same
+        (spec.lines_from (M.within forms.now.left) done attributes.now here world.old) result world.new }
 {
     let mut all = done;
     let mut rest = attributes.as_slice();
@@ -47,8 +46,8 @@ fn with_attribute<
     here: Here,
 ) -> Result<Lines, Stop>
     requires { Nests (M.within forms.now.left) forms.now.left (F.pre forms.now.inner) (F.post forms.now.inner) }
-    ensures { Gives lines_of
-        (spec.attribute_rule (M.within forms.now.left) (lines_of done) attribute.now here world.old) result world.new }
+    ensures { Gives same
+        (spec.attribute_rule (M.within forms.now.left) done attribute.now here world.old) result world.new }
 {
     match attribute {
         Attribute::Set(setting) => with_setting(forms, world, done, setting, here),
@@ -66,8 +65,8 @@ fn with_setting<F: Fn(&mut World<'_>, Goal<'_>, Here, u32) -> Result<Evaluated, 
     here: Here,
 ) -> Result<Lines, Stop>
     requires { Nests (M.within forms.now.left) forms.now.left (F.pre forms.now.inner) (F.post forms.now.inner) }
-    ensures { Gives lines_of
-        (spec.setting_rule (M.within forms.now.left) (lines_of done) setting.now here world.old) result world.new }
+    ensures { Gives same
+        (spec.setting_rule (M.within forms.now.left) done setting.now here world.old) result world.new }
 {
     let value = forms.value(world, &setting.value, here)?;
     let at = world.place(here, setting.at)?;
@@ -90,7 +89,7 @@ fn with_line(
     value: Evaluated,
     at: Place,
 ) -> Result<Lines, Memory>
-    ensures { IfOk result (λ ls. lines_of ls ≡ lines_of done ++ spec.line name.now append value at ∷ []) }
+    ensures { IfOk result (λ ls. ls ≡ done ++ spec.line name.now append value at ∷ []) }
 {
     let name = name.copy(alloc)?;
     done.push(Line {
@@ -112,8 +111,8 @@ fn with_splat<F: Fn(&mut World<'_>, Goal<'_>, Here, u32) -> Result<Evaluated, St
     here: Here,
 ) -> Result<Lines, Stop>
     requires { Nests (M.within forms.now.left) forms.now.left (F.pre forms.now.inner) (F.post forms.now.inner) }
-    ensures { Gives lines_of
-        (spec.splat_rule (M.within forms.now.left) (lines_of done) splat.now here world.old) result world.new }
+    ensures { Gives same
+        (spec.splat_rule (M.within forms.now.left) done splat.now here world.old) result world.new }
 {
     let value = forms.value(world, &splat.value, here)?;
     with_splatted(world, done, value.as_value(), splat.at, here)
@@ -127,7 +126,7 @@ fn with_splatted(
     line: u32,
     here: Here,
 ) -> Result<Lines, Stop>
-    ensures { Gives lines_of (spec.splat_by (lines_of done) (view value.now) line here world.now) result world.now }
+    ensures { Gives same (spec.splat_by done (view value.now) line here world.now) result world.now }
 {
     match value {
         Value::Hash(pairs) => {
@@ -149,7 +148,7 @@ fn with_pairs(
     pairs: &[(Value, Value)],
     at: &Place,
 ) -> Result<Lines, Memory>
-    ensures { IfOk result (λ ls. lines_of ls ≡ spec.splatted (lines_of done) (pair_views pairs.now) at.now) }
+    ensures { IfOk result (λ ls. ls ≡ spec.splatted done (pair_views pairs.now) at.now) }
 {
     let mut all = done;
     let mut rest = pairs;
@@ -161,8 +160,8 @@ fn with_pairs(
 }
 
 fn with_pair(alloc: Global, done: Lines, pair: &(Value, Value), at: &Place) -> Result<Lines, Memory>
-    ensures { IfOk result (λ ls. lines_of ls
-        ≡ spec.with_pair (lines_of done) (view pair.now.0) (view pair.now.1) at.now) }
+    ensures { IfOk result (λ ls. ls
+        ≡ spec.with_pair done (view pair.now.0) (view pair.now.1) at.now) }
 {
     let name = text_of(alloc, &pair.0)?;
     let value = Evaluated::copy_of(alloc, &pair.1)?;

@@ -1,3 +1,6 @@
+-- What the clauses of `site_main` rest on, and a reader has to believe: PlainForms, Attributes, Layouts, Catalogs,
+-- FirstCycles, Containing, EdgeTables, RelationParameters, Sources, Relating, Exporting, Naming, Finishing
+-- What functions promise one another, what types keep, and what proofs read: Tables, Titles, NameCodes, NameKeys
 pub mod PlainForms
 pub mod Attributes
 pub mod Layouts

@@ -1,3 +1,6 @@
+-- What the clauses of `site_main` rest on, and a reader has to believe: Evaluating, Facts, Meaning, Postfixes,
+-- Starting, Statements
+-- What functions promise one another, what types keep, and what proofs read: LeafLaw, Single, Running
 pub mod Evaluating
 pub mod EvaluatorCodes
 pub mod Evaluators

@@ -1,1 +1,2 @@
+-- What the clauses of `site_main` rest on, and a reader has to believe: Matches
 pub mod Matches

@@ -1,2 +1,4 @@
+-- What the clauses of `site_main` rest on, and a reader has to believe: Rounds
+-- What functions promise one another, what types keep, and what proofs read: ImportPlaces
 pub mod ImportPlaces
 pub mod Rounds

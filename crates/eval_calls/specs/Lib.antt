@@ -1,3 +1,5 @@
+-- What the clauses of `site_main` rest on, and a reader has to believe: Calls, Iterating, Lambdas, LookUps, Names
+-- What functions promise one another, what types keep, and what proofs read: Known
 pub mod Calls
 pub mod Iterating
 pub mod Lambdas

@@ -1,3 +1,6 @@
+-- What the clauses of `site_main` rest on, and a reader has to believe: Answering, Literals, Operators, Conditions,
+-- Selectors, Accesses, Types
+-- What functions promise one another, what types keep, and what proofs read: KeyPlaces, GrowingPairs, Known, Lent
 pub mod Answering
 pub mod Literals
 pub mod KeyPlaces

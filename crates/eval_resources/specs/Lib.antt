@@ -1,3 +1,6 @@
+-- What the clauses of `site_main` rest on, and a reader has to believe: Bodies, Checks, Declaring, Resources,
+-- Collectors
+-- What functions promise one another, what types keep, and what proofs read: GoodLines
 pub mod Bodies
 pub mod Checks
 pub mod Declaring

@@ -1,3 +1,6 @@
+-- What the clauses of `site_main` rest on, and a reader has to believe: Arguments, Data, Environment, Inner,
+-- Outcomes, Owners, Shapes, Worlds
+-- What functions promise one another, what types keep, and what proofs read: Leaves, Nests
 pub mod Arguments
 pub mod Data
 pub mod Environment

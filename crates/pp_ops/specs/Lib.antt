@@ -1,3 +1,6 @@
+-- What the clauses of `site_main` rest on, and a reader has to believe: Symbols, Same, Numbers, Lists, Hashes,
+-- Members, Accesses, Operators
+-- What functions promise one another, what types keep, and what proofs read: Said, Refusals, Indexes
 pub mod Said
 pub mod Refusals
 pub mod Symbols

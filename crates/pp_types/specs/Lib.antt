@@ -1,3 +1,6 @@
+-- What the clauses of `site_main` rest on, and a reader has to believe: Ranges, Lengths, Forms, Rules, Includes,
+-- Accepts, Names, Arguments
+-- What functions promise one another, what types keep, and what proofs read: Layers, Refusals
 pub mod Ranges
 pub mod Lengths
 pub mod Forms

@@ -1,3 +1,5 @@
+-- What the clauses of `site_main` rest on, and a reader has to believe: Names, Scopes
+-- What functions promise one another, what types keep, and what proofs read: Keyed, Outcomes
 pub mod Keyed
 pub mod Names
 pub mod Outcomes

@@ -1,3 +1,6 @@
+-- What the clauses of `site_main` rest on, and a reader has to believe: Given, SiteView, NodeNames, Refusals,
+-- Documents, Keeping, Files, GivenFacts, Nodes, RequestsOf, Bundles
+-- What functions promise one another, what types keep, and what proofs read: Listing
 pub mod Given
 pub mod SiteView
 pub mod Listing

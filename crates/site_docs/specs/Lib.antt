@@ -1,3 +1,6 @@
+-- What the clauses of `site_main` rest on, and a reader has to believe: FaultText, CatalogText, LogText, SiteText,
+-- JournalText, ReplyText
+-- What functions promise one another, what types keep, and what proofs read: Tokens
 pub mod FaultText
 pub mod CatalogText
 pub mod Tokens

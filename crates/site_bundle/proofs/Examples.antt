@@ -6,7 +6,7 @@ use Rattle.pp_values.specs.Datum.{undef, flag, int, text, list, hash, no_entries
 use Rattle.pp_values.specs.declared.place.TheConstants.{MAIN_MANIFEST}
 use Rattle.res_core.specs.Asked.{compile, deactivate}
 use Rattle.site_bundle.specs.NodeNames.{is_node_name}
-use Rattle.site_bundle.specs.SiteView.{SiteView, facts_for, main_text, text_at, are_manifests, are_others, put_in, site_of}
+use Rattle.site_bundle.specs.SiteView.{SiteView, facts_for, main_text, text_at, put_in, site_of}
 use Rattle.site_bundle.specs.Given.{are_distinct, has_main, is_manifest_path}
 use Rattle.site_bundle.specs.declared.limits.TheConstants.{MOST_BUNDLE_BYTES, MOST_FILES, MOST_FILE_BYTES, MOST_NAME_CHARACTERS, MOST_REQUESTS}
 use Rattle.site_bundle.specs.Refusals.{not_json, bad_shape, too_large, result_and_then}
@@ -256,13 +256,6 @@ given : (are_distinct {X = ℕ} ((codes "a", 0) ∷ (codes "b", 0) ∷ []) ≡ t
     × (is_manifest_path (codes "pp") ≡ false)
     × (is_manifest_path (codes "data/common.json") ≡ false)
 given = (refl, refl, refl, refl, refl, refl, refl, refl)
-
--- one path of the other kind is too many
-kinds : (are_manifests ((codes "a.pp", []) ∷ (MAIN_MANIFEST.now, []) ∷ []) ≡ true)
-    × (are_manifests ((codes "a.pp", []) ∷ (codes "hiera.yaml", []) ∷ []) ≡ false)
-    × (are_others ((codes "data/a.json", []) ∷ (codes "hiera.yaml", []) ∷ []) ≡ true)
-    × (are_others ((codes "data/a.json", []) ∷ (codes "data/a.pp", []) ∷ []) ≡ false)
-kinds = (refl, refl, refl, refl)
 
 -- how much a bundle may be: 64 MiB, 4 MiB a file, 65,536 files, 1,048,576 requests; and the name of a node: 255 characters
 limits : (MOST_BUNDLE_BYTES ≡ 64 * 1024 * 1024) × (MOST_FILE_BYTES ≡ 4 * 1024 * 1024)

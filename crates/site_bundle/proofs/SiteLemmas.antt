@@ -24,8 +24,7 @@ use Rattle.pp_values.specs.Facts.{are_facts}
 use Rattle.pp_values.specs.PairLists.{fact_view, fact_views}
 use Rattle.pp_values.specs.Rising.{text_cmp}
 use Rattle.pp_tree.specs.declared.manifest_file.ManifestFile.{ManifestFile}
-use Rattle.pp_values.specs.declared.place.TheConstants.{MAIN_MANIFEST}
-use Rattle.site_bundle.specs.Given.{has_key, is_manifest_path}
+use Rattle.site_bundle.specs.Given.{has_key}
 use Rattle.site_bundle.specs.SiteView.{Listed, are_rising, have_facts, put_in}
 use Rattle.site_bundle.specs.Listing.{shown, listed, IsRead, AreRead}
 
@@ -168,22 +167,6 @@ have_facts-put k d (e ∷ es) p h =
       | Equal ↦ both _ _ p (second _ _ h)
       | Greater ↦ both _ _ (first _ _ h) (have_facts-put k d es p (second _ _ h))
     ]
-
--- what holds of all keys holds after a put
-pub keys-put : {X : Type 0} (is : List ℕ → Bool) (k : List ℕ) (v : X) (es : List (List ℕ × X)) → IsTrue (is k) →
-    IsTrue (list_all (λ e. is e.0) es) → IsTrue (list_all (λ e. is e.0) (put text_cmp k v es))
-keys-put is k v [] p h = both (is k) true p refl
-keys-put is k v (e ∷ es) p h =
-    elim (text_cmp k e.0) as (λ r. IsTrue (list_all (λ x. is x.0)
-    (by_order r ((k, v) ∷ e ∷ es) ((e.0, v) ∷ es) (e ∷ put text_cmp k v es)))) [
-      | Less ↦ both (is k) _ p h
-      | Equal ↦ h
-      | Greater ↦ both (is e.0) _ (first _ _ h) (keys-put is k v es p (second (is e.0) _ h))
-    ]
-
--- the main manifest is one by its path
-pub main_path : (path : List ℕ) → path ≡ MAIN_MANIFEST.now → IsTrue (is_manifest_path path)
-main_path path is = subst (λ p. IsTrue (is_manifest_path p)) (sym is) refl
 
 pub viewed_facts : (o : Option (Bor Value)) (es : List Listed) (k : List ℕ) →
     option_map (λ v. view v.now) o ≡ find text_cmp k es →

@@ -59,14 +59,6 @@ manifests_among files = filter (λ f. is_manifest_path f.0) files
 abbrev pub data_among : List Filed → List Filed
 data_among files = filter (λ f. not (is_manifest_path f.0)) files
 
--- manifests alone stand at these paths
-abbrev pub are_manifests : List Filed → Bool
-are_manifests files = list_all (λ f. is_manifest_path f.0) files
-
--- no manifest stands at these paths
-abbrev pub are_others : List Filed → Bool
-are_others files = list_all (λ f. not (is_manifest_path f.0)) files
-
 -- the site of these files and nodes
 abbrev pub site_of : List Filed → List Listed → SiteView
 site_of files nodes = record {

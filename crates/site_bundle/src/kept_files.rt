@@ -5,8 +5,8 @@ ghost use Rattle.site_bundle.specs.Given.{is_manifest_path};
 ghost use Rattle.site_bundle.specs.Keeping.{no_files, with_text};
 
 use crate::limits::MOST_FILES;
-use crate::other_files::OtherFiles;
 use crate::site_files::SiteFiles;
+use hiera_config::SiteData;
 use pp_values::memory::Memory;
 use pp_values::text::Text;
 use std::alloc::Global;
@@ -15,7 +15,7 @@ use std::alloc::Global;
 #[derive(Drop)]
 pub struct KeptFiles {
     pub manifests: SiteFiles,
-    pub data: OtherFiles,
+    pub data: SiteData,
 }
 
 impl KeptFiles {
@@ -24,7 +24,7 @@ impl KeptFiles {
     {
         KeptFiles {
             manifests: SiteFiles::new(alloc),
-            data: OtherFiles::new(alloc),
+            data: SiteData::new(alloc),
         }
     }
 
@@ -47,7 +47,7 @@ impl KeptFiles {
         ensures { result ≡ has_room self.now }
     {
         let left = MOST_FILES.saturating_sub(self.manifests.len());
-        self.data.len() < left
+        self.data.as_map().len() < left
     }
 }
 

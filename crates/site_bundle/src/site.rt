@@ -8,11 +8,10 @@ ghost use Rattle.pp_values.specs.Views.{view};
 ghost use Rattle.pp_values.specs.declared.place.TheConstants.{MAIN_MANIFEST};
 ghost use Rattle.site_bundle.specs.Given.{are_distinct, has_main, are_short};
 ghost use Rattle.site_bundle.specs.Keeping.{kept};
-ghost use Rattle.site_bundle.specs.SiteView.{facts_for, main_text, have_facts, are_manifests, are_others, put_in, site_of};
+ghost use Rattle.site_bundle.specs.SiteView.{facts_for, main_text, have_facts, put_in, site_of};
 
 use crate::kept_files::KeptFiles;
 use crate::listed_nodes::ListedNodes;
-use crate::other_files::OtherFiles;
 use crate::site_files::SiteFiles;
 use hiera_config::SiteData;
 use pp_tree::manifest_file::ManifestFile;
@@ -50,9 +49,9 @@ impl Drop for Site {
 }
 
 impl Model for Site {
-    ghost use Rattle.std.specs.Prelude.{◌≡◌, IsSome, IsTrue};
+    ghost use Rattle.std.specs.Prelude.{◌≡◌, IsSome};
     ghost use Rattle.pp_values.specs.declared.place.TheConstants.{MAIN_MANIFEST};
-    ghost use Rattle.site_bundle.specs.SiteView.{SiteView, coded_site, text_at, are_others};
+    ghost use Rattle.site_bundle.specs.SiteView.{SiteView, coded_site, text_at};
 
     ghost Value = { SiteView };
 
@@ -61,8 +60,7 @@ impl Model for Site {
     ghost view = { λ s. record { manifests = s.manifests; «data» = s.data; nodes = s.nodes } };
 
     ghost invariant = { λ s. (s.main ≡ MAIN_MANIFEST.now)
-        × IsSome (text_at (record { manifests = s.manifests; «data» = s.data; nodes = s.nodes }) MAIN_MANIFEST.now)
-        × IsTrue (are_others s.data) };
+        × IsSome (text_at (record { manifests = s.manifests; «data» = s.data; nodes = s.nodes }) MAIN_MANIFEST.now) };
 }
 
 impl Site {
@@ -84,14 +82,6 @@ impl Site {
         ensures read { result.now.read ≡ file_of MAIN_MANIFEST.now (main_text self.now) }
     {
         self.manifests.get(&self.main).unwrap()
-    }
-
-    /// The path of each manifest ends in `.pp`, and that of no other file does.
-    pub fn paths_tell(&self)
-        ensures manifests { IsTrue (are_manifests self.now.manifests) }
-        ensures others { IsTrue (are_others self.now.data) }
-    {
-        let _count = self.manifests.len();
     }
 
     /// The facts that are listed for the node.
@@ -122,7 +112,7 @@ pub fn make_site(alloc: Global, files: TextPairs, nodes: FactPairs) -> Result<Si
 {
     let main = Text::from_str(alloc, MAIN_MANIFEST)?;
     let KeptFiles { manifests, data } = read_files(alloc, files)?;
-    let data = data.into_data(alloc)?;
+    let data = planned(alloc, data)?;
     let nodes = list_nodes(alloc, nodes)?;
     Ok(Site {
         main,
@@ -133,7 +123,6 @@ pub fn make_site(alloc: Global, files: TextPairs, nodes: FactPairs) -> Result<Si
 }
 
 /// The site of a main manifest alone, with nodes that are listed already.
-#[tactic(auto, using(crate::proofs::SiteLemmas::main_path))]
 pub fn site_of_main(alloc: Global, manifest: Text, nodes: ListedNodes) -> Result<Site, Memory>
     // Places count lines in 32 bits.
     requires { length manifest + 1 < 2 ^ 32 }
@@ -143,7 +132,7 @@ pub fn site_of_main(alloc: Global, manifest: Text, nodes: ListedNodes) -> Result
     let main = Text::from_str(alloc, MAIN_MANIFEST)?;
     let mut manifests = SiteFiles::new(alloc);
     manifests.read(alloc, main.copy(alloc)?, manifest)?;
-    let data = OtherFiles::new(alloc).into_data(alloc)?;
+    let data = planned(alloc, SiteData::new(alloc))?;
     Ok(Site {
         main,
         manifests,
@@ -156,20 +145,29 @@ pub fn site_of_main(alloc: Global, manifest: Text, nodes: ListedNodes) -> Result
 pub fn site_with(
     alloc: Global,
     manifests: SiteFiles,
-    others: OtherFiles,
+    others: SiteData,
     nodes: ListedNodes,
 ) -> Result<Site, Memory>
     requires { IsSome (find text_cmp MAIN_MANIFEST.now manifests) }
     ensures { IfOk result (λ s. s ≡ record { manifests = manifests; «data» = others; nodes = nodes }) }
 {
     let main = Text::from_str(alloc, MAIN_MANIFEST)?;
-    let data = others.into_data(alloc)?;
+    let data = planned(alloc, others)?;
     Ok(Site {
         main,
         manifests,
         data,
         nodes,
     })
+}
+
+/// The data of a site, all of whose files are read: what look-ups read of them is found ahead.
+fn planned(alloc: Global, files: SiteData) -> Result<SiteData, Memory>
+    ensures { IfOk result (λ d. d ≡ files) }
+{
+    let mut files = files;
+    files.plan(alloc)?;
+    Ok(files)
 }
 
 fn read_files(alloc: Global, files: TextPairs) -> Result<KeptFiles, Memory>

@@ -3,7 +3,6 @@ ghost use Rattle.std.specs.Prelude.{◌≡◌, ◌+◌, ◌^◌, ◌<◌, [], le
 ghost use Rattle.std.specs.FinMap.{find, put};
 ghost use Rattle.pp_parser.specs.Manifest.{file_of};
 ghost use Rattle.pp_values.specs.Rising.{text_cmp};
-ghost use Rattle.site_bundle.specs.Given.{is_manifest_path};
 ghost use Rattle.site_bundle.specs.Listing.{filed, AreRead};
 ghost use Rattle.site_bundle.specs.SiteView.{are_rising};
 
@@ -17,7 +16,7 @@ use std::alloc::Global;
 use std::collections::BTreeMap;
 use std::marker::Model;
 
-/// Manifests by path in byte order, each read once; each path ends in `.pp`. A contract sees their paths and texts.
+/// Manifests by path in byte order, each read once. A contract sees their paths and texts.
 #[derive(Drop)]
 pub struct SiteFiles {
     by_path: BTreeMap<Text, ManifestFile>,
@@ -25,15 +24,14 @@ pub struct SiteFiles {
 
 impl Model for SiteFiles {
     ghost use Rattle.std.specs.Prelude.{List, IsTrue};
-    ghost use Rattle.site_bundle.specs.SiteView.{Filed, are_rising, are_manifests};
+    ghost use Rattle.site_bundle.specs.SiteView.{Filed, are_rising};
     ghost use Rattle.site_bundle.specs.Listing.{filed, AreRead};
 
     ghost Value = { List Filed };
 
     ghost view = { λ s. filed s.by_path.entries };
 
-    ghost invariant = { λ s. IsTrue (are_rising (filed s.by_path.entries)) × AreRead s.by_path.entries
-        × IsTrue (are_manifests (filed s.by_path.entries)) };
+    ghost invariant = { λ s. IsTrue (are_rising (filed s.by_path.entries)) × AreRead s.by_path.entries };
 }
 
 impl SiteFiles {
@@ -49,8 +47,7 @@ impl SiteFiles {
     /// they were.
     pub fn read(&mut self, alloc: Global, path: Text, text: Text) -> Result<(), Memory>
         // Places count lines in 32 bits.
-        requires short { length text + 1 < 2 ^ 32 }
-        requires manifest { IsTrue (is_manifest_path path) }
+        requires { length text + 1 < 2 ^ 32 }
         ensures { self.new ≡ (if is_ok result then put text_cmp path text self.old else self.old) }
     {
         let read = read_manifest(alloc, &path, &text)?;

@@ -16,5 +16,4 @@ invariant_of-result c = (
   subst (λ (files : KeptFiles). IsSome (find text_cmp MAIN_MANIFEST.now files.manifests)) (sym c.in_ok-manifests.ensures)
       (found_if_given MAIN_MANIFEST.now (manifests_among c.args.files)
       (key_among is_manifest_path MAIN_MANIFEST.now c.args.files refl c.requires.main)),
-  c.in_ok-data.ensures.others,
 )

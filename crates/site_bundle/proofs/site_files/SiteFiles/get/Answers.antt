@@ -13,4 +13,4 @@ returns-clause-text c =
 
 pub returns-clause-read : goal.returns-clause-read
 returns-clause-read c = viewed_read c.get.result c.self.inside.by_path.entries c.args.path.now c.get.ensures.value
-    c.self.invariant.1.0
+    c.self.invariant.1

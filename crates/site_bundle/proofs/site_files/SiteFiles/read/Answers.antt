@@ -4,9 +4,8 @@ use Rattle.std.specs.FinMap.{put}
 use Rattle.pp_values.specs.Rising.{text_cmp}
 use Rattle.pp_tree.specs.declared.manifest_file.ManifestFile.{ManifestFile}
 use Rattle.site_bundle.specs.Listing.{text_of, filed, AreRead}
-use Rattle.site_bundle.specs.Given.{is_manifest_path}
-use Rattle.site_bundle.specs.SiteView.{are_rising, are_manifests}
-use Rattle.site_bundle.proofs.SiteLemmas.{shown-insert, rising-put, keys-put, are_read-insert}
+use Rattle.site_bundle.specs.SiteView.{are_rising}
+use Rattle.site_bundle.proofs.SiteLemmas.{shown-insert, rising-put, are_read-insert}
 use Rattle.site_bundle.proofs.site_files.SiteFiles.read.Goals as goal
 
 pub invariant_of-self-2 : goal.invariant_of-self-2
@@ -16,9 +15,7 @@ invariant_of-self-2 c =
     let is = ap filed c.in_ok-insert.ensures.entries ∙ shown-insert text_of es c.args.path file in (
       subst (λ l. IsTrue (are_rising l)) (sym is) (rising-put c.args.path c.args.text (filed es) c.self.invariant.0),
       subst AreRead (sym c.in_ok-insert.ensures.entries)
-          (are_read-insert es c.args.path file c.in_ok-read.ensures c.self.invariant.1.0),
-      subst (λ l. IsTrue (are_manifests l)) (sym is)
-          (keys-put is_manifest_path c.args.path c.args.text (filed es) c.requires.manifest c.self.invariant.1.1),
+          (are_read-insert es c.args.path file c.in_ok-read.ensures c.self.invariant.1),
     )
 
 pub returns : goal.returns

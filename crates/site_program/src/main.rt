@@ -6,7 +6,9 @@
 use core::thread::{Anything, Stack};
 use site_commands::run_program;
 use site_io::{OpenGate, StandardError, StandardInput, StandardOutput, write_all};
+use std::alloc::Global;
 use std::process::ExitCode;
+use std::thread::Threads;
 use std::{env, io};
 use work_pool::on_large_stack;
 
@@ -22,7 +24,7 @@ const NO_MEMORY: u8 = 16;
 /// Runs the program on the real words and streams, on a thread with a large stack. Where that thread can't be had memory
 /// is wanting, and nothing is run.
 fn main(rt: HostRuntime) -> ExitCode {
-    make_room(&rt);
+    make_room(&rt, rt.alloc());
     let ended = on_large_stack(&rt, move || {
         run_program(
             &rt,
@@ -52,8 +54,7 @@ fn main(rt: HostRuntime) -> ExitCode {
 ///
 /// The heap is made before there is a large stack, since the allocator asks for 128 MiB of addresses to lay out 64 of them.
 /// A thread for which it can't do that has no heap, and each of its blocks takes pages of its own.
-fn make_room(rt: &HostRuntime) {
-    let alloc = rt.alloc();
+fn make_room(rt: &impl Threads, alloc: Global) {
     let grow = move || {
         drop(Vec::<u8>::with_capacity(alloc, ROOM));
         drop(Vec::<u8>::with_capacity(alloc, ROOM));

@@ -1,6 +1,7 @@
 -- What the clauses of `site_main` rest on, and a reader has to believe: Evaluating, Facts, Meaning, Postfixes,
 -- Starting, Statements
--- What functions promise one another, what types keep, and what proofs read: LeafLaw, Single, Running
+-- What functions promise one another, what types keep, and what proofs read: EvaluatorCodes, Evaluators, LeafLaw,
+-- Single, Running
 pub mod Evaluating
 pub mod EvaluatorCodes
 pub mod Evaluators

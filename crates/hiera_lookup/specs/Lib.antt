@@ -1,6 +1,7 @@
 -- What the clauses of `site_main` rest on, and a reader has to believe: World, Asks, Filled, Found, Looked, Options,
 -- Look
--- What functions promise one another, what types keep, and what proofs read: Finds, Plain, Literals
+-- What functions promise one another, what types keep, and what proofs read: AnswerPlaces, Finds, OptionTables,
+-- Plain, Literals
 pub mod World
 pub mod Asks
 pub mod Filled

@@ -1,3 +1,6 @@
+-- What the clauses of `site_main` rest on, and a reader has to believe: Outputs, Program, Endings, Limits, Numbers,
+-- Status, Words, Work, World
+-- What functions promise one another, what types keep, and what proofs read: Stops
 pub mod Outputs
 pub mod Program
 pub mod Endings

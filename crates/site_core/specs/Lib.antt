@@ -1,6 +1,7 @@
--- What the clauses of `site_main` rest on, and a reader has to believe: Meaning, Events, Sets, Legal, Fits, Runs
+-- What the clauses of `site_main` rest on, and a reader has to believe: Meaning, Events, Sets, Legal, Asked, Said,
+-- Fits, Runs
 -- What functions promise one another, what types keep, and what proofs read: EntryViews, Core, Answers, Snapshots,
--- Counts, Steps
+-- Counts, Steps, Additions, Compiling, Each
 pub mod Meaning
 pub mod Events
 pub mod EntryViews

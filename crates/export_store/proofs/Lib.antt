@@ -1,5 +1,10 @@
 pub mod SetLemmas
+pub mod Sent
 mod MapLemmas
+mod EntryLemmas
+mod BlockLemmas
 mod RowLemmas
 mod QueryLemmas
+mod IndexLemmas
+mod ReadLemmas
 mod Examples

@@ -3,10 +3,17 @@
 
 pub mod export_place;
 pub mod export_places;
+mod index;
 pub mod laws;
+mod leaf;
+mod leaves;
 mod queries;
+mod root;
 mod row;
 mod rows;
+mod run;
+mod runs;
+mod table;
 pub mod version;
 
 pub use export_place::ExportPlace;

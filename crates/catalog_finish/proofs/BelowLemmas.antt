@@ -73,7 +73,7 @@ with_below P held (n ∷ ns) h a =
     with_below P (insert_key nat_cmp held n) ns (All-insert_key nat_cmp n P held h (a 0 n (omega arith)))
     (λ k d less. a (suc k) d (omega (arith, less)))
 
-inside_below : (rows : List Row) (pairs : List Containment) (n : ℕ) (r : Row) →
+pub inside_below : (rows : List Row) (pairs : List Containment) (n : ℕ) (r : Row) →
     All (λ i. i < live_count rows) (inside (layout_of rows pairs) n r)
 inside_below rows pairs n r =
     with_below (λ i. i < live_count rows) [] (indexes_at (indexes rows) (containers (layout_of rows pairs) n r))

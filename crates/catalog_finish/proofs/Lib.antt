@@ -3,6 +3,7 @@ pub mod AttributeLemmas
 pub mod CycleLemmas
 pub mod LayoutLemmas
 pub mod BelowLemmas
+pub mod KeptLemmas
 pub mod ExportLemmas
 pub mod RelatingLemmas
 pub mod UnrelatedLemmas

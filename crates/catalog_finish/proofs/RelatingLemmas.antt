@@ -11,9 +11,10 @@ use Rattle.rel_graph.specs.Graphs.{edge_pair}
 use Rattle.rel_graph.specs.Pairs.{AllBelow}
 use Rattle.res_book.specs.Rows.{is_live}
 use Rattle.res_book.specs.declared.row.Row.{Row}
+use Rattle.res_core.specs.Catalogs.{is_between}
 use Rattle.res_core.specs.declared.edge.Edge.{Edge}
 use Rattle.catalog_finish.proofs.LayoutLemmas.{row_there, rows_from}
-use Rattle.catalog_finish.specs.EdgeTables.{Entry, with_edge, edges_from, joined, edge_of, is_between, edges_of}
+use Rattle.catalog_finish.specs.EdgeTables.{Entry, with_edge, edges_from, joined, edge_of, edges_of}
 use Rattle.catalog_finish.specs.Layouts.{of_live}
 use Rattle.catalog_finish.specs.Relating.{numbered}
 use Rattle.catalog_finish.specs.Tables.{at_live, at_live_row}

@@ -1,9 +1,10 @@
 -- Which resources come before which, in rising order of both indexes, each pair once, and whether it signals.
-use Rattle.std.specs.Prelude.{ℕ, nat_lt, Bool, false, ◌&&◌, ◌||◌, List, [], ◌∷◌, map, filter, unwrap_or}
+use Rattle.std.specs.Prelude.{ℕ, Bool, false, ◌||◌, List, [], ◌∷◌, map, filter, unwrap_or}
 use Rattle.std.specs.BTreeMap.{insert_entry, is_at}
 use Rattle.std.specs.Map.{lookup}
 use Rattle.std.specs.Ordering.{nat_cmp, ordering_then}
 use Rattle.std.specs.declared.cmp.Ordering.{Ordering}
+use Rattle.res_core.specs.Catalogs.{is_between}
 use Rattle.res_core.specs.declared.edge.Edge.{Edge}
 
 abbrev pub pair_cmp : ℕ × ℕ → ℕ × ℕ → Ordering
@@ -33,9 +34,6 @@ joined es (from ∷ rest) right signal = joined (edges_from es from right signal
 abbrev pub edge_of : Entry → Edge
 edge_of e = record { from = e.0.0; to = e.0.1; signal = e.1 }
 
--- both indexes are those of resources
-abbrev pub is_between : ℕ → Edge → Bool
-is_between count e = nat_lt e.from count && nat_lt e.to count
-
+-- those between resources, of which there are so many
 abbrev pub edges_of : ℕ → List Entry → List Edge
 edges_of count es = filter (is_between count) (map edge_of es)

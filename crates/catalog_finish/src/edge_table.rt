@@ -1,7 +1,8 @@
-ghost use Rattle.std.specs.Prelude.{◌≡◌, ◌∷◌, [], ◌++◌, filter, map, IfOk, OnOk};
+ghost use Rattle.std.specs.Prelude.{◌≡◌, ◌∷◌, [], ◌++◌, filter, map, IfOk, IsTrue, OnOk};
 ghost use Rattle.rel_graph.specs.Graphs.{edge_pair};
 ghost use Rattle.rel_graph.specs.Pairs.{AllBelow};
-ghost use Rattle.catalog_finish.specs.EdgeTables.{signals as signals_meant, with_edge, edges_from, joined, is_between, edges_of};
+ghost use Rattle.catalog_finish.specs.EdgeTables.{signals as signals_meant, with_edge, edges_from, joined, edges_of};
+ghost use Rattle.res_core.specs.Catalogs.{edge_cmp, is_between, is_ordered};
 
 use pp_values::Memory;
 use res_core::{Edge, EdgeList};
@@ -73,6 +74,7 @@ impl EdgeTable {
     pub fn into_edges(self, alloc: Global, count: u32) -> Result<EdgeList, Memory>
         ensures edges { IfOk result (λ l. l ≡ edges_of count self) }
         ensures below { IfOk result (λ l. AllBelow (map edge_pair l) count) }
+        ensures ordered { IfOk result (λ l. IsTrue (is_ordered edge_cmp l)) }
     {
         let EdgeTable { signals } = self;
         let mut items = Vec::new(alloc);

@@ -2,6 +2,7 @@ ghost use Rattle.std.specs.Prelude.{◌≡◌, ◌<◌, ◌^◌, IfOk, length, m
 ghost use Rattle.pp_values.specs.Answers.{Answers};
 ghost use Rattle.catalog_finish.specs.Finishing.{finished, put_together as together_meant, catalog_with};
 ghost use Rattle.catalog_finish.specs.Containing.{containment};
+ghost use Rattle.res_core.specs.Catalogs.{IsCatalog};
 ghost use Rattle.rel_graph.specs.Graphs.{edge_pair};
 ghost use Rattle.rel_graph.specs.Pairs.{AllBelow};
 
@@ -60,6 +61,7 @@ fn put_together(
     requires few { length resources < 2 ^ 32 }
     requires below { AllBelow (containment resources) (length resources) }
     requires edges_below { AllBelow (map edge_pair edges) (length resources) }
+    requires kept { IsCatalog resources edges }
     ensures { Answers result (together_meant lines.now book.now node.now resources edges) }
 {
     check_order(alloc, book, resources.as_slice(), &edges)?;
@@ -74,12 +76,9 @@ fn catalog(
     resources: HeldList,
     edges: EdgeList,
 ) -> Result<Catalog, Memory>
+    requires { IsCatalog resources edges }
     ensures { IfOk result (λ c. c ≡ catalog_with node.now resources edges) }
 {
-    Ok(Catalog {
-        node: node.copy(alloc)?,
-        resources,
-        edges,
-        log: LogLines::new(alloc),
-    })
+    let node = node.copy(alloc)?;
+    Ok(Catalog::new(node, resources, edges, LogLines::new(alloc)))
 }

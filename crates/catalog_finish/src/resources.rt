@@ -1,7 +1,9 @@
 //! The resources of a catalog.
-ghost use Rattle.std.specs.Prelude.{◌≡◌, ◌∷◌, [], Some, IfOk, slice_get};
+ghost use Rattle.std.specs.Prelude.{◌≡◌, ◌∷◌, [], Some, IfOk, IsTrue, slice_get};
+ghost use Rattle.std.specs.List.{list_all};
 ghost use Rattle.catalog_finish.specs.Attributes.{catalog_attributes as catalog_meant};
 ghost use Rattle.catalog_finish.specs.Catalogs.{held as held_meant, resource_with as with_meant, resources as resources_meant};
+ghost use Rattle.res_core.specs.Catalogs.{has_form};
 
 use crate::attributes::catalog_attributes;
 use crate::layout::Layout;
@@ -54,10 +56,12 @@ fn held(
     row: &Row,
 ) -> Result<Held, Memory>
     requires { slice_get book.now number ≡ Some row.now }
-    ensures { IfOk result (λ h. h ≡ held_meant lines.now layout.now number row.now) }
+    ensures held { IfOk result (λ h. h ≡ held_meant lines.now layout.now number row.now) }
+    ensures form { IfOk result (λ h. IsTrue (has_form h)) }
 {
     let inside = layout.inside(alloc, number, row)?;
     let item = plain_resource(alloc, book, lines, number, row)?;
+    let _kind = item.as_resource().kind.as_text();
     Ok(Held { item, inside })
 }
 
@@ -68,7 +72,8 @@ pub fn resources(
     lines: &Overrides,
     layout: &Layout,
 ) -> Result<HeldList, Memory>
-    ensures { IfOk result (λ l. l ≡ resources_meant lines.now layout.now book.now) }
+    ensures resources { IfOk result (λ l. l ≡ resources_meant lines.now layout.now book.now) }
+    ensures forms { IfOk result (λ l. IsTrue (list_all has_form l)) }
 {
     let mut items = Vec::with_capacity(alloc, book.count() as usize)?;
     for number in 0..book.count() {

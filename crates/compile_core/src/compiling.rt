@@ -11,7 +11,7 @@ use eval_world::Environment;
 use export_store::Version;
 use pp_tree::File;
 use pp_values::{Fault, Stop, Text, Value};
-use res_core::{Catalog, ExportSet, LogLines};
+use res_core::{Catalog, ExportSet};
 use site_bundle::{Site, data_of};
 use std::alloc::Global;
 
@@ -96,22 +96,5 @@ fn finish_world(
 {
     let (book, overrides, relations, log) = evaluator.parts();
     let (catalog, exports) = finish(alloc, book, overrides, relations, node)?;
-    Ok((with_log(catalog, log), exports))
-}
-
-fn with_log(catalog: Catalog, log: LogLines) -> Catalog
-    ensures { result ≡ record catalog { log = log } }
-{
-    let Catalog {
-        node,
-        resources,
-        edges,
-        log: _none,
-    } = catalog;
-    Catalog {
-        node,
-        resources,
-        edges,
-        log,
-    }
+    Ok((catalog.with_log(log), exports))
 }

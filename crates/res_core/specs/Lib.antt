@@ -1,7 +1,7 @@
 -- What the clauses of `site_main` rest on, and a reader has to believe: Asked, AttributeChecks, AttributeViews,
 -- Catalogs, Criteria, Lines, Metaparameters, NativeTypes, TagNames
--- What functions promise one another, what types keep, and what proofs read: AskedFacts, CatalogCodes,
--- CriteriaCodes, ExportSetCodes, ExportedCodes, NamesForms, NativeRows, PlainAttributes, QueryFalls, QueryViews, RequestViews,
+-- What functions promise one another, what types keep, and what proofs read: AskedFacts, CatalogCodes, CriteriaCodes,
+-- ExportSetCodes, ExportedCodes, NamesForms, NativeRows, PlainAttributes, QueryFalls, QueryViews, RequestViews,
 -- ResourceCodes, TagPlaces
 pub mod Asked
 pub mod AskedFacts

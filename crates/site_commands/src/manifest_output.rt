@@ -103,7 +103,7 @@ fn catalog_output(alloc: Global, catalog: &Catalog) -> Result<Output, Memory>
     ensures { IfOk result (λ output. output
         ≡ Output.Compiled (log_text catalog.now.log) (line (catalog_text catalog.now))) }
 {
-    let log = log_text(alloc, &catalog.log)?;
+    let log = log_text(alloc, catalog.log())?;
     let text = catalog_line(alloc, catalog)?;
     Ok(Output::Compiled { log, text })
 }

@@ -3,3 +3,6 @@ pub mod Nodes
 pub mod Floats
 pub mod Outlines
 mod Examples
+pub mod ReadBack
+pub mod ValuesBack
+pub mod CatalogsBack

@@ -5,6 +5,7 @@ ghost use Rattle.serde_json.specs.View.{items_of};
 ghost use Rattle.json_values.specs.ValueForm.{setting_members};
 ghost use Rattle.pp_values.specs.Words.{kind_text as text_of_kind};
 ghost use Rattle.site_docs.specs.Tokens.{data_tokens};
+ghost use Rattle.site_docs.specs.DocumentLaws.{CatalogsAreToldApart};
 ghost use Rattle.site_docs.specs.CatalogText.{index_data, held_data, edge_data, catalog_data, catalog_text};
 
 use crate::json_output::JsonOutput;
@@ -37,6 +38,11 @@ pub fn catalog_text(alloc: Global, catalog: &Catalog) -> Result<Text, Memory>
     Ok(out.into_text())
 }
 
+/// No two catalogs have one text, but for their log lines, which stand in no document.
+pub fn catalogs_are_told_apart()
+    ensures { CatalogsAreToldApart }
+{}
+
 #[tactic(auto, unfolding(crate::specs::CatalogText::catalog_data, crate::specs::CatalogText::catalog_object))]
 fn put_catalog(alloc: Global, out: &mut JsonOutput, catalog: &Catalog) -> Result<(), Memory>
     ensures { OnOk result (out.new ≡ out.old ++ data_tokens (catalog_data catalog.now)) }
@@ -45,11 +51,11 @@ fn put_catalog(alloc: Global, out: &mut JsonOutput, catalog: &Catalog) -> Result
     out.key("catalog")?;
     out.index(1)?;
     out.key("edges")?;
-    write_edges(out, catalog.edges.as_slice())?;
+    write_edges(out, catalog.edges().as_slice())?;
     out.key("node")?;
-    out.string(catalog.node.as_str())?;
+    out.string(catalog.node().as_str())?;
     out.key("resources")?;
-    write_resources(alloc, out, catalog.resources.as_slice())?;
+    write_resources(alloc, out, catalog.resources().as_slice())?;
     out.end_object()?;
     Ok(())
 }

@@ -13,7 +13,7 @@ mod resource_forms;
 pub mod site_texts;
 mod value_output;
 
-pub use catalog_texts::{catalog_text, write_catalog};
+pub use catalog_texts::{catalog_text, catalogs_are_told_apart, write_catalog};
 pub use fault_names::FAULT_NAMES;
 pub use fault_texts::{fault_text, write_fault};
 pub use journals::write_journal;

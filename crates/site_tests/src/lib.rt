@@ -3,8 +3,6 @@
 #![tactic(auto)]
 
 #[cfg(test)]
-mod catalogs;
-#[cfg(test)]
 mod commands;
 #[cfg(test)]
 mod depth;

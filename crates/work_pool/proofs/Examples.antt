@@ -57,7 +57,7 @@ counts s None t = (2 ≤ s) × (t ≡ s)
 
 -- where more are wanted than there are, all come, and then none
 all_come : Supplied counts 3 0 (0 ∷ 1 ∷ []) 2
-all_come = (1, (omega arith, refl, refl), 2, (omega arith, refl, refl), omega arith, refl)
+all_come = (1, (omega arith, refl, refl), (2, (omega arith, refl, refl), (omega arith, refl)))
 
 -- where fewer are wanted, these, and no more is asked for
 one_wanted : Supplied counts 1 0 (0 ∷ []) 1

@@ -1,6 +1,8 @@
 -- The definitions on small values.
-use Rattle.std.proofs.Common.{◌≡◌, ℕ, ◌+◌, List, [], ◌∷◌, Some, None, refl, arith}
+use Rattle.std.proofs.Common.{◌≡◌, ℕ, ◌+◌, ◌<◌, ◌≤◌, List, [], ◌∷◌, Some, None, refl, arith}
 use Rattle.work_pool.specs.Groups.{run_count, share}
+use Rattle.std.specs.Prelude.{Option}
+use Rattle.work_pool.specs.Supplied.{Supplied}
 use Rattle.work_pool.specs.Seats.{ClaimsId, Claimant, first_seat, Draws, splitting, split_off, joining}
 
 module _ (claims : ClaimsId) where
@@ -47,3 +49,20 @@ no_job = (refl, refl)
 
 many_jobs : (run_count 1000 64 ≡ 64) × (share 1000 64 ≡ 16) × (share 65 64 ≡ 2)
 many_jobs = (refl, refl, refl)
+
+-- a supply of the numbers from where it stands up to 2, as jobs
+abbrev counts : ℕ → Option ℕ → ℕ → Type 0
+counts s (Some job) t = (s < 2) × (job ≡ s) × (t ≡ s + 1)
+counts s None t = (2 ≤ s) × (t ≡ s)
+
+-- where more are wanted than there are, all come, and then none
+all_come : Supplied counts 3 0 (0 ∷ 1 ∷ []) 2
+all_come = (1, (omega arith, refl, refl), (2, (omega arith, refl, refl), (omega arith, refl)))
+
+-- where fewer are wanted, these, and no more is asked for
+one_wanted : Supplied counts 1 0 (0 ∷ []) 1
+one_wanted = (1, (omega arith, refl, refl), refl)
+
+-- none may be passed over, and none comes twice
+passed_over : Supplied counts 3 0 (1 ∷ []) 2 → ⊥
+passed_over (t, gave, rest) = omega (arith, gave.1)

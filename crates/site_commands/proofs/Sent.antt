@@ -1,4 +1,4 @@
--- A site may go to another thread and be shared by threads, and a catalog may go to another one.
+-- A site may go to another thread and be shared by threads.
 use denote.Param.Send.{IsSend, IsSync, struct_send, struct_sync, sendable}
 use denote.Struct.Declared as declared
 use Rattle.std.proofs.Crossing.{crosses}
@@ -38,10 +38,6 @@ use Rattle.pp_tree.specs.contracts.definition.Define as define
 use Rattle.pp_tree.specs.contracts.definition.Node as node
 use Rattle.pp_tree.specs.contracts.table.Table as table
 use Rattle.pp_tree.specs.contracts.file.File as file
-use Rattle.res_core.proofs.edge.Edge.TheSendSync as edge
-use Rattle.res_core.proofs.log_line.LogLine.TheSendSync as log_line
-use Rattle.res_core.specs.contracts.held.Held as held
-use Rattle.res_core.specs.contracts.catalog.Catalog as catalog
 use Rattle.pp_tree.specs.contracts.manifest_file.ManifestFile as site_file
 use Rattle.site_bundle.specs.contracts.site_files.SiteFiles as site_files
 use Rattle.site_bundle.specs.contracts.listed_nodes.ListedNodes as listed_nodes
@@ -328,9 +324,3 @@ site_send = search (sendable, text.the_send, files_send, data_send, nodes_send) 
 
 pub site_sync : IsSync site.the_row
 site_sync = search (sendable, text.the_sync, files_sync, data_sync, nodes_sync) depth 40 fits 40000
-
-pub held_send : IsSend (declared.row held.the_type)
-held_send = search parts depth 60 fits 40000
-
-pub catalog_send : IsSend (declared.row catalog.the_type)
-catalog_send = search (parts, held_send, edge.the_send, log_line.the_send) depth 60 fits 40000

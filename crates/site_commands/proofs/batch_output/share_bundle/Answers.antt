@@ -1,6 +1,7 @@
 use denote.Exit.{yes}
 use denote.Param.Send.{param_send, param_sync, arg_send, arg_sync}
-use Rattle.site_commands.proofs.Sent.{site_send, site_sync, catalog_send}
+use Rattle.res_core.proofs.Sent.{catalog_send}
+use Rattle.site_commands.proofs.Sent.{site_send, site_sync}
 use Rattle.site_commands.proofs.batch_output.share_bundle.Goals as goal
 
 pub run_batch-requires-send-L-Site : goal.run_batch-requires-send-L-Site

@@ -1,0 +1,4 @@
+pub mod CallLemmas
+mod Examples
+pub mod MachineLemmas
+pub mod MapLemmas

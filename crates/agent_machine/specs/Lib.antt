@@ -1,2 +1,12 @@
--- What types keep, and what proofs read: ReportCodes
+-- What clauses of commands rest on, and a reader has to believe: States, Contents, Machines
+-- What functions promise one another, what types keep, and what proofs read: CallTexts, Forms, MachineCodes, Recorded,
+-- ReportCodes, StateCodes
+pub mod CallTexts
+pub mod Contents
+pub mod Forms
+pub mod MachineCodes
+pub mod Machines
+pub mod Recorded
 pub mod ReportCodes
+pub mod StateCodes
+pub mod States

@@ -1,0 +1,5 @@
+pub mod ArrowLemmas
+pub mod MarksLemmas
+pub mod NodePaths
+pub mod SpreadLemmas
+pub mod TargetLemmas

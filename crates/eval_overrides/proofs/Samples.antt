@@ -6,8 +6,6 @@ use Rattle.pp_tree.specs.declared.definition.Definition.TheVariants as definitio
 use Rattle.pp_tree.specs.declared.definition.Name.{Name}
 use Rattle.pp_tree.specs.declared.expr.Expr.{Expr}
 use Rattle.pp_tree.specs.declared.resource.Attribute.{Attribute}
-use Rattle.pp_tree.specs.declared.resource.Defaults.{Defaults}
-use Rattle.pp_tree.specs.declared.resource.Override.{Override}
 use Rattle.pp_tree.specs.declared.table.DefinitionName.{DefinitionName}
 use Rattle.pp_tree.specs.declared.table.DefinitionName.TheVariants.{Code}
 use Rattle.pp_values.specs.Datum as d

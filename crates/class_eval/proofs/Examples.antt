@@ -1,6 +1,6 @@
 -- The definitions at worked examples. Each line with `refl` holds by computing.
 use Rattle.std.proofs.Common.{◌≡◌, true, false, [], ◌∷◌, None, Some, Ok, Err, refl, codes, pos}
-use Rattle.pp_tree.specs.Building.{expr_at, node_name}
+use Rattle.pp_tree.specs.Building.{expr_at, node_name, override, reference}
 use Rattle.pp_tree.specs.Building.{node_of as node_of_names}
 use Rattle.pp_tree.specs.Tables.{Entries}
 use Rattle.pp_tree.specs.declared.definition.Definition.TheVariants as definition
@@ -8,17 +8,25 @@ use Rattle.pp_tree.specs.declared.definition.Node.{Node}
 use Rattle.pp_tree.specs.declared.expr.Expr.{Expr}
 use Rattle.pp_tree.specs.declared.expr.Form as forms
 use Rattle.pp_tree.specs.declared.expr.Form.TheVariants as f
+use Rattle.pp_tree.specs.declared.resource.Reference.{Reference}
 use Rattle.pp_tree.specs.declared.table.DefinitionName.TheVariants as name
+use Rattle.pp_types.specs.Names.{data_type_named}
 use Rattle.pp_values.specs.Datum as d
 use Rattle.pp_values.specs.Datum.{Datum}
 use Rattle.pp_values.specs.Faults.{fault}
 use Rattle.pp_values.specs.declared.fault.What.TheVariants as what
-use Rattle.class_eval.specs.Evaluating.{value_at, block_at, has_nodes, node_of, node_owner, node_rule, nodes_rule}
+use Rattle.attribute_lines.specs.Reading.{lines_from}
+use Rattle.class_eval.specs.Evaluating.{at_depth, value_at, block_at, has_nodes, node_of, node_owner, node_rule, nodes_rule}
 use Rattle.class_eval.specs.Facts.{host_of, domain_of, is_variable}
 use Rattle.class_eval.specs.Meaning.{within, value_rule}
 use Rattle.class_eval.specs.Statements.{statements_from, or_before}
 use Rattle.scope_core.specs.declared.scope_kind.ScopeKind.TheVariants as kind
 use Rattle.eval_classes.specs.Entering.{enter_rule, with_body}
+use Rattle.eval_forms.specs.Accesses.{accessed_rule}
+use Rattle.eval_forms.specs.Answering.{combined}
+use Rattle.eval_forms.specs.Types.{type_rule}
+use Rattle.eval_overrides.specs.OverrideStatements.{lines_put, override_rule, target_rule}
+use Rattle.eval_world.specs.Arguments.{argument_rule, values_from}
 use Rattle.eval_world.specs.Worlds.{top, place_at}
 use Rattle.eval_world.specs.declared.world.World.{World}
 
@@ -59,6 +67,21 @@ deepest_value w = refl
 too_deep : (w : World) → value_at deeper top 1001 w ≡ Err (fault (place_at w top 6) what.DepthLimit)
 unfolding within
 too_deep w = refl
+
+-- `File['x'] { }`, whose argument stands on line 7, one level deeper than the statement
+abbrev file_x : Reference Expr
+file_x = reference (codes "File") (expr_at 7 (f.Text (codes "x")) ∷ []) 6
+
+deepest_override : (w : World) → override_rule (at_depth 999) (override file_x [] 6) top w ≡ Ok (tt, w)
+unfolding within override_rule target_rule type_rule data_type_named accessed_rule combined values_from argument_rule value_rule lines_from lines_put forms.out-Form denote.Hole.Carrier.out
+deepest_override w = refl
+
+-- what stands too deep is the argument, also where the statement would stand too deep itself
+override_too_deep : (w : World) →
+    (override_rule (at_depth 1000) (override file_x [] 6) top w ≡ Err (fault (place_at w top 7) what.DepthLimit))
+    × override_rule (at_depth 1001) (override file_x [] 6) top w ≡ Err (fault (place_at w top 7) what.DepthLimit)
+unfolding within override_rule target_rule type_rule data_type_named accessed_rule values_from argument_rule
+override_too_deep w = (refl, refl)
 
 -- ---- nodes
 

@@ -13,6 +13,7 @@ unfolding within
 no_level zero (goal.Value e) here w h = refl
 no_level zero (goal.Block b line) here w h = refl
 no_level zero (goal.Words x) here w h = refl
+no_level zero (goal.Target r) here w h = refl
 no_level zero (goal.Class n line) here w h = refl
 no_level zero (goal.Instance n line) here w h = refl
 no_level (suc n) g here w h = absurd (omega arith)

@@ -1,10 +1,11 @@
 -- What each part of a manifest means, with so many levels left.
-use Rattle.std.specs.Prelude.{ℕ, zero, suc}
+use Rattle.std.specs.Prelude.{ℕ, zero, suc, List, [], ◌∷◌}
 use Rattle.pp_tree.specs.Building.{form_of, line_of}
 use Rattle.pp_tree.specs.Layers.{FormLayer}
 use Rattle.pp_tree.specs.declared.collector.Test.TheOpen.{Form-F}
 use Rattle.pp_tree.specs.declared.expr.Expr.{Expr}
 use Rattle.pp_tree.specs.declared.expr.Form.{out-Form}
+use Rattle.pp_tree.specs.declared.resource.Reference.{Reference}
 use Rattle.pp_values.specs.Datum as d
 use Rattle.pp_values.specs.Datum.{Datum}
 use Rattle.pp_values.specs.declared.fault.What.TheVariants as what
@@ -16,6 +17,7 @@ use Rattle.eval_forms.specs.Conditions.{if_rule, unless_rule, case_rule}
 use Rattle.eval_forms.specs.Literals.{list_rule, hash_rule, interpolated_rule}
 use Rattle.eval_forms.specs.Operators.{prefix_rule, binary_rule, assigned_rule}
 use Rattle.eval_forms.specs.Types.{type_rule}
+use Rattle.eval_overrides.specs.OverrideStatements.{target_rule}
 use Rattle.eval_world.specs.Inner.{Inner}
 use Rattle.eval_world.specs.Outcomes.{Step, pure}
 use Rattle.eval_world.specs.Worlds.{read, fault}
@@ -51,11 +53,21 @@ value_rule inner e here = value_by inner (out-Form (form_of e)) (line_of e) here
 
 -- ---- depth
 
+-- the line of the first of these expressions, or else this one
+abbrev pub line_of_first : List Expr → ℕ → ℕ
+line_of_first [] line = line
+line_of_first (e ∷ es) line = line_of e
+
+-- what stands too deep in a target is its first argument
+abbrev pub line_of_target : Reference Expr → ℕ
+line_of_target r = line_of_first r.args r.at
+
 -- the line at which a part is refused that stands too deep
 abbrev pub line_of_goal : Goal → ℕ
 line_of_goal (goal.Value e) = line_of e.now
 line_of_goal (goal.Block b line) = line
 line_of_goal (goal.Words x) = x.now.at
+line_of_goal (goal.Target r) = line_of_target r.now
 line_of_goal (goal.Class n line) = line
 line_of_goal (goal.Instance n line) = line
 
@@ -68,6 +80,7 @@ deep = record {
   value = λ e here. too_deep here (line_of e);
   block = λ b line here. too_deep here line;
   words = λ x here. too_deep here x.at;
+  target = λ r here. too_deep here (line_of_target r);
   class = λ n line here. too_deep here line;
   instance = λ n line here. too_deep here line;
 }
@@ -78,6 +91,7 @@ one_more inner = record {
   value = value_rule inner;
   block = λ b line here. block_rule inner b here;
   words = words_rule inner;
+  target = target_rule inner;
   class = class_rule inner;
   instance = instance_rule inner;
 }

@@ -8,6 +8,8 @@ use Rattle.pp_tree.specs.declared.statement.Operand.{Operand, out-Operand}
 use Rattle.pp_tree.specs.declared.statement.Statement.{Statement, out-Statement}
 use Rattle.pp_values.specs.Datum as d
 use Rattle.pp_values.specs.Datum.{Datum}
+use Rattle.eval_overrides.specs.DefaultStatements.{defaults_rule}
+use Rattle.eval_overrides.specs.OverrideStatements.{override_rule}
 use Rattle.eval_resources.specs.Resources.{resource_rule}
 use Rattle.eval_resources.specs.Collectors.{collector_rule}
 use Rattle.eval_world.specs.Inner.{Inner}
@@ -27,13 +29,13 @@ unvalued p = do
   p
   pure None
 
--- An expression gives its value. Resources and collectors give none.
+-- An expression gives its value. All others give none.
 abbrev pub operand_by : Inner → OperandLayer → ℕ → Here → Step (Option Datum)
 operand_by inner (Operand-F.Expr e) line here = valued (inner.value e here)
 operand_by inner (Operand-F.Resource r) line here = unvalued (resource_rule inner r here)
 operand_by inner (Operand-F.Collector c) line here = unvalued (collector_rule inner c here)
-operand_by inner (Operand-F.Override o) line here = not_built here line
-operand_by inner (Operand-F.Defaults o) line here = not_built here line
+operand_by inner (Operand-F.Override o) line here = unvalued (override_rule inner o here)
+operand_by inner (Operand-F.Defaults o) line here = unvalued (defaults_rule inner o here)
 
 unfoldable pub operand_rule : Inner → Operand → ℕ → Here → Step (Option Datum)
 operand_rule inner o line here = operand_by inner (out-Operand o) line here

@@ -13,8 +13,10 @@ use eval_classes::{class_body, instance_body};
 use eval_forms::{
     assigned, binary, case_of, hash, if_of, interpolated, list, prefix, type_of, unless_of,
 };
+use eval_overrides::target_of;
 use eval_world::{Evaluated, Forms, Goal, Here, Meaning, World};
 use pp_tree::expr::{Expr, Form};
+use pp_tree::resource::Reference;
 use pp_values::{Memory, Stop, Text, Value, What};
 use std::alloc::Global;
 use std::marker::PhantomData;
@@ -83,8 +85,19 @@ pub fn line_of(goal: Goal<'_>) -> u32
         Goal::Value(expr) => expr.at,
         Goal::Block(_, line) => line,
         Goal::Words(words) => words.at,
+        Goal::Target(target) => line_of_target(target),
         Goal::Class(_, line) => line,
         Goal::Instance(_, line) => line,
+    }
+}
+
+/// What stands too deep in a target is its first argument.
+fn line_of_target(target: &Reference) -> u32
+    ensures { result ≡ spec.line_of_target target.now }
+{
+    match target.args.as_slice() {
+        [] => target.at,
+        [first, ..] => first.at,
     }
 }
 
@@ -115,6 +128,7 @@ pub fn evaluate(
         Goal::Value(expr) => form(&forms, world, expr, here),
         Goal::Block(statements, _) => block(&forms, world, statements, here),
         Goal::Words(said) => words(&forms, world, said, here),
+        Goal::Target(target) => target_of(&forms, world, target, here),
         Goal::Class(number, line) => class_body(&forms, world, number, line, here),
         Goal::Instance(number, line) => instance_body(&forms, world, number, line, here),
     }

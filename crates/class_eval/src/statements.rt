@@ -7,6 +7,7 @@ ghost use Rattle.eval_world.specs.Outcomes.{Gives, same};
 ghost use Rattle.pp_tree.specs.declared.statement.Operand.{out-Operand};
 ghost use Rattle.pp_tree.specs.declared.statement.Statement.{out-Statement};
 
+use eval_overrides::{defaults_of, override_of};
 use eval_resources::{collector, resource};
 use eval_world::{Evaluated, Forms, Goal, Here, Meaning, World};
 use pp_tree::expr::Expr;
@@ -139,6 +140,13 @@ fn operand<F: Fn(&mut World<'_>, Goal<'_>, Here, u32) -> Result<Evaluated, Stop>
             collector(forms, world, registered.get(), here)?;
             Ok(None)
         }
-        Operand::Override(_) | Operand::Defaults(_) => Ok(Some(world.not_built(here, line)?)),
+        Operand::Override(written) => {
+            override_of(forms, world, written.get(), here)?;
+            Ok(None)
+        }
+        Operand::Defaults(written) => {
+            defaults_of(forms, world, written.get(), here)?;
+            Ok(None)
+        }
     }
 }

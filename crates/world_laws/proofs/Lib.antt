@@ -1,3 +1,4 @@
+mod Entries
 mod Lists
 mod Worlds
 mod Steps
@@ -6,6 +7,7 @@ mod OfForms
 mod OfClasses
 mod OfCalls
 mod OfResources
+mod OfOverrides
 mod OfEvaluator
 mod OfRounds
 mod Examples

@@ -1,18 +1,16 @@
 -- Lists that go on, and scopes that are kept.
-use Rattle.std.proofs.Common.{◌≡◌, ℕ, zero, suc, ◌≤◌, Bool, true, false, cond, List, [], ◌∷◌, ◌++◌, length}
-use Rattle.std.proofs.Common.{Option, None, Some, refl, sym, ap, subst, ◌∙◌, arith, Ordering}
+use Rattle.std.proofs.Common.{◌≡◌, ℕ, zero, suc, ◌≤◌, List, [], ◌∷◌, ◌++◌, length}
+use Rattle.std.proofs.Common.{Option, None, Some, refl, sym, ap, ◌∙◌, arith}
 use Rattle.std.proofs.lemmas.List.{append-nil, append_assoc}
-use Rattle.std.specs.BTreeMap.{insert_entry}
-use Rattle.std.specs.FinMap.{slice_cmp-IsAntisymmetric, nat_cmp-IsAntisymmetric}
-use Rattle.std.specs.Ordering.{is_eq, match_ordering}
+use Rattle.std.specs.Cmp.Lexicographic.{nat_list_cmp_total}
 use Rattle.std.specs.Prelude.{slice_get, slice_set, option_and_then}
-use Rattle.std.specs.declared.cmp.Ordering.TheVariants.{Less, Equal, Greater}
 use Rattle.pp_values.specs.Datum.{Datum}
 use Rattle.pp_values.specs.Rising.{text_cmp}
 use Rattle.scope_core.specs.Names.{Name, value_of, with_value}
 use Rattle.scope_core.specs.Scopes.{Scope, scope_of, ended, scopes_after, set_in}
 use Rattle.scope_core.specs.declared.owner.Owner.{Owner}
 use Rattle.world_laws.specs.Extends.{GoesOn, IsKept, AreKept}
+use Rattle.world_laws.proofs.Entries.{found_still as entry_still}
 
 -- ---- lists
 
@@ -42,46 +40,9 @@ kept_on f g = record {
 
 -- ---- names
 
-same_texts : (a b : Name) → text_cmp a b ≡ Equal → a ≡ b
-same_texts = slice_cmp-IsAntisymmetric nat_cmp-IsAntisymmetric
-
-equal : (o : Ordering) → is_eq o ≡ true → o ≡ Equal
-equal Less e = absurd cc
-equal Equal e = refl
-equal Greater e = absurd cc
-
--- what was found is found behind a new name, which had no value
-past : (b : Bool) (x k : Name) (v d : Datum) (es : List (Name × Datum)) → (b ≡ true → x ≡ k) →
-    value_of k es ≡ None → value_of x es ≡ Some d → cond b (Some v) (value_of x es) ≡ Some d
-past true x k v d es same none e =
-    let one : value_of x es ≡ None = subst (λ y. value_of y es ≡ None) (sym (same refl)) none in absurd cc
-past false x k v d es same none e = e
-
--- the same name among these
-within : (b : Bool) (v d : Datum) (o p : Option Datum) → (o ≡ Some d → p ≡ Some d) →
-    cond b (Some v) o ≡ Some d → cond b (Some v) p ≡ Some d
-within true v d o p same e = e
-within false v d o p same e = same e
-
-same_name : (x k : Name) → is_eq (text_cmp x k) ≡ true → x ≡ k
-same_name x k is = same_texts x k (equal (text_cmp x k) is)
-
-found_by : (o : Ordering) (k : Name) (v : Datum) (e : Name × Datum) (es new : List (Name × Datum)) (x : Name) (d : Datum) →
-    cond (is_eq o) (Some e.1) (value_of k es) ≡ None → value_of k (e ∷ es) ≡ None →
-    (value_of k es ≡ None → value_of x es ≡ Some d → value_of x new ≡ Some d) →
-    value_of x (e ∷ es) ≡ Some d →
-    value_of x (match_ordering o ((k, v) ∷ e ∷ es) ((e.0, v) ∷ es) (e ∷ new)) ≡ Some d
-found_by Less k v e es new x d none no_value more found =
-    past (is_eq (text_cmp x k)) x k v d (e ∷ es) (same_name x k) no_value found
-found_by Equal k v e es new x d none no_value more found = absurd cc
-found_by Greater k v e es new x d none no_value more found =
-    within (is_eq (text_cmp x e.0)) e.1 d (value_of x es) (value_of x new) (more none) found
-
 pub found_still : (k : Name) (v : Datum) (es : List (Name × Datum)) → value_of k es ≡ None → (x : Name) (d : Datum) →
     value_of x es ≡ Some d → value_of x (with_value k v es) ≡ Some d
-found_still k v [] none x d e = absurd cc
-found_still k v (e ∷ es) none x d found =
-    found_by (text_cmp k e.0) k v e es (with_value k v es) x d none none (λ n. found_still k v es n x d) found
+found_still = entry_still text_cmp nat_list_cmp_total
 
 -- ---- all scopes
 

@@ -37,6 +37,7 @@ use Rattle.world_laws.proofs.OfClasses.{class_declared_grows, once_grows, class_
 use Rattle.world_laws.proofs.OfClasses.{enter_grows}
 use Rattle.world_laws.proofs.OfForms.{type_grows, list_grows, hash_grows, interpolated_grows, prefix_grows, binary_grows}
 use Rattle.world_laws.proofs.OfForms.{assigned_grows, if_grows, unless_grows, case_grows, selected_grows, accessed_grows}
+use Rattle.world_laws.proofs.OfOverrides.{override_grows, defaults_grow, target_grows}
 use Rattle.world_laws.proofs.OfResources.{resource_grows, collector_grows}
 use Rattle.world_laws.proofs.OfWorld.{read_grows}
 use Rattle.world_laws.proofs.Steps.{and_then, pure_grows, answer_grows, fault_grows, told}
@@ -77,8 +78,8 @@ module _ (inner : Inner) (g : GrowsInner inner) where
   operand_by_grows (Operand-F.Expr e) line here = valued_grows (inner.value e here) (g.value e here)
   operand_by_grows (Operand-F.Resource r) line here = unvalued_grows _ (resource_grows inner g r here)
   operand_by_grows (Operand-F.Collector c) line here = unvalued_grows _ (collector_grows inner g c here)
-  operand_by_grows (Operand-F.Override o) line here = fault_grows _
-  operand_by_grows (Operand-F.Defaults o) line here = fault_grows _
+  operand_by_grows (Operand-F.Override o) line here = unvalued_grows _ (override_grows inner g o here)
+  operand_by_grows (Operand-F.Defaults d) line here = unvalued_grows _ (defaults_grow inner g d here)
 
   operand_grows : (o : Operand) (line : ℕ) (here : Here) → Grows (operand_rule inner o line here)
   unfolding operand_rule
@@ -141,6 +142,7 @@ module _ (inner : Inner) (g : GrowsInner inner) where
     value = value_grows;
     block = λ b line here. statements_grow datum.undef b here;
     words = words_grow inner g;
+    target = target_grows inner g;
     class = class_grows inner g;
     instance = instance_grows inner g;
   }
@@ -169,6 +171,7 @@ deep_grows = record {
   value = λ e here. fault_grows _;
   block = λ b line here. fault_grows _;
   words = λ x here. fault_grows _;
+  target = λ r here. fault_grows _;
   class = λ n line here. fault_grows _;
   instance = λ n line here. fault_grows _;
 }

@@ -96,7 +96,7 @@ module _ (inner : Inner) (g : GrowsInner inner) where
   attribute_grows done (attribute.Set s) here = setting_grows done s here
   attribute_grows done (attribute.Splat s) here = splat_grows done s here
 
-  lines_grow : (done : List Line) (attributes : List (Attribute Expr)) (here : Here) →
+  pub lines_grow : (done : List Line) (attributes : List (Attribute Expr)) (here : Here) →
       Grows (lines_from inner done attributes here)
   unfolding lines_from
   lines_grow done [] here = pure_grows

@@ -100,6 +100,17 @@ book_grows w book grows = record {
   log = stays w.log;
 }
 
+pub overrides_grow : (w : World) (s : State) → OverridesStay w.overrides s → Extends w (record w { overrides = s })
+overrides_grow w s stay = record {
+  environment = refl;
+  declarations = grows-not w.book;
+  scopes = all_kept w.scopes.scopes;
+  owners = same_owners w.owners;
+  overrides = stay;
+  relations = same_relations w.relations;
+  log = stays w.log;
+}
+
 pub relations_grow : (w : World) (r : Related) → RelationsGoOn w.relations r → Extends w (record w { relations = r })
 relations_grow w r grow = record {
   environment = refl;

@@ -1,6 +1,7 @@
 -- Steps that only add to the world.
 use Rattle.std.specs.Prelude.{ℕ, List, Ok, Err}
 use Rattle.pp_tree.specs.declared.expr.Expr.{Expr}
+use Rattle.pp_tree.specs.declared.resource.Reference.{Reference}
 use Rattle.pp_tree.specs.declared.statement.Statement.{Statement}
 use Rattle.pp_tree.specs.declared.statement.Words.{Words}
 use Rattle.eval_world.specs.Inner.{Inner}
@@ -23,5 +24,6 @@ pub record GrowsInner (inner : Inner) : Type 0 where
   pub value : (e : Expr) (here : Here) → Grows (inner.value e here)
   pub block : (b : List Statement) (line : ℕ) (here : Here) → Grows (inner.block b line here)
   pub words : (x : Words Expr) (here : Here) → Grows (inner.words x here)
+  pub target : (r : Reference Expr) (here : Here) → Grows (inner.target r here)
   pub class : (n line : ℕ) (here : Here) → Grows (inner.class n line here)
   pub instance : (n line : ℕ) (here : Here) → Grows (inner.instance n line here)

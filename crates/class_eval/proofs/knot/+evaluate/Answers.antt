@@ -17,6 +17,11 @@ pub returns-in-Words : goal.returns-in-Words
 returns-in-Words t c =
     rw (one_level c.args.left c.args.goal c.args.here c.args.world.now c.if-left-eq0.false, c.in-Words.is) c.words.ensures
 
+pub returns-in-Target : goal.returns-in-Target
+returns-in-Target t c =
+    rw (one_level c.args.left c.args.goal c.args.here c.args.world.now c.if-left-eq0.false, c.in-Target.is)
+    c.target_of.ensures
+
 pub returns-in-Class : goal.returns-in-Class
 returns-in-Class t c =
     rw (one_level c.args.left c.args.goal c.args.here c.args.world.now c.if-left-eq0.false, c.in-Class.is)

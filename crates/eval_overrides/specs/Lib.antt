@@ -1,0 +1,4 @@
+-- What the clauses of `site_main` rest on, and a reader has to believe: DefaultStatements, OverrideStatements, Putting
+pub mod DefaultStatements
+pub mod OverrideStatements
+pub mod Putting

@@ -38,6 +38,7 @@ use Rattle.eval_calls.specs.Iterating.{turns_from, over_rule, iterate_rule, redu
 use Rattle.eval_calls.specs.Iterating.{with_rule, lambda_function_rule}
 use Rattle.eval_calls.specs.Lambdas.{Opened, bind_rule, bind_from, lambda_rule}
 use Rattle.eval_calls.specs.LookUps.{lookup_rule}
+use Rattle.eval_calls.specs.Realizing.{references_from, realized}
 
 -- ---- what the examples are made of
 
@@ -296,9 +297,10 @@ require_to_come : is_not_built (codes "require")
 unfolding plain_rule evaluated_rule site_rule data_rule needs_evaluator lambda_function owner_at
 require_to_come m = refl
 
-realize_to_come : is_not_built (codes "realize")
-unfolding plain_rule evaluated_rule site_rule data_rule needs_evaluator lambda_function owner_at
-realize_to_come m = refl
+-- resources are brought to life: `proofs/RealizeExamples.antt`
+no_reference : (m : Environment) → run (plainly (codes "realize") (one ∷ [])) m ≡ refuses 3 (what.WrongArguments (codes "realize"))
+unfolding plain_rule evaluated_rule site_rule data_rule realized references_from needs_evaluator lambda_function owner_at
+no_reference m = refl
 
 -- data are looked up: `proofs/LookUpExamples.antt`
 no_key : (m : Environment) → run (plainly (codes "lookup") (one ∷ [])) m ≡ refuses 3 (what.WrongArguments (codes "lookup"))

@@ -13,13 +13,10 @@ use Rattle.pp_values.specs.declared.fault.Fault.{Fault}
 use Rattle.pp_values.specs.declared.fault.What.TheVariants as what
 use Rattle.override_rules.specs.Meaning.{stands}
 use Rattle.res_core.specs.Metaparameters.{is_relation_name}
-use Rattle.res_core.specs.declared.action.Action.{Action}
-use Rattle.res_core.specs.declared.action.Action.TheVariants as action
 use Rattle.res_core.specs.declared.form.Form.{Form}
 use Rattle.res_core.specs.declared.form.Form.TheVariants as form
 use Rattle.eval_world.specs.Inner.{Inner}
 use Rattle.eval_world.specs.Outcomes.{Step, ◌>>=◌, ◌>>◌, pure, answered}
-use Rattle.eval_world.specs.Worlds.{not_built}
 use Rattle.eval_world.specs.declared.here.Here.{Here}
 use Rattle.eval_resources.specs.Bodies.{bodies_rule}
 use Rattle.eval_classes.specs.Attributes.{is_value}
@@ -77,15 +74,6 @@ declare_bodies inner written kind [] here = pure tt
 declare_bodies inner written kind (b ∷ bs) here = do
   titles_rule inner written kind b.titles b here
   declare_bodies inner written kind bs here
-
--- what a statement asks for is done; of all but resources it is not built
-unfoldable pub act_rule : Inner → Action → ℕ → Here → Step (Unit {0})
-act_rule inner (action.Resource written kind bodies) at here =
-    declare_bodies inner written kind bodies here
-act_rule inner (action.Override target lines) at here = not_built here at
-act_rule inner (action.Defaults kind lines) at here = not_built here at
-act_rule inner (action.Collect exported kind query lines) at here = not_built here at
-act_rule inner (action.Relate left right signal) at here = not_built here at
 
 -- ---- the expression
 

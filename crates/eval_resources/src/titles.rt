@@ -1,10 +1,9 @@
-//! What statements ask for, with their values there.
+//! The titles of bodies whose values are there.
 ghost use Rattle.std.specs.Prelude.{◌≡◌, option_map, find};
 ghost use Rattle.res_core.specs.Lines.{line_of, lines_of};
 ghost use Rattle.eval_resources.specs.Resources as spec;
 ghost use Rattle.eval_world.specs.Nests.{Nests};
 ghost use Rattle.eval_world.specs.Outcomes.{Gives, nothing};
-ghost use Rattle.eval_world.specs.Worlds as worlds;
 ghost use Rattle.pp_values.specs.Answers.{Answers};
 ghost use Rattle.pp_values.specs.Views.{view, views};
 
@@ -15,53 +14,12 @@ use crate::declaring::declare;
 use eval_classes::{declare_class, is_value};
 use eval_world::{Evaluated, Forms, Goal, Here, Meaning, World};
 use pp_values::{Fault, Stop, Text, Value, What};
-use res_core::{Action, Body, Form, Line, is_relation_name};
+use res_core::{Body, Form, Line, is_relation_name};
 use std::alloc::Global;
 
-/// Does what a statement that begins at this line asks for. Of a resource each title of each body is declared, in
-/// order.
-#[tactic(auto, unfolding(crate::specs::Resources::act_rule))]
-pub fn act<F: Fn(&mut World<'_>, Goal<'_>, Here, u32) -> Result<Evaluated, Stop>, M: Meaning>(
-    forms: &Forms<F, M>,
-    world: &mut World<'_>,
-    action: &Action,
-    line: u32,
-    here: Here,
-) -> Result<(), Stop>
-    requires { Nests (M.within forms.now.left) forms.now.left (F.pre forms.now.inner) (F.post forms.now.inner) }
-    ensures { Gives nothing (spec.act_rule (M.within forms.now.left) action.now line here world.old) result world.new }
-{
-    match action {
-        Action::Resource { form, kind, bodies } => {
-            declare_bodies(forms, world, *form, kind, bodies.as_slice(), here)
-        }
-        Action::Override {
-            target: _,
-            lines: _,
-        } => not_built(world, line, here),
-        Action::Defaults { kind: _, lines: _ } => not_built(world, line, here),
-        Action::Collect {
-            exported: _,
-            kind: _,
-            query: _,
-            lines: _,
-        } => not_built(world, line, here),
-        Action::Relate {
-            left: _,
-            right: _,
-            signal: _,
-        } => not_built(world, line, here),
-    }
-}
-
-fn not_built(world: &World<'_>, line: u32, here: Here) -> Result<(), Stop>
-    ensures { Gives nothing (worlds.not_built here line world.now) result world.now }
-{
-    Err(Stop::Fault(world.fault(here, line, What::NotBuilt)?))
-}
-
+/// Declares each title of each body, in order.
 #[tactic(auto, unfolding(crate::specs::Resources::declare_bodies))]
-fn declare_bodies<
+pub fn declare_bodies<
     F: Fn(&mut World<'_>, Goal<'_>, Here, u32) -> Result<Evaluated, Stop>,
     M: Meaning,
 >(

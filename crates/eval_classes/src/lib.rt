@@ -36,7 +36,7 @@ pub use bodies::{class_body, instance_body};
 pub use body_owner::BodyOwner;
 pub use definitions::{class_found, define_found, unknown_type};
 pub use entering::enter_body;
-pub use flattening::{flat, flat_members, flattened};
+pub use flattening::{flat, flattened};
 pub use included::{declare_class, declare_once, include};
 pub use including::Including;
 pub use instances::run_instance;

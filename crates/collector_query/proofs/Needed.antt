@@ -1,8 +1,8 @@
 -- Whatever a query matches has the tag that the query needs.
-use Rattle.std.proofs.Common.{◌≡◌, ℕ, Bool, true, false, ◌&&◌, List, Option, None, Some, refl, ap, subst}
+use Rattle.std.proofs.Common.{◌≡◌, ℕ, Bool, true, false, ◌&&◌, List, Option, None, Some, refl, subst}
 use Rattle.pp_values.specs.Datum.{Datum, text}
 use Rattle.pp_values.specs.Settings.{Setting}
-use Rattle.res_core.specs.Criteria.{Criterion, Criteria, all, by_title, by_tag, by_attribute, negation, conjunction, disjunction, no_criteria, one_more}
+use Rattle.res_core.specs.Criteria.{Criterion, Criteria, by_tag, conjunction, no_criteria, one_more}
 use Rattle.res_core.specs.TagNames.{is_tagged}
 use Rattle.collector_query.specs.Matches.{is_tagged_by, matches, match_all}
 use Rattle.collector_query.specs.Needed.{text_in, or_else, needed_tag, first_needed}

@@ -1,5 +1,5 @@
 -- The function `realize` at worked examples. Each line holds by computing.
-use Rattle.std.proofs.Common.{◌≡◌, ℕ, false, pos, List, [], ◌∷◌, Some, map, Result, Ok, Err, refl, codes}
+use Rattle.std.proofs.Common.{◌≡◌, false, pos, List, [], ◌∷◌, Some, map, Result, Ok, Err, refl, codes}
 use Rattle.pp_values.specs.Datum as d
 use Rattle.pp_values.specs.Datum.{Datum, data_of}
 use Rattle.pp_values.specs.Faults as faults
@@ -16,7 +16,7 @@ use Rattle.eval_world.specs.Outcomes.{Outcome}
 use Rattle.eval_world.specs.Owners.{owner_at}
 use Rattle.eval_world.specs.Worlds.{empty, top}
 use Rattle.eval_collectors.specs.Collectors.{realize_rule, register_reference, register}
-use Rattle.eval_calls.specs.Realizing.{references_from, realize_from, realize_all, realized}
+use Rattle.eval_calls.specs.Realizing.{arguments_from, references_from, realize_from, realize_all, realized}
 
 -- ---- references and values
 
@@ -68,16 +68,16 @@ Fails arguments details = (environment : Environment) → call arguments environ
 -- ---- examples
 
 two : Registers (to vhost_b ∷ to notify_a ∷ []) (vhost_b ∷ notify_a ∷ [])
-unfolding realized references_from realize_all realize_from realize_rule register_reference register owner_at
+unfolding realized arguments_from references_from realize_all realize_from realize_rule register_reference register owner_at
 two environment = refl
 
 -- lists are flattened; a reference may come twice
 in_lists : Registers (list (to notify_a ∷ list (to vhost_b ∷ []) ∷ []) ∷ to notify_a ∷ []) (notify_a ∷ vhost_b ∷ notify_a ∷ [])
-unfolding realized references_from realize_all realize_from realize_rule register_reference register owner_at
+unfolding realized arguments_from references_from realize_all realize_from realize_rule register_reference register owner_at
 in_lists environment = refl
 
 empty_list : Registers (list [] ∷ []) []
-unfolding realized references_from realize_all realize_from
+unfolding realized arguments_from references_from realize_all realize_from
 empty_list environment = refl
 
 no_argument : Fails [] (what.WrongArguments (codes "realize"))
@@ -86,13 +86,13 @@ no_argument environment = refl
 
 -- a text is no reference, and all arguments are looked at before a class is refused
 a_text : Fails (to class_a ∷ list (d.text (codes "a") ∷ []) ∷ []) (what.WrongArguments (codes "realize"))
-unfolding realized references_from owner_at
+unfolding realized arguments_from references_from owner_at
 a_text environment = refl
 
 a_number : Fails (d.int (pos 1) ∷ []) (what.WrongArguments (codes "realize"))
-unfolding realized references_from owner_at
+unfolding realized arguments_from references_from owner_at
 a_number environment = refl
 
 a_class : Fails (to notify_a ∷ to class_a ∷ []) (what.ClassVirtual (subject.Reference class_a))
-unfolding realized references_from realize_all realize_from realize_rule register_reference register owner_at
+unfolding realized arguments_from references_from realize_all realize_from realize_rule register_reference register owner_at
 a_class environment = refl

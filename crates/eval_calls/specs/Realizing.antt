@@ -1,8 +1,8 @@
 -- The function `realize`: `realize(File['/a'], [User['b'], User['c']])`.
-use Rattle.std.specs.Prelude.{ℕ, List, [], ◌∷◌, ◌++◌, Option, None, Some}
-use Rattle.pp_funcs.specs.Lists.{flat_members}
+use Rattle.std.specs.Prelude.{ℕ, List, [], ◌∷◌, ◌++◌, Option, None, Some, option_and_then}
+use Rattle.pp_funcs.specs.Lists.{flat}
 use Rattle.pp_values.specs.Datum as d
-use Rattle.pp_values.specs.Datum.{Datum, data_of}
+use Rattle.pp_values.specs.Datum.{Datum}
 use Rattle.pp_values.specs.declared.reference.Reference.{Reference}
 use Rattle.eval_collectors.specs.Collectors.{realize_rule}
 use Rattle.eval_world.specs.Outcomes.{Step, ◌>>=◌, ◌>>◌, pure}
@@ -15,19 +15,20 @@ abbrev pub reference_in : Datum → Option Reference
 reference_in (d.reference r) = Some r
 reference_in _ = None
 
-abbrev pub or_none : Option Reference → (Reference → Option (List Reference)) → Option (List Reference)
-or_none None next = None
-or_none (Some r) next = next r
-
 -- these references, behind those that are there; none where one is no reference
 unfoldable pub references_from : List Reference → List Datum → Option (List Reference)
 references_from done [] = Some done
-references_from done (x ∷ xs) = or_none (reference_in x) (λ r. references_from (done ++ r ∷ []) xs)
+references_from done (x ∷ xs) = option_and_then (λ r. references_from (done ++ r ∷ []) xs) (reference_in x)
 
--- one argument or more, of which lists are flattened
+-- those of arguments, of which lists are flattened
+unfoldable pub arguments_from : List Reference → List Datum → Option (List Reference)
+arguments_from done [] = Some done
+arguments_from done (x ∷ xs) = option_and_then (λ more. arguments_from more xs) (references_from done (flat x))
+
+-- one argument or more
 abbrev pub references_asked : List Datum → Option (List Reference)
 references_asked [] = None
-references_asked (x ∷ xs) = references_from [] (flat_members (data_of (x ∷ xs)))
+references_asked (x ∷ xs) = arguments_from [] (x ∷ xs)
 
 -- ---- what it does
 

@@ -134,7 +134,7 @@ fn call_site<F: Fn(&mut World<'_>, Goal<'_>, Here, u32) -> Result<Evaluated, Sto
     }
 }
 
-/// `lookup`, `realize`, or what is not built yet.
+/// `lookup`, or `realize`.
 #[tactic(auto, unfolding(crate::specs::Calls::data_rule))]
 fn call_data(
     world: &mut World<'_>,
@@ -146,12 +146,10 @@ fn call_data(
     ensures { Gives same (spec.data_rule function.now arguments.now line here world.old) result world.new }
 {
     if function.is("lookup") {
-        return look_up(world, function, arguments, line, here);
+        look_up(world, function, arguments, line, here)
+    } else {
+        realize(world, function, arguments, line, here)
     }
-    if function.is("realize") {
-        return realize(world, function, arguments, line, here);
-    }
-    world.not_built(here, line)
 }
 
 /// Writes a line of the log.

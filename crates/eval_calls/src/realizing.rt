@@ -3,10 +3,10 @@ ghost use Rattle.std.specs.Prelude.{◌≡◌, [], IfOk};
 ghost use Rattle.eval_calls.specs.Realizing as spec;
 ghost use Rattle.eval_world.specs.Outcomes.{Gives, nothing, same};
 ghost use Rattle.pp_funcs.specs.Lists.{behind};
-ghost use Rattle.pp_values.specs.Views.{view};
+ghost use Rattle.pp_values.specs.Views.{view, views};
 
 use crate::names::wrong;
-use eval_classes::flat_members;
+use eval_classes::flattened;
 use eval_collectors::realize as realize_one;
 use eval_world::{Evaluated, Here, World};
 use pp_values::{Memory, Reference, Refs, Stop, Text, Value, Values};
@@ -35,25 +35,39 @@ fn references_asked(alloc: Global, arguments: &Values) -> Result<Option<Refs>, M
 {
     match arguments.as_slice() {
         [] => Ok(None),
-        [_, ..] => {
-            let found = flat_members(alloc, arguments.as_slice())?;
-            references_in(alloc, found.as_slice())
-        }
+        [_, ..] => references_of(alloc, arguments.as_slice()),
     }
 }
 
-#[tactic(auto, unfolding(crate::specs::Realizing::references_from))]
-fn references_in(alloc: Global, values: &[&Value]) -> Result<Option<Refs>, Memory>
-    ensures { IfOk result (λ o. o ≡ spec.references_from [] (behind values.now)) }
+#[tactic(auto, unfolding(crate::specs::Realizing::arguments_from))]
+fn references_of(alloc: Global, arguments: &[Value]) -> Result<Option<Refs>, Memory>
+    ensures { IfOk result (λ o. o ≡ spec.arguments_from [] (views arguments.now)) }
 {
-    let mut references = Refs::new(alloc);
+    let mut done = Refs::new(alloc);
+    let mut rest = arguments;
+    while let Some((argument, more)) = rest.split_first() {
+        let members = flattened(alloc, argument)?;
+        match with_references(alloc, done, members.as_slice())? {
+            Some(references) => done = references,
+            None => return Ok(None),
+        }
+        rest = more;
+    }
+    Ok(Some(done))
+}
+
+/// These references, and those in the values behind them; `None` where a value is none.
+#[tactic(auto, unfolding(crate::specs::Realizing::references_from))]
+fn with_references(alloc: Global, mut done: Refs, values: &[&Value]) -> Result<Option<Refs>, Memory>
+    ensures { IfOk result (λ o. o ≡ spec.references_from done (behind values.now)) }
+{
     for value in values {
         match reference_in(alloc, value)? {
-            Some(reference) => references.push(reference)?,
+            Some(reference) => done.push(reference)?,
             None => return Ok(None),
         }
     }
-    Ok(Some(references))
+    Ok(Some(done))
 }
 
 fn reference_in(alloc: Global, value: &Value) -> Result<Option<Reference>, Memory>

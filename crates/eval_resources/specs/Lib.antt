@@ -4,4 +4,5 @@ pub mod Bodies
 pub mod Checks
 pub mod Declaring
 pub mod GoodLines
+pub mod Relating
 pub mod Resources

@@ -29,7 +29,7 @@ pub fn resource<F: Fn(&mut World<'_>, Goal<'_>, Here, u32) -> Result<Evaluated, 
     declare_bodies(forms, world, form, &kind, bodies.as_slice(), here)
 }
 
-fn form_of(written: ResourceForm) -> Form
+pub fn form_of(written: ResourceForm) -> Form
     ensures { result ≡ spec.form_of written }
 {
     match written {

@@ -1,5 +1,5 @@
 -- Resource expressions.
-use Rattle.std.proofs.Common.{ℕ, Bool, true, false, List, [], ◌∷◌, Option, None, Some}
+use Rattle.std.proofs.Common.{ℕ, Bool, true, false, List, [], ◌∷◌}
 use Rattle.std.specs.Prelude.{codes}
 use Rattle.std.specs.Str.{bytes_eq}
 use Rattle.pp_tree.specs.Names.{normal}
@@ -26,7 +26,7 @@ use Rattle.world_laws.specs.Growing.{Grows, GrowsInner}
 use Rattle.world_laws.proofs.OfClasses.{class_declared_grows}
 use Rattle.world_laws.proofs.OfLines.{lines_grow}
 use Rattle.world_laws.proofs.OfWorld.{put_grows}
-use Rattle.world_laws.proofs.Steps.{and_then, pure_grows, answer_grows, fault_grows, either, told}
+use Rattle.world_laws.proofs.Steps.{and_then, pure_grows, answer_grows, either, told}
 use Rattle.world_laws.proofs.Worlds.{same_world}
 
 -- ---- the declaration

@@ -8,10 +8,10 @@ use Rattle.pp_tree.specs.declared.statement.Operand.{Operand, out-Operand}
 use Rattle.pp_tree.specs.declared.statement.Statement.{Statement, out-Statement}
 use Rattle.pp_values.specs.Datum as d
 use Rattle.pp_values.specs.Datum.{Datum}
+use Rattle.eval_collectors.specs.Collectors.{collector_rule}
 use Rattle.eval_overrides.specs.DefaultStatements.{defaults_rule}
 use Rattle.eval_overrides.specs.OverrideStatements.{override_rule}
 use Rattle.eval_resources.specs.Resources.{resource_rule}
-use Rattle.eval_resources.specs.Collectors.{collector_rule}
 use Rattle.eval_world.specs.Inner.{Inner}
 use Rattle.eval_world.specs.Outcomes.{Step, ◌>>=◌, ◌>>◌, pure}
 use Rattle.eval_world.specs.Worlds.{not_built}

@@ -7,8 +7,9 @@ ghost use Rattle.eval_world.specs.Outcomes.{Gives, same};
 ghost use Rattle.pp_tree.specs.declared.statement.Operand.{out-Operand};
 ghost use Rattle.pp_tree.specs.declared.statement.Statement.{out-Statement};
 
+use eval_collectors::collector;
 use eval_overrides::{defaults_of, override_of};
-use eval_resources::{collector, resource};
+use eval_resources::resource;
 use eval_world::{Evaluated, Forms, Goal, Here, Meaning, World};
 use pp_tree::expr::Expr;
 use pp_tree::statement::{Block, Chain, Operand, Statement};

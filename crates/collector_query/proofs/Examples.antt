@@ -1,9 +1,10 @@
 -- What the definitions give on worked examples.
-use Rattle.std.proofs.Common.{◌≡◌, ℕ, Bool, true, false, List, [], ◌∷◌, refl, codes, pos}
+use Rattle.std.proofs.Common.{◌≡◌, ℕ, Bool, true, false, List, [], ◌∷◌, None, Some, refl, codes, pos}
 use Rattle.pp_values.specs.Datum as d
 use Rattle.pp_values.specs.Datum.{Datum, data_of}
 use Rattle.res_core.specs.Criteria.{Criterion, all, by_title, by_tag, by_attribute, negation, conjunction, disjunction, criteria_of}
 use Rattle.collector_query.specs.Matches.{matches}
+use Rattle.collector_query.specs.Needed.{needed_tag}
 
 abbrev text : List ℕ → Datum
 text t = d.text t
@@ -138,3 +139,24 @@ parentheses = refl
 
 not_of_parentheses : found (negation (each_of (yes ∷ no ∷ []))) ≡ true
 not_of_parentheses = refl
+
+-- ---- the tag that a query needs
+
+needed_alone : needed_tag yes ≡ Some (codes "dns")
+needed_alone = refl
+
+-- the first with `and` between, also in parentheses
+needed_first : needed_tag (each_of (by_title (text (codes "a")) ∷ each_of (yes ∷ []) ∷ no ∷ [])) ≡ Some (codes "dns")
+needed_first = refl
+
+needed_nowhere : (needed_tag all ≡ None) × (needed_tag (by_title (text (codes "a"))) ≡ None)
+    × (needed_tag (by_attribute (codes "tag") (text (codes "a"))) ≡ None)
+needed_nowhere = (refl, refl, refl)
+
+-- what `or` and `!=` match may lack the tag
+needed_by_none : (needed_tag (some_of (yes ∷ yes ∷ [])) ≡ None) × (needed_tag (negation yes) ≡ None)
+needed_by_none = (refl, refl)
+
+-- a value that is no text is no tag
+needed_no_text : needed_tag (by_tag (d.int (pos 1))) ≡ None
+needed_no_text = refl

@@ -2,5 +2,7 @@
 #![tactic(auto)]
 
 pub mod matching;
+mod needing;
 
 pub use matching::matches;
+pub use needing::needed_tag;

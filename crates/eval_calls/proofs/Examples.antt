@@ -15,6 +15,8 @@ use Rattle.pp_tree.specs.declared.param.Param.{Param}
 use Rattle.pp_values.specs.Datum as d
 use Rattle.pp_values.specs.Datum.{Datum, Pair, data_of, entries_of}
 use Rattle.pp_values.specs.Faults as faults
+use Rattle.pp_values.specs.Sort as sort
+use Rattle.pp_values.specs.Sort.{of, none}
 use Rattle.pp_values.specs.TextOf.{text_of}
 use Rattle.pp_values.specs.declared.fault.Fault.{Fault}
 use Rattle.pp_values.specs.declared.fault.What.{What}
@@ -29,6 +31,7 @@ use Rattle.eval_world.specs.Outcomes.{Outcome, Step, ◌>>=◌, ◌>>◌, pure}
 use Rattle.eval_world.specs.Owners.{owner_at}
 use Rattle.eval_world.specs.Worlds.{empty, fault, read, assign, enter_lambda, write_log}
 use Rattle.eval_world.specs.declared.here.Here.{Here}
+use Rattle.eval_classes.specs.ParameterTypes.{has_type}
 use Rattle.eval_world.specs.Environment.{Environment}
 use Rattle.eval_calls.specs.Calls.{invoked, invoked_on, words_rule}
 use Rattle.eval_calls.specs.Calls.{plain_rule, evaluated_rule, site_rule, log_rule, with_lambda_rule}
@@ -38,6 +41,7 @@ use Rattle.eval_calls.specs.Iterating.{turns_from, over_rule, iterate_rule, redu
 use Rattle.eval_calls.specs.Iterating.{with_rule, lambda_function_rule}
 use Rattle.eval_calls.specs.Lambdas.{Opened, bind_rule, bind_from, lambda_rule}
 use Rattle.eval_calls.specs.LookUps.{lookup_rule}
+use Rattle.eval_calls.specs.Realizing.{arguments_from, references_from, realized}
 
 -- ---- what the examples are made of
 
@@ -289,28 +293,26 @@ contains_no_class : (m : Environment) → run (plainly (codes "contain") []) m �
 unfolding plain_rule evaluated_rule site_rule included needs_evaluator lambda_function owner_at
 contains_no_class m = refl
 
--- what is not evaluated yet
-abbrev is_not_built : List ℕ → Type 0
-is_not_built f = (m : Environment) → run (plainly f (one ∷ [])) m ≡ refuses 3 what.NotBuilt
+requires_no_class : (m : Environment)
+    → run (plainly (codes "require") (one ∷ [])) m ≡ refuses 3 (what.WrongArguments (codes "require"))
+unfolding plain_rule evaluated_rule site_rule included names_from needs_evaluator lambda_function owner_at
+requires_no_class m = refl
 
-require_to_come : is_not_built (codes "require")
-unfolding plain_rule evaluated_rule site_rule data_rule needs_evaluator lambda_function owner_at
-require_to_come m = refl
-
-realize_to_come : is_not_built (codes "realize")
-unfolding plain_rule evaluated_rule site_rule data_rule needs_evaluator lambda_function owner_at
-realize_to_come m = refl
+-- resources are brought to life: `proofs/RealizeExamples.antt`
+no_reference : (m : Environment) → run (plainly (codes "realize") (one ∷ [])) m ≡ refuses 3 (what.WrongArguments (codes "realize"))
+unfolding plain_rule evaluated_rule site_rule data_rule realized arguments_from references_from needs_evaluator lambda_function owner_at
+no_reference m = refl
 
 -- data are looked up: `proofs/LookUpExamples.antt`
 no_key : (m : Environment) → run (plainly (codes "lookup") (one ∷ [])) m ≡ refuses 3 (what.WrongArguments (codes "lookup"))
 unfolding plain_rule evaluated_rule site_rule data_rule lookup_rule needs_evaluator lambda_function owner_at
 no_key m = refl
 
-arguments_before_not_built : (m : Environment)
+arguments_before_classes : (m : Environment)
     → run (calls d.undef fails (codes "include") (refused ∷ []) None) m
     ≡ refuses 6 (what.BadOperand (codes "argument"))
 unfolding invoked values_from argument_rule out-Form denote.Hole.Carrier.out owner_at
-arguments_before_not_built m = refl
+arguments_before_classes m = refl
 
 -- ---- a lambda for a function that takes none
 
@@ -375,10 +377,24 @@ twice : (m : Environment)
 unfolding lambda_rule enter_lambda bind_from bind_rule assign scopes.assign owner_at
 twice m = refl
 
+-- one call of a lambda whose parameter has this type, at line 5
+abbrev typed_by : Datum → Param Expr → List Datum → Step Datum
+typed_by kind p arguments = lambda_rule (inner kind notice_x) (takes (p ∷ [])) arguments 3 top
+
+abbrev typed_x : Param Expr
+typed_x = tree.param (Some given) x None 7
+
+abbrev integers : Datum
+integers = d.kind (of sort.integer none)
+
+-- the argument is of the parameter's type, else F8 at the call; F11 stands at the type
 typed : (m : Environment)
-    → run (lambda_of notice_x (tree.param (Some given) x None 7 ∷ []) (one ∷ [])) m ≡ refuses 7 what.NotBuilt
-unfolding lambda_rule enter_lambda bind_from bind_rule owner_at
-typed m = refl
+    → (run (typed_by integers typed_x (one ∷ [])) m ≡ Ok (one, codes "1" ∷ []))
+    × (run (typed_by integers typed_x (d.undef ∷ [])) m ≡ refuses 3 (what.TypeMismatch x))
+    × (run (typed_by one typed_x (one ∷ [])) m ≡ refuses 5 (what.BadOperand (codes "=~")))
+unfolding lambda_rule enter_lambda bind_from bind_rule has_type assign read write_log scopes.assign scopes.read
+    scopes.found last_cut scopes.seen_from owner_at digits out-Form denote.Hole.Carrier.out
+typed m = (refl, refl, refl)
 
 typed_after_twice : (m : Environment)
     → run (lambda_of notice_x (plain x 7 ∷ plain x 8 ∷ tree.param (Some given) y None 9 ∷ [])

@@ -3,4 +3,5 @@ mod Examples
 mod LookUpExamples
 mod Members
 mod OneVariable
+mod RealizeExamples
 mod Turned

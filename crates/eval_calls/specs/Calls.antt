@@ -16,12 +16,13 @@ use Rattle.eval_classes.specs.declared.including.Including.{Including}
 use Rattle.eval_world.specs.Arguments.{values_from}
 use Rattle.eval_world.specs.Inner.{Inner}
 use Rattle.eval_world.specs.Outcomes.{Step, ◌>>=◌, ◌>>◌, pure}
-use Rattle.eval_world.specs.Worlds.{answered_at, fault, not_built, write_log, wrong}
+use Rattle.eval_world.specs.Worlds.{answered_at, fault, write_log, wrong}
 use Rattle.eval_world.specs.declared.here.Here.{Here}
 use Rattle.eval_calls.specs.Iterating.{lambda_function_rule}
 use Rattle.eval_calls.specs.Lambdas.{Opened, opened}
 use Rattle.eval_calls.specs.LookUps.{lookup_rule}
 use Rattle.eval_calls.specs.Names.{is_function, is_log}
+use Rattle.eval_calls.specs.Realizing.{realized}
 
 -- ---- without a lambda, once the arguments have their values
 
@@ -31,12 +32,12 @@ log_rule f arguments = do
   write_log f (joined arguments)
   pure undef
 
--- What is left behind `lookup` are `require` and `realize`, which are not evaluated yet.
+-- what is left behind `lookup` is `realize`
 unfoldable pub data_rule : List ℕ → List Datum → ℕ → Here → Step Datum
 data_rule f arguments line here =
-    if bytes_eq f (codes "lookup") then lookup_rule f arguments line here else not_built here line
+    if bytes_eq f (codes "lookup") then lookup_rule f arguments line here else realized f arguments line here
 
--- classes are declared, or data are looked up
+-- classes are declared, data are looked up, or collectors are registered
 abbrev pub site_by : Inner → Option Including → List ℕ → List Datum → ℕ → Here → Step Datum
 site_by inner (Some i) f arguments line here = included inner i f arguments line here
 site_by inner None f arguments line here = data_rule f arguments line here

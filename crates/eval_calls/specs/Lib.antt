@@ -1,8 +1,10 @@
--- What the clauses of `site_main` rest on, and a reader has to believe: Calls, Iterating, Lambdas, LookUps, Names
+-- What the clauses of `site_main` rest on, and a reader has to believe: Calls, Iterating, Lambdas, LookUps, Names,
+-- Realizing
 -- What functions promise one another, what types keep, and what proofs read: Known
 pub mod Calls
 pub mod Iterating
 pub mod Lambdas
 pub mod LookUps
 pub mod Names
+pub mod Realizing
 pub mod Known

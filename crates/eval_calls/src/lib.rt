@@ -7,6 +7,7 @@ mod lambdas;
 mod looking_up;
 mod names;
 mod plain;
+mod realizing;
 mod request;
 mod requests;
 mod turn_queue;

@@ -11,6 +11,7 @@ ghost use Rattle.pp_values.specs.Views.{views};
 
 use crate::looking_up::look_up;
 use crate::names::{is_function, is_log, unknown, wrong};
+use crate::realizing::realize;
 use eval_classes::{Including, include};
 use eval_world::{Evaluated, Forms, Goal, Here, Meaning, World, is_splat, only};
 use expr_eval::{LambdaFunction, joined};
@@ -133,21 +134,21 @@ fn call_site<F: Fn(&mut World<'_>, Goal<'_>, Here, u32) -> Result<Evaluated, Sto
     }
 }
 
-/// A function of the site's data, or one that is not built yet.
+/// `lookup`, or `realize`.
 #[tactic(auto, unfolding(crate::specs::Calls::data_rule))]
 fn call_data(
-    world: &World<'_>,
+    world: &mut World<'_>,
     function: &Text,
     arguments: &Values,
     line: u32,
     here: Here,
 ) -> Result<Evaluated, Stop>
-    ensures { Gives same (spec.data_rule function.now arguments.now line here world.now) result world.now }
+    ensures { Gives same (spec.data_rule function.now arguments.now line here world.old) result world.new }
 {
     if function.is("lookup") {
         look_up(world, function, arguments, line, here)
     } else {
-        world.not_built(here, line)
+        realize(world, function, arguments, line, here)
     }
 }
 

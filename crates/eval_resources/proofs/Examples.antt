@@ -1,9 +1,9 @@
 -- The definitions at worked examples. Each line with `refl` holds by computing.
-use Rattle.std.proofs.Common.{◌≡◌, ℕ, Bool, true, false, List, [], ◌∷◌, Option, None, Some, Ok, Err, refl}
+use Rattle.std.proofs.Common.{◌≡◌, ℕ, true, false, List, [], ◌∷◌, None, Some, Ok, Err, refl}
 use Rattle.std.proofs.Common.{codes}
 use Rattle.std.specs.Fmt.{digits}
 use Rattle.override_rules.specs.Rights.{line_tests}
-use Rattle.pp_tree.specs.Building.{name_at, class_of, define_of, comparison, param, resource}
+use Rattle.pp_tree.specs.Building.{name_at, class_of, define_of, param, resource}
 use Rattle.pp_tree.specs.Names.{normal, without_front_colons}
 use Rattle.pp_tree.specs.Tables.{Entries}
 use Rattle.pp_tree.specs.declared.definition.Class.{Class}
@@ -24,11 +24,9 @@ use Rattle.res_book.specs.declared.mode.Mode.{Mode}
 use Rattle.res_book.specs.declared.mode.Mode.TheVariants as mode
 use Rattle.res_book.specs.declared.row.Row.{Row}
 use Rattle.res_core.specs.AttributeChecks.{known_checked}
-use Rattle.res_core.specs.Criteria.{all, by_tag}
-use Rattle.res_core.specs.Metaparameters.{is_relation_name, is_metaparameter}
+use Rattle.res_core.specs.Metaparameters.{is_metaparameter}
 use Rattle.res_core.specs.NativeTypes.{native_of, attributes_of}
 use Rattle.res_core.specs.TagNames.{segments, is_word_byte, is_tag_byte}
-use Rattle.res_core.specs.declared.action.Action.TheVariants as action
 use Rattle.res_core.specs.declared.form.Form.TheVariants as form
 use Rattle.res_core.specs.declared.native_type.NativeType.TheVariants as native
 use Rattle.eval_classes.specs.Attributes.{given_tags}
@@ -38,16 +36,15 @@ use Rattle.eval_resources.specs.Bodies.{all_not_among, bodies_rule, bodies_from,
 use Rattle.eval_resources.specs.Bodies.{filled}
 use Rattle.eval_resources.specs.Checks.{tested, class_tested, kind_checked, title_checked, names_known, names_apart}
 use Rattle.eval_resources.specs.Checks.{lines_checked}
-use Rattle.eval_resources.specs.Collectors.{tag_compared, native_by, register, tag_asked, collected_by}
 use Rattle.eval_resources.specs.Declaring.{set_from, declare_rule, item_of, container_in}
-use Rattle.eval_resources.specs.Resources.{title_rule, declared_rule, titles_rule, declare_bodies, resource_rule, act_rule}
+use Rattle.eval_resources.specs.Resources.{title_rule, declared_rule, titles_rule, declare_bodies, resource_rule}
 use Rattle.res_core.specs.Lines.{Line}
 use Rattle.res_core.specs.declared.body.Body.{Body}
 use Rattle.attribute_lines.specs.Reading.{line, lines_from, attribute_rule, setting_rule}
 use Rattle.attribute_lines.proofs.Samples.{text, int, nested, told, word, undef, default, a_list, fails, sample}
-use Rattle.attribute_lines.proofs.Samples.{sets, here, place, said, Tells, Refuses}
+use Rattle.attribute_lines.proofs.Samples.{sets, here, place, said, Tells}
 use Rattle.eval_resources.proofs.Samples.{titled_by, Declares, Fails}
-use Rattle.eval_resources.proofs.Samples.{Registers, main, class_a, owner, overridden, book_by}
+use Rattle.eval_resources.proofs.Samples.{main, class_a, owner, overridden, book_by}
 use Rattle.eval_world.specs.Owners.{owner_at}
 use Rattle.eval_world.specs.Environment.{Environment}
 use Rattle.eval_world.specs.Worlds.{write_log}
@@ -317,20 +314,11 @@ first_body : Fails
 unfolding declare_bodies titles_rule title_rule declared_rule declare_rule tested kind_checked native_of title_checked lines_checked names_known names_apart attributes_of known_checked is_metaparameter
 first_body environment = refl
 
--- a relation is not built: F31 at its line, after all other tests of the title; one that is Undef is none
+-- a relation
 abbrev before : Datum → Line
 before value = line (codes "before") false value (place 8)
 
-relation : Fails (titles_rule sample form.Plain kind (text a ∷ []) (body_with (before (text c) ∷ [])) here) 8 what.NotBuilt
-unfolding titles_rule title_rule declared_rule declare_rule tested kind_checked native_of title_checked lines_checked names_known names_apart attributes_of set_from segments is_word_byte is_tag_byte is_relation_name is_metaparameter known_checked line_tests
-relation environment = refl
-
-relation_of_second : Fails (titles_rule sample form.Plain kind (text a ∷ text a ∷ []) (body_with (before d.undef ∷ [])) here)
-    7 (what.Duplicate (record { kind = kind; title = a }) (place 7))
-unfolding titles_rule title_rule declared_rule declare_rule tested kind_checked native_of title_checked lines_checked names_known names_apart attributes_of set_from segments is_word_byte is_tag_byte is_relation_name is_metaparameter known_checked line_tests
-relation_of_second environment = refl
-
--- an override line that came before it is tested then, and before relations: F10 at the line
+-- an override line that came before it is tested then: F10 at the line
 overridden_before : (environment : Environment)
     → book_by
     (titles_rule sample form.Plain kind (text a ∷ []) (body_with (before (text c) ∷ [])) here (overridden environment))
@@ -366,7 +354,7 @@ no_container = refl
 
 -- ---- the whole expression
 
--- `@@::Notify { 'a': }` by an action, and the kind is told by its normal name
+-- `@@::Notify { 'a': }`, and the kind is told by its normal name
 whole : Declares (resource_rule sample
     (resource mark.Exported (codes "::nOtify") (titled_by (word a) [] 7 ∷ []) 6) here)
     (notify mode.Exported a 7 ∷ [])
@@ -379,58 +367,3 @@ evaluated_first : Fails (resource_rule sample
     3 (what.UnknownVariable (codes "x"))
 unfolding resource_rule bodies_rule defaults_from bodies_from body_rule all_not_among lines_from owner_at out-Form denote.Hole.Carrier.out
 evaluated_first environment = refl
-
--- of all other actions nothing is built
-defaults_action : Fails (act_rule sample (action.Defaults (codes "file") []) 5 here) 5 what.NotBuilt
-unfolding act_rule owner_at
-defaults_action environment = refl
-
--- ---- collectors
-
-abbrev tag_test : List ℕ → Bool → Option Expr
-tag_test w equal = tag_compared (comparison w equal (told a) 4)
-
-tag_is_built : tag_test (codes "tag") true ≡ Some (told a)
-tag_is_built = refl
-
-unlike_is_not : tag_test (codes "tag") false ≡ None
-unlike_is_not = refl
-
-title_is_not : tag_test (codes "title") true ≡ None
-title_is_not = refl
-
-exported_ones : native_by (codes "::Notify") true [] ≡ Some native.Notify
-unfolding native_of normal without_front_colons
-exported_ones = refl
-
-without_block : native_by (codes "Notify") true (sets a (word a) 1 ∷ []) ≡ None
-without_block = refl
-
-local_ones : native_by (codes "Notify") false [] ≡ None
-local_ones = refl
-
-classes : native_by (codes "Class") true [] ≡ None
-unfolding native_of normal without_front_colons
-classes = refl
-
--- the value is evaluated, and then the collector is registered
-registered : Registers (collected_by sample (Some native.Notify) None 3 here)
-    (record { kind = kind; query = all; at = place 3; owner = 0; exported = true; lines = []; realized = None })
-unfolding register owner_at
-registered environment = refl
-
-tagged : Tells (tag_asked sample (Some (told a)) 3 here) (by_tag (text a)) (a ∷ [])
-unfolding write_log out-Form denote.Hole.Carrier.out
-tagged environment = refl
-
-no_tag_value : Refuses (tag_asked sample (Some (fails 3)) 3 here) 3 (what.UnknownVariable (codes "x"))
-unfolding out-Form denote.Hole.Carrier.out owner_at
-no_tag_value environment = refl
-
-other_query : Refuses (tag_asked sample None 3 here) 3 what.NotBuilt
-unfolding owner_at
-other_query environment = refl
-
-other_collector : Refuses (collected_by sample None None 3 here) 3 what.NotBuilt
-unfolding owner_at
-other_collector environment = refl

@@ -1,4 +1,4 @@
--- Bodies, a world in which `Class[main]` is declared, and what is declared and registered behind it, for the examples.
+-- Bodies, a world in which `Class[main]` is declared, and what is declared behind it, for the examples.
 use Rattle.std.proofs.Common.{◌≡◌, ℕ, false, List, [], ◌∷◌, None, Result, Ok, Err, codes}
 use Rattle.pp_tree.specs.Building.{body}
 use Rattle.pp_tree.specs.declared.expr.Expr.{Expr}
@@ -9,7 +9,6 @@ use Rattle.pp_values.specs.Faults as faults
 use Rattle.pp_values.specs.declared.fault.Fault.{Fault}
 use Rattle.pp_values.specs.declared.fault.What.{What}
 use Rattle.res_book.specs.Rows.{new_row}
-use Rattle.res_book.specs.declared.collector.Collector.{Collector}
 use Rattle.res_book.specs.declared.mode.Mode.{Mode}
 use Rattle.res_book.specs.declared.mode.Mode.TheVariants as mode
 use Rattle.res_book.specs.declared.row.Row.{Row}
@@ -86,13 +85,3 @@ Declares step rows = (environment : Environment)
 abbrev pub Fails : Step (Unit {0}) → ℕ → What → Type 0
 Fails step at details = (environment : Environment)
     → book_by (step (world environment)) ≡ Err (faults.fault (place at) details)
-
--- ---- what is registered
-
-abbrev pub collectors_by : {A : Type 0} → Outcome A → Result (List Collector) Fault
-collectors_by (Ok p) = Ok p.1.relations.collectors
-collectors_by (Err f) = Err f
-
-abbrev pub Registers : Step (Unit {0}) → Collector → Type 0
-Registers step c = (environment : Environment)
-    → collectors_by (step (world environment)) ≡ Ok (c ∷ [])

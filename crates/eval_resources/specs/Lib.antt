@@ -1,9 +1,8 @@
--- What the clauses of `site_main` rest on, and a reader has to believe: Bodies, Checks, Declaring, Resources,
--- Collectors
+-- What the clauses of `site_main` rest on, and a reader has to believe: Bodies, Checks, Declaring, Resources
 -- What functions promise one another, what types keep, and what proofs read: GoodLines
 pub mod Bodies
 pub mod Checks
 pub mod Declaring
 pub mod GoodLines
+pub mod Relating
 pub mod Resources
-pub mod Collectors

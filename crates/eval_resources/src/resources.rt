@@ -4,16 +4,16 @@ ghost use Rattle.eval_resources.specs.Resources as spec;
 ghost use Rattle.eval_world.specs.Nests.{Nests};
 ghost use Rattle.eval_world.specs.Outcomes.{Gives, nothing};
 
-use crate::acting::act;
 use crate::bodies::bodies;
+use crate::titles::declare_bodies;
 use eval_classes::normal_name;
 use eval_world::{Evaluated, Forms, Goal, Here, Meaning, World};
 use pp_tree::resource::{Resource, ResourceForm};
 use pp_values::Stop;
-use res_core::{Action, Form};
+use res_core::Form;
 
 /// `file { ['/a', '/b']: mode => '0644'; default: owner => 'root' }`, or behind `@` or `@@`.
-#[tactic(auto, unfolding(crate::specs::Resources::resource_rule, crate::specs::Resources::act_rule))]
+#[tactic(auto, unfolding(crate::specs::Resources::resource_rule))]
 pub fn resource<F: Fn(&mut World<'_>, Goal<'_>, Here, u32) -> Result<Evaluated, Stop>, M: Meaning>(
     forms: &Forms<F, M>,
     world: &mut World<'_>,
@@ -25,15 +25,11 @@ pub fn resource<F: Fn(&mut World<'_>, Goal<'_>, Here, u32) -> Result<Evaluated, 
 {
     let bodies = bodies(forms, world, &written.bodies, here)?;
     let kind = normal_name(world.heap.alloc(), &written.kind)?;
-    let action = Action::Resource {
-        form: form_of(written.form),
-        kind,
-        bodies,
-    };
-    act(forms, world, &action, written.at, here)
+    let form = form_of(written.form);
+    declare_bodies(forms, world, form, &kind, bodies.as_slice(), here)
 }
 
-fn form_of(written: ResourceForm) -> Form
+pub fn form_of(written: ResourceForm) -> Form
     ensures { result ≡ spec.form_of written }
 {
     match written {

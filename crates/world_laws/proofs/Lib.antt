@@ -5,6 +5,8 @@ mod Steps
 mod OfWorld
 mod OfForms
 mod OfClasses
+mod OfLines
+mod OfCollectors
 mod OfCalls
 mod OfResources
 mod OfOverrides

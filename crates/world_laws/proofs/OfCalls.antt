@@ -12,6 +12,7 @@ use Rattle.pp_tree.specs.declared.statement.Statement.{Statement}
 use Rattle.pp_tree.specs.declared.statement.Words.{Words}
 use Rattle.pp_values.specs.Datum.{Datum}
 use Rattle.pp_values.specs.declared.place.Place.{Place}
+use Rattle.pp_values.specs.declared.reference.Reference.{Reference}
 use Rattle.expr_eval.specs.Gathering.{decides}
 use Rattle.expr_eval.specs.Names.{lambda_function}
 use Rattle.expr_eval.specs.Turns.{Turn}
@@ -36,9 +37,11 @@ use Rattle.eval_calls.specs.Lambdas.{Opened, opened, bound_by, bind_rule, bind_f
 use Rattle.eval_calls.specs.LookUps.{Request, request_of, or_next, first_found, default_or_fault, found_or, found_rule}
 use Rattle.eval_calls.specs.LookUps.{lookup_by, lookup_rule}
 use Rattle.eval_calls.specs.Names.{is_function, is_log}
+use Rattle.eval_calls.specs.Realizing.{references_asked, realize_from, realize_all, realized_by, realized}
 use Rattle.world_laws.specs.Extends.{Extends}
 use Rattle.world_laws.specs.Growing.{Reaches, Grows, GrowsInner}
 use Rattle.world_laws.proofs.OfClasses.{included_grows}
+use Rattle.world_laws.proofs.OfCollectors.{realize_grows}
 use Rattle.world_laws.proofs.OfWorld.{assign_grows, log_grows, look_up_grows, values_grow}
 use Rattle.world_laws.proofs.Steps.{and_then, pure_grows, answer_grows, fault_grows, either, told}
 use Rattle.world_laws.proofs.Worlds.{extends_on, scope_entered, left_again}
@@ -98,10 +101,29 @@ lookup_grows : (f : List ℕ) (arguments : List Datum) (line : ℕ) (here : Here
 unfolding lookup_rule
 lookup_grows f arguments line here = lookup_by_grows (request_of arguments) f line here
 
+-- ---- `realize`
+
+each_realized_grows : (rs : List Reference) (line : ℕ) (here : Here) → Grows (realize_from rs line here)
+unfolding realize_from
+each_realized_grows [] line here = pure_grows
+each_realized_grows (r ∷ rs) line here =
+    and_then (realize_grows r line here) (λ u. each_realized_grows rs line here)
+
+realized_by_grows : (o : Option (List Reference)) (f : List ℕ) (line : ℕ) (here : Here) → Grows (realized_by o f line here)
+unfolding realize_all
+realized_by_grows None f line here = fault_grows _
+realized_by_grows (Some rs) f line here = and_then (each_realized_grows rs line here) (λ u. pure_grows)
+
+realized_grows : (f : List ℕ) (arguments : List Datum) (line : ℕ) (here : Here) →
+    Grows (realized f arguments line here)
+unfolding realized
+realized_grows f arguments line here = realized_by_grows (references_asked arguments) f line here
+
 data_grows : (f : List ℕ) (arguments : List Datum) (line : ℕ) (here : Here) → Grows (data_rule f arguments line here)
 unfolding data_rule
 data_grows f arguments line here =
-    either (bytes_eq f (codes "lookup")) (lookup_grows f arguments line here) (fault_grows _)
+    either (bytes_eq f (codes "lookup")) (lookup_grows f arguments line here)
+    (either (bytes_eq f (codes "realize")) (realized_grows f arguments line here) (fault_grows _))
 
 -- ---- a call of a lambda
 

@@ -37,8 +37,9 @@ use Rattle.world_laws.proofs.OfClasses.{class_declared_grows, once_grows, class_
 use Rattle.world_laws.proofs.OfClasses.{enter_grows}
 use Rattle.world_laws.proofs.OfForms.{type_grows, list_grows, hash_grows, interpolated_grows, prefix_grows, binary_grows}
 use Rattle.world_laws.proofs.OfForms.{assigned_grows, if_grows, unless_grows, case_grows, selected_grows, accessed_grows}
+use Rattle.world_laws.proofs.OfCollectors.{collector_grows}
 use Rattle.world_laws.proofs.OfOverrides.{override_grows, defaults_grow, target_grows}
-use Rattle.world_laws.proofs.OfResources.{resource_grows, collector_grows}
+use Rattle.world_laws.proofs.OfResources.{resource_grows}
 use Rattle.world_laws.proofs.OfWorld.{read_grows}
 use Rattle.world_laws.proofs.Steps.{and_then, pure_grows, answer_grows, fault_grows, told}
 use Rattle.world_laws.proofs.Worlds.{same_world}

@@ -1,7 +1,7 @@
 -- What is left decides.
 use Rattle.std.proofs.Common.{◌≡◌, length}
 use Rattle.eval_resources.specs.Resources.{declare_bodies}
-use Rattle.eval_resources.proofs.acting.declare_bodies.Given as goal
+use Rattle.eval_resources.proofs.titles.declare_bodies.Given as goal
 
 abbrev pub invariant-loop-body : goal.invariant-loop-body
 invariant-loop-body g l =

@@ -2,7 +2,7 @@
 use Rattle.std.proofs.Common.{◌≡◌, length}
 use Rattle.pp_values.specs.Views.{views}
 use Rattle.eval_resources.specs.Resources.{titles_rule}
-use Rattle.eval_resources.proofs.acting.declare_titles.Given as goal
+use Rattle.eval_resources.proofs.titles.declare_titles.Given as goal
 
 abbrev pub invariant-loop-title : goal.invariant-loop-title
 invariant-loop-title g l =

@@ -1,2 +1,4 @@
 mod Numbers
+mod Samples
 mod Examples
+mod BlockExamples

@@ -7,5 +7,6 @@ mod OfClasses
 mod OfCalls
 mod OfResources
 mod OfEvaluator
+mod OfCollecting
 mod OfRounds
 mod Examples

@@ -1,2 +1,3 @@
 mod Examples
 pub mod Inner
+pub mod Reading

@@ -1,2 +1,3 @@
 -- What the clauses of `site_main` rest on, and a reader has to believe: Matches
 pub mod Matches
+pub mod Reading

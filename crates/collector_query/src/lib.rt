@@ -2,5 +2,7 @@
 #![tactic(auto)]
 
 pub mod matching;
+mod reading;
 
 pub use matching::matches;
+pub use reading::reads_attributes;

@@ -1,14 +1,17 @@
 -- Which resources that other nodes export a collector imports, and what becomes of them.
 use Rattle.std.specs.Prelude.{ℕ, Bool, true, false, ◌&&◌, ◌==◌, List, Option, None, Some, Result, Ok, slice_get}
 use Rattle.std.specs.Str.{bytes_eq}
+use Rattle.collector_query.specs.Needed.{needed_tag as query_needs_tag}
 use Rattle.override_rules.specs.Meaning.{stands}
 use Rattle.pp_values.specs.Answers.{and_then}
 use Rattle.pp_values.specs.declared.fault.Fault.{Fault}
+use Rattle.pp_values.specs.declared.reference.Reference.{Reference}
 use Rattle.res_book.specs.Rows.{number_of}
 use Rattle.res_book.specs.declared.collector.Collector.{Collector}
 use Rattle.res_book.specs.declared.mode.Mode.{Mode}
 use Rattle.res_book.specs.declared.mode.Mode.TheVariants as mode
 use Rattle.res_book.specs.declared.row.Row.{Row}
+use Rattle.res_core.specs.Criteria.{Criterion}
 use Rattle.res_core.specs.declared.declared.Declared.{Declared}
 use Rattle.res_core.specs.declared.exported.Exported.{Exported}
 use Rattle.res_core.specs.declared.resource.Resource.{Resource}
@@ -40,6 +43,18 @@ abbrev pub imports : World → ℕ → Option (List ℕ)
 imports w c = imports_by (slice_get w.relations.collectors c)
 
 -- ---- what they find
+
+-- a tag that all has which a collector finds, where its query tells one
+abbrev pub tag_by : Option Reference → Criterion → Option (List ℕ)
+tag_by (Some wanted) query = None
+tag_by None query = query_needs_tag query
+
+abbrev pub tag_of : Option Collector → Option (List ℕ)
+tag_of None = None
+tag_of (Some c) = tag_by c.realized c.query
+
+abbrev pub needed_tag : World → ℕ → Option (List ℕ)
+needed_tag w c = tag_of (slice_get w.relations.collectors c)
 
 -- `<<| |>>` finds what is of its kind and asked for, by the attributes and tags that were published
 unfoldable pub finds : Collector → Exported → Bool

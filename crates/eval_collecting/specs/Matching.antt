@@ -2,6 +2,7 @@
 use Rattle.std.specs.Prelude.{ℕ, Bool, true, false, not, ◌&&◌, ◌||◌, List, Option, None, Some, Ok, slice_get}
 use Rattle.std.specs.Str.{bytes_eq}
 use Rattle.collector_query.specs.Matches.{matches}
+use Rattle.collector_query.specs.Reading.{reads_attributes as query_reads_attributes}
 use Rattle.override_rules.specs.Meaning.{State}
 use Rattle.override_rules.specs.Names.{attributes_of}
 use Rattle.pp_values.specs.References.{same_reference}
@@ -35,6 +36,19 @@ named wanted r = same_reference wanted (reference_of r)
 abbrev pub asks : Option Reference → Criterion → Resource → List Setting → Bool
 asks (Some wanted) query r set = named wanted r
 asks None query r set = matches query r.title r.tags set
+
+-- whether that is asked for hangs on attributes
+abbrev pub reads_attributes : Option Reference → Criterion → Bool
+reads_attributes (Some wanted) query = false
+reads_attributes None query = query_reads_attributes query
+
+-- the one reference that a collector of the function `realize` asks for
+abbrev pub realized_by : Option Collector → Option Reference
+realized_by None = None
+realized_by (Some c) = c.realized
+
+abbrev pub realized : World → ℕ → Option Reference
+realized w c = realized_by (slice_get w.relations.collectors c)
 
 -- it is open to the collector and of its kind
 abbrev pub may_take : Collector → Row → Bool

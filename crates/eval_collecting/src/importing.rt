@@ -24,6 +24,25 @@ pub fn imports<'w>(world: &'w World<'_>, collector: u32) -> Option<&'w Text>
     }
 }
 
+/// A tag that all has which a collector finds, where its query tells one.
+pub fn needed_tag<'w>(world: &'w World<'_>, collector: u32) -> Option<&'w Text>
+    ensures { option_copied result ≡ spec.needed_tag world.now collector }
+{
+    match world.relations.collectors().get(collector as usize) {
+        Some(collector) => tag_of(collector),
+        None => None,
+    }
+}
+
+fn tag_of(collector: &Collector) -> Option<&Text>
+    ensures { option_copied result ≡ spec.tag_by collector.now.realized collector.now.query }
+{
+    match &collector.realized {
+        Some(_) => None,
+        None => collector_query::needed_tag(collector.query.as_query()),
+    }
+}
+
 /// Whether one collector finds the resource that a node exports at this place of its set, which is declared then unless it
 /// was imported before, and to which the collector's block is applied where it was not before: true exactly where it is
 /// declared here, or the block is applied now.

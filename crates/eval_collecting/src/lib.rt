@@ -6,5 +6,5 @@ mod importing;
 mod matching;
 mod references;
 
-pub use importing::{import_match, imports};
-pub use matching::local_match;
+pub use importing::{import_match, imports, needed_tag};
+pub use matching::{local_match, realized};

@@ -9,7 +9,7 @@ use crate::references::is_named;
 use collector_query::matches;
 use eval_world::World;
 use override_rules::Overrides;
-use pp_values::{Memory, Stop};
+use pp_values::{Memory, Reference, Stop};
 use res_book::{Book, Collector, Mode, Row};
 use res_core::{Attributes, Resource};
 use std::alloc::Global;
@@ -56,7 +56,7 @@ fn takes_at(world: &World<'_>, collector: u32, number: u32) -> Result<bool, Memo
     }
 }
 
-#[tactic(auto, unfolding(crate::specs::Matching::takes))]
+#[tactic(auto, unfolding(crate::specs::Matching::takes), using(crate::proofs::Attributes::asks_same))]
 fn takes(
     alloc: Global,
     overrides: &Overrides,
@@ -67,11 +67,35 @@ fn takes(
     requires { number < length book.now }
     ensures { IfOk result (λ b. b ≡ spec.taken_by overrides.now (Some collector.now) (slice_get book.now number)) }
 {
-    if !may_take(collector, book.row(number)) {
+    let row = book.row(number);
+    if !may_take(collector, row) {
         return Ok(false);
     }
-    let set = overrides.attributes(alloc, book, number)?;
-    Ok(asks(collector, &book.row(number).item.item, &set))
+    if !reads_attributes(collector) {
+        return Ok(asks(collector, &row.item.item, &row.item.item.attributes));
+    }
+    let set = overrides.row_attributes(alloc, row)?;
+    Ok(asks(collector, &row.item.item, &set))
+}
+
+/// Whether attributes decide. Else none have to be made.
+fn reads_attributes(collector: &Collector) -> bool
+    ensures { result ≡ spec.reads_attributes collector.now.realized collector.now.query }
+{
+    match &collector.realized {
+        Some(_) => false,
+        None => collector_query::reads_attributes(collector.query.as_query()),
+    }
+}
+
+/// The one reference that a collector asks for, where it comes from the function `realize`.
+pub fn realized<'w>(world: &'w World<'_>, collector: u32) -> Option<&'w Reference>
+    ensures { option_copied result ≡ spec.realized world.now collector }
+{
+    match world.relations.collectors().get(collector as usize) {
+        Some(collector) => collector.realized.as_ref(),
+        None => None,
+    }
 }
 
 /// Whether it is open to the collector and of its kind.

@@ -2,7 +2,9 @@
 #![tactic(auto)]
 
 pub mod matching;
+mod needing;
 mod reading;
 
 pub use matching::matches;
+pub use needing::needed_tag;
 pub use reading::reads_attributes;

@@ -12,3 +12,7 @@ reads_attributes-some_read-requires t c =
 
 pub some_read-reads_attributes-requires : goal.some_read-reads_attributes-requires
 some_read-reads_attributes-requires t c = (omega (arith, c.decreases, query_falls c.args.queries.now _ _ c.loop-query-test.true c.query-item.is), tt)
+
+pub reads_attributes-some_read-requires-in-Or : goal.reads_attributes-some_read-requires-in-Or
+reads_attributes-some_read-requires-in-Or t c =
+    (omega (arith, c.decreases, ap criterion_list_size c.as_slice-in-Or.ensures, ap (λ q. criterion_size (criterion q)) c.in-Or.is, criteria_size-criteria_of c.in-Or.queries), tt)

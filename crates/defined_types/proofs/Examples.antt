@@ -18,9 +18,10 @@ use Rattle.res_core.specs.Criteria.{Criterion, all, by_tag}
 use Rattle.res_core.specs.NativeTypes as natives
 use Rattle.res_core.specs.NativeTypes.{native_of}
 use Rattle.res_core.specs.declared.resource.Resource.{Resource}
-use Rattle.eval_collecting.specs.Importing.{finds, tested, declare_rule, import_rule, import_match, imports}
-use Rattle.eval_resources.specs.Checks.{settings_known}
-use Rattle.eval_collecting.specs.Matching.{takes, local_match}
+use Rattle.eval_collecting.specs.Blocks.{block_applied}
+use Rattle.eval_collecting.specs.Importing.{finds, tested, declare_rule, import_rule, import_once, import_match, imports}
+use Rattle.eval_collecting.specs.Matching.{takes, take, local_match}
+use Rattle.eval_resources.specs.Checks.{kind_checked, settings_known}
 use Rattle.eval_world.specs.Environment.{Environment}
 use Rattle.eval_world.specs.Outcomes.{Outcome}
 use Rattle.eval_world.specs.Owners.{owner_at}
@@ -84,7 +85,7 @@ both x y = (codes "a", x) ∷ (codes "b", y) ∷ []
 
 by_tag_alone : (m : Environment) → shown (collector_turn 0 (codes "n") nothing (with_two (asks_for (codes "u") ∷ []) m))
     ≡ Ok (true, both false true)
-unfolding collector_turn take_from local_match takes
+unfolding collector_turn take_from local_match take block_applied takes
 by_tag_alone m = refl
 
 -- what other nodes export comes behind what is declared here, and once
@@ -96,13 +97,13 @@ imports_in_order : (m : Environment)
     → shown (take_imports 0 false (from_other 0 (codes "y") ∷ from_other 1 (codes "x") ∷ from_other 0 (codes "y") ∷ [])
     (with_two (collector true all ∷ []) m))
     ≡ Ok (true, (codes "a", false) ∷ (codes "b", false) ∷ (codes "y", false) ∷ (codes "x", false) ∷ [])
-unfolding take_imports import_match finds import_rule tested native_of natives.attributes_of settings_known known_checked declare_rule owner_at line_tests
+unfolding take_imports import_match finds import_once import_rule block_applied tested kind_checked native_of natives.attributes_of settings_known known_checked declare_rule owner_at line_tests
 imports_in_order m = refl
 
 import_twice : (m : Environment)
     → shown (take_imports 0 false (from_other 0 (codes "a") ∷ []) (with_two (collector true all ∷ []) m))
     ≡ Err (faults.fault (place 5) (what.Duplicate (record { kind = codes "notify"; title = codes "a" }) (place 1)))
-unfolding take_imports import_match finds import_rule tested native_of natives.attributes_of settings_known known_checked declare_rule owner_at line_tests
+unfolding take_imports import_match finds import_once import_rule block_applied tested kind_checked native_of natives.attributes_of settings_known known_checked declare_rule owner_at line_tests
 import_twice m = refl
 
 -- `<| |>` imports nothing
@@ -118,17 +119,17 @@ exported_collector m = refl
 two_rounds : (m : Environment)
     → shown (rounds_left 2 (codes "n") nothing (with_two (asks_for (codes "u") ∷ asks_for (codes "t") ∷ []) m))
     ≡ Ok (tt, both true true)
-unfolding rounds_left round run_instances turns_from collector_turn take_from local_match takes native_of
+unfolding rounds_left round run_instances turns_from collector_turn take_from local_match take block_applied takes native_of
 two_rounds m = refl
 
 -- F27 where the last round still adds something
 one_round_alone : (m : Environment)
     → shown (rounds_left 1 (codes "n") nothing (with_two (asks_for (codes "u") ∷ []) m))
     ≡ Err (faults.fault (place 1) what.RoundLimit)
-unfolding rounds_left round run_instances turns_from collector_turn take_from local_match takes owner_at native_of
+unfolding rounds_left round run_instances turns_from collector_turn take_from local_match take block_applied takes owner_at native_of
 one_round_alone m = refl
 
 nothing_to_take : (m : Environment)
     → shown (rounds_left 1 (codes "n") nothing (with_two (asks_for (codes "v") ∷ []) m)) ≡ Ok (tt, both false false)
-unfolding rounds_left round run_instances turns_from collector_turn take_from local_match takes native_of
+unfolding rounds_left round run_instances turns_from collector_turn take_from local_match take block_applied takes native_of
 nothing_to_take m = refl

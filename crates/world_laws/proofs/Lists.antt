@@ -2,10 +2,8 @@
 use Rattle.std.proofs.Common.{◌≡◌, ℕ, zero, suc, ◌≤◌, Bool, true, false, cond, List, [], ◌∷◌, ◌++◌, length}
 use Rattle.std.proofs.Common.{Option, None, Some, refl, sym, ap, subst, ◌∙◌, arith, Ordering}
 use Rattle.std.proofs.lemmas.List.{append-nil, append_assoc}
-use Rattle.std.specs.BTreeMap.{insert_entry, is_at}
-use Rattle.std.specs.Cmp.{IsTotalOrder}
+use Rattle.std.specs.BTreeMap.{insert_entry}
 use Rattle.std.specs.FinMap.{slice_cmp-IsAntisymmetric, nat_cmp-IsAntisymmetric}
-use Rattle.std.specs.Map.{lookup}
 use Rattle.std.specs.Ordering.{is_eq, match_ordering}
 use Rattle.std.specs.Prelude.{slice_get, slice_set, option_and_then}
 use Rattle.std.specs.declared.cmp.Ordering.TheVariants.{Less, Equal, Greater}
@@ -84,40 +82,6 @@ pub found_still : (k : Name) (v : Datum) (es : List (Name × Datum)) → value_o
 found_still k v [] none x d e = absurd cc
 found_still k v (e ∷ es) none x d found =
     found_by (text_cmp k e.0) k v e es (with_value k v es) x d none none (λ n. found_still k v es n x d) found
-
--- ---- entries by the order of their keys
-
-module _ {K X : Type 0} {R : K → K → Ordering} (total : IsTotalOrder R) where
-  tied_lookup : (q k : K) (es : List (K × X)) → R q k ≡ Equal → lookup (is_at (R q)) es ≡ lookup (is_at (R k)) es
-  tied_lookup q k es e = ap (λ r. lookup (is_at r) es) (λ i z. total.congr q k z e i)
-
-  passed : (b : Bool) (v d : X) (o : Option X) → (b ≡ true → o ≡ None) → o ≡ Some d → cond b (Some v) o ≡ Some d
-  passed true v d o none e = let gone : o ≡ None = none refl in absurd cc
-  passed false v d o none e = e
-
-  among : (b : Bool) (v d : X) (o p : Option X) → (o ≡ Some d → p ≡ Some d) →
-      cond b (Some v) o ≡ Some d → cond b (Some v) p ≡ Some d
-  among true v d o p same e = e
-  among false v d o p same e = same e
-
-  put_by : (o : Ordering) (k q : K) (v d : X) (e : K × X) (es new : List (K × X)) →
-      cond (is_eq o) (Some e.1) (lookup (is_at (R k)) es) ≡ None → lookup (is_at (R k)) (e ∷ es) ≡ None →
-      (lookup (is_at (R k)) es ≡ None → lookup (is_at (R q)) es ≡ Some d → lookup (is_at (R q)) new ≡ Some d) →
-      lookup (is_at (R q)) (e ∷ es) ≡ Some d →
-      lookup (is_at (R q)) (match_ordering o ((k, v) ∷ e ∷ es) ((e.0, v) ∷ es) (e ∷ new)) ≡ Some d
-  put_by Less k q v d e es new none no_value more found =
-      passed (is_eq (R q k)) v d (lookup (is_at (R q)) (e ∷ es))
-      (λ is. tied_lookup q k (e ∷ es) (equal (R q k) is) ∙ no_value) found
-  put_by Equal k q v d e es new none no_value more found = absurd cc
-  put_by Greater k q v d e es new none no_value more found =
-      among (is_eq (R q e.0)) e.1 d (lookup (is_at (R q)) es) (lookup (is_at (R q)) new) (more none) found
-
-  -- what was found is found among them and one of a new key
-  pub found_beside : (k q : K) (v d : X) (es : List (K × X)) → lookup (is_at (R k)) es ≡ None →
-      lookup (is_at (R q)) es ≡ Some d → lookup (is_at (R q)) (insert_entry R es k v) ≡ Some d
-  found_beside k q v d [] none e = absurd cc
-  found_beside k q v d (e ∷ es) none found =
-      put_by (R k e.0) k q v d e es (insert_entry R es k v) none none (λ n. found_beside k q v d es n) found
 
 -- ---- all scopes
 

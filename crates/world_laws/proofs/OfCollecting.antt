@@ -1,11 +1,13 @@
 -- What one collector takes: marks, blocks, imports.
-use Rattle.std.proofs.Common.{◌≡◌, ℕ, Bool, true, false, ◌&&◌, ◌||◌, List, [], ◌∷◌, Option, None, Some, Result, Ok, Err, refl}
+use Rattle.std.proofs.Common.{ℕ, Bool, true, false, ◌||◌, List, [], ◌∷◌, Option, None, Some, Result, Ok, Err, sym, subst}
+use Rattle.std.specs.Prelude.{IsTrue}
 use Rattle.override_rules.specs.Lines.{Line}
-use Rattle.override_rules.specs.Meaning.{State, line_added, stands, test_of, tested as tested_on, row_of, with_line}
+use Rattle.override_rules.specs.Meaning.{State, line_added, test_of, tested, row_of, with_line}
 use Rattle.pp_values.specs.Answers as answers
 use Rattle.pp_values.specs.declared.fault.Fault.{Fault}
+use Rattle.res_book.proofs.Applied.{applied-marked}
 use Rattle.res_book.proofs.Growth.{grows-mark}
-use Rattle.res_book.specs.Relations.{with_applied}
+use Rattle.res_book.specs.Relations.{Related, is_applied, same_pair, with_applied}
 use Rattle.res_book.specs.Rows.{with_mark}
 use Rattle.res_book.specs.declared.mode.Mode.TheVariants as mode
 use Rattle.res_book.specs.declared.row.Row.{Row}
@@ -20,18 +22,22 @@ use Rattle.eval_world.specs.Outcomes.{Step}
 use Rattle.eval_world.specs.Owners.{owner_at}
 use Rattle.eval_world.specs.Worlds.{put}
 use Rattle.eval_world.specs.declared.world.World.{World}
-use Rattle.world_laws.specs.Extends.{OverridesStay}
+use Rattle.world_laws.specs.Extends.{OverridesStay, RelationsGoOn}
 use Rattle.world_laws.specs.Growing.{Reaches, Grows}
+use Rattle.world_laws.proofs.Lists.{goes_on, stays}
 use Rattle.world_laws.proofs.OfWorld.{put_grows}
 use Rattle.world_laws.proofs.Steps.{and_then, pure_grows, answer_grows, told}
-use Rattle.world_laws.proofs.Worlds.{same_overrides, overrides_on, one_line, one_applied, book_grows, overrides_grow, relations_grow}
+use Rattle.world_laws.proofs.Worlds.{same_overrides, overrides_on, book_grows, overrides_grow, relations_grow}
 
 -- ---- override lines
 
 -- where the tables of overrides came out, they are those before and what was added
-abbrev pub StaysIn : State → Result (Unit {0} × State) Fault → Type 0
+abbrev StaysIn : State → Result (Unit {0} × State) Fault → Type 0
 StaysIn s (Ok p) = OverridesStay s p.1
 StaysIn s (Err f) = Unit {0}
+
+one_line : (s : State) (l : Line) → OverridesStay s (with_line s l)
+one_line s l = record { lines = goes_on s.lines (l ∷ []); defaults = λ kind scope name d e. e }
 
 tested_line : (s : State) (l : Line) (r : Result (Unit {0}) Fault) →
     StaysIn s (answers.and_then r (λ u. Ok (tt, with_line s l)))
@@ -39,8 +45,8 @@ tested_line s l (Ok u) = one_line s l
 tested_line s l (Err f) = tt
 
 -- a line stands behind those before it
-pub line_stays : (book : List Row) (l : Line) (s : State) → StaysIn s (line_added book l s)
-line_stays book l s = tested_line s l (tested_on (test_of s l) (row_of l.target book))
+line_stays : (book : List Row) (l : Line) (s : State) → StaysIn s (line_added book l s)
+line_stays book l s = tested_line s l (tested (test_of s l) (row_of l.target book))
 
 further_lines : (s : State) (r : Result (Unit {0} × State) Fault) → StaysIn s r →
     (next : State → Result (Unit {0} × State) Fault) → ((t : State) → StaysIn t (next t)) →
@@ -51,7 +57,7 @@ further_lines s (Ok p) stay next more = on_to s p.1 (next p.1) stay (more p.1) w
   on_to s t (Ok p) f g = overrides_on f g
   on_to s t (Err f) g h = tt
 
-pub lines_stay : (book : List Row) (ls : List Line) (s : State) → StaysIn s (lines_added book ls s)
+lines_stay : (book : List Row) (ls : List Line) (s : State) → StaysIn s (lines_added book ls s)
 unfolding lines_added
 lines_stay book [] s = same_overrides s
 lines_stay book (l ∷ ls) s =
@@ -68,6 +74,20 @@ put_lines_grow ls = record {
 }
 
 -- ---- blocks
+
+still : (a b : Bool) → IsTrue b → IsTrue (a || b)
+still true b is = tt
+still false b is = is
+
+-- a block that was applied to a declaration stays so
+one_applied : (c n : ℕ) (r : Related) → RelationsGoOn r (with_applied c n r)
+one_applied c n r = record {
+  lines = stays r.lines;
+  containments = stays r.containments;
+  collectors = stays r.collectors;
+  applied = λ d m is. subst IsTrue (sym (applied-marked c n d m r))
+      (still (same_pair (d, m) (c, n)) (is_applied d m r) is);
+}
 
 mark_applied_grows : (c n : ℕ) → Grows (mark_applied c n)
 mark_applied_grows c n = record {

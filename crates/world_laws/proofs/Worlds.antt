@@ -1,16 +1,11 @@
 -- Worlds that extend each other: one table changes, and the others stay.
-use Rattle.std.proofs.Common.{◌≡◌, ℕ, ◌≤◌, Bool, true, false, ◌||◌, List, [], ◌∷◌, ◌++◌, length, Option, None, Some, refl, sym, ap, subst, ◌∙◌}
-use Rattle.std.specs.Prelude.{slice_get, IsTrue}
+use Rattle.std.proofs.Common.{◌≡◌, ℕ, ◌≤◌, List, [], ◌∷◌, ◌++◌, length, Option, None, Some, refl, sym, ap, subst, ◌∙◌}
+use Rattle.std.specs.Prelude.{slice_get}
 use Rattle.pp_values.specs.Datum.{Datum}
-use Rattle.override_rules.proofs.Kept.{default_at}
-use Rattle.override_rules.specs.Defaults.{default_key, default_in, with_default}
-use Rattle.override_rules.specs.Keys.{key_total}
-use Rattle.override_rules.specs.Lines.{Line}
-use Rattle.override_rules.specs.Meaning.{State, scope_opened, with_line}
-use Rattle.res_book.proofs.Applied.{applied-marked}
+use Rattle.override_rules.specs.Meaning.{State, scope_opened}
 use Rattle.res_book.proofs.Growth.{grows-not, grows-on}
 use Rattle.res_book.specs.Growth as rows
-use Rattle.res_book.specs.Relations.{Related, is_applied, same_pair, with_applied}
+use Rattle.res_book.specs.Relations.{Related}
 use Rattle.res_book.specs.declared.row.Row.{Row}
 use Rattle.res_core.specs.declared.log_line.LogLine.{LogLine}
 use Rattle.scope_core.specs.Scopes.{Scopes, Scope, entered, scopes_after, left}
@@ -19,7 +14,7 @@ use Rattle.eval_world.specs.Owners.{Owners, with_owner}
 use Rattle.eval_world.specs.declared.owner.Owner.{Owner}
 use Rattle.eval_world.specs.declared.world.World.{World}
 use Rattle.world_laws.specs.Extends.{AreKept, OwnersStay, OverridesStay, RelationsGoOn, Extends}
-use Rattle.world_laws.proofs.Lists.{goes_on, stays, further, found_beside, all_kept, all_kept_on, kept_before, kept_beside}
+use Rattle.world_laws.proofs.Lists.{goes_on, stays, further, all_kept, all_kept_on, kept_before, kept_beside}
 
 -- ---- tables that stay
 
@@ -34,22 +29,6 @@ same_overrides s = record { lines = stays s.lines; defaults = λ kind scope name
 
 pub opened : (scope : ℕ) (parent : Option ℕ) (s : State) → OverridesStay s (scope_opened scope parent s)
 opened scope parent s = record { lines = stays s.lines; defaults = λ kind scope name d e. e }
-
--- one override line more
-pub one_line : (s : State) (l : Line) → OverridesStay s (with_line s l)
-one_line s l = record { lines = goes_on s.lines (l ∷ []); defaults = λ kind scope name d e. e }
-
--- one default more, of which the scope had none
-pub one_default : (kind : List ℕ) (scope : ℕ) (name : List ℕ) (d : Datum) (s : State) →
-    default_in s.defaults kind scope name ≡ None →
-    OverridesStay s (record s { defaults = with_default s.defaults (default_key kind scope name) d })
-one_default kind scope name d s none = record {
-  lines = stays s.lines;
-  defaults = λ k n x v e.
-      default_at (with_default s.defaults (default_key kind scope name) d) k n x
-      ∙ found_beside key_total (default_key kind scope name) (default_key k n x) d v s.defaults
-      (sym (default_at s.defaults kind scope name) ∙ none) (sym (default_at s.defaults k n x) ∙ e);
-}
 
 pub same_relations : (r : Related) → RelationsGoOn r r
 same_relations r = record {
@@ -71,20 +50,6 @@ relations_on f g = record {
   containments = further f.containments g.containments;
   collectors = further f.collectors g.collectors;
   applied = λ c n is. g.applied c n (f.applied c n is);
-}
-
--- one declaration more to which a block was applied
-applied_still : (a b : Bool) → IsTrue b → IsTrue (a || b)
-applied_still true b is = tt
-applied_still false b is = is
-
-pub one_applied : (c n : ℕ) (r : Related) → RelationsGoOn r (with_applied c n r)
-one_applied c n r = record {
-  lines = stays r.lines;
-  containments = stays r.containments;
-  collectors = stays r.collectors;
-  applied = λ d m is. subst IsTrue (sym (applied-marked c n d m r))
-      (applied_still (same_pair (d, m) (c, n)) (is_applied d m r) is);
 }
 
 -- ---- all of them
@@ -135,6 +100,17 @@ book_grows w book grows = record {
   log = stays w.log;
 }
 
+pub overrides_grow : (w : World) (s : State) → OverridesStay w.overrides s → Extends w (record w { overrides = s })
+overrides_grow w s stay = record {
+  environment = refl;
+  declarations = grows-not w.book;
+  scopes = all_kept w.scopes.scopes;
+  owners = same_owners w.owners;
+  overrides = stay;
+  relations = same_relations w.relations;
+  log = stays w.log;
+}
+
 pub relations_grow : (w : World) (r : Related) → RelationsGoOn w.relations r → Extends w (record w { relations = r })
 relations_grow w r grow = record {
   environment = refl;
@@ -143,17 +119,6 @@ relations_grow w r grow = record {
   owners = same_owners w.owners;
   overrides = same_overrides w.overrides;
   relations = grow;
-  log = stays w.log;
-}
-
-pub overrides_grow : (w : World) (s : State) → OverridesStay w.overrides s → Extends w (record w { overrides = s })
-overrides_grow w s grow = record {
-  environment = refl;
-  declarations = grows-not w.book;
-  scopes = all_kept w.scopes.scopes;
-  owners = same_owners w.owners;
-  overrides = grow;
-  relations = same_relations w.relations;
   log = stays w.log;
 }
 

@@ -88,6 +88,7 @@ sample = record {
   value = λ e here. meant (out-Form (form_of e)) (line_of e) here;
   block = λ b at here. pure d.undef;
   words = λ x here. pure d.undef;
+  target = λ r here. pure d.undef;
   class = λ n at here. pure d.undef;
   instance = λ n at here. pure d.undef;
 }

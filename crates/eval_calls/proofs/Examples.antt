@@ -84,6 +84,7 @@ inner given block = record {
   value = λ e here. value_by given (out-Form (form_of e)) (line_of e) here;
   block = λ b line here. block line here;
   words = λ e here. pure d.undef;
+  target = λ r here. pure d.undef;
   class = λ n line here. pure d.undef;
   instance = λ n line here. pure d.undef;
 }

@@ -129,6 +129,7 @@ sample = record {
   value = λ e here. meant (out-Form (form_of e)) (line_of e) here;
   block = λ b line here. pure (ran b line);
   words = λ said here. pure d.undef;
+  target = λ r here. pure d.undef;
   class = λ n line here. pure d.undef;
   instance = λ n line here. pure d.undef;
 }

@@ -1,6 +1,7 @@
 -- What a form asks of the parts that stand one level further in.
 use Rattle.std.specs.Prelude.{ℕ, List}
 use Rattle.pp_tree.specs.declared.expr.Expr.{Expr}
+use Rattle.pp_tree.specs.declared.resource.Reference.{Reference}
 use Rattle.pp_tree.specs.declared.statement.Statement.{Statement}
 use Rattle.pp_tree.specs.declared.statement.Words.{Words}
 use Rattle.pp_values.specs.Datum.{Datum}
@@ -15,6 +16,7 @@ pub record Inner : Type 0 where
   pub value : Expr → Here → Step Datum
   pub block : List Statement → ℕ → Here → Step Datum
   pub words : Words Expr → Here → Step Datum
+  pub target : Reference Expr → Here → Step Datum
   pub class : ℕ → ℕ → Here → Step Datum
   pub instance : ℕ → ℕ → Here → Step Datum
 
@@ -22,5 +24,6 @@ abbrev pub asked : Inner → Goal → Here → Step Datum
 asked inner (goal.Value e) here = inner.value e.now here
 asked inner (goal.Block b line) here = inner.block b.now line here
 asked inner (goal.Words x) here = inner.words x.now here
+asked inner (goal.Target r) here = inner.target r.now here
 asked inner (goal.Class n line) here = inner.class n line here
 asked inner (goal.Instance n line) here = inner.instance n line here

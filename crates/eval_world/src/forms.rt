@@ -16,6 +16,7 @@ use crate::here::Here;
 use crate::meaning::Meaning;
 use crate::world::World;
 use pp_tree::expr::{Expr, Form};
+use pp_tree::resource::Reference;
 use pp_tree::statement::{Block, Words};
 use pp_values::{Memory, Stop, Text, Value};
 use std::alloc::Global;
@@ -109,6 +110,19 @@ impl<F: Fn(&mut World<'_>, Goal<'_>, Here, u32) -> Result<Evaluated, Stop>, M: M
         ensures { Gives same ((M.within self.now.left).words words.now here world.old) result world.new }
     {
         (self.inner)(world, Goal::Words(words), here, self.left)
+    }
+
+    /// The target of an override, whose arguments stand one level further in.
+    pub fn target(
+        &self,
+        world: &mut World<'_>,
+        target: &Reference,
+        here: Here,
+    ) -> Result<Evaluated, Stop>
+        requires { Nests (M.within self.now.left) self.now.left (F.pre self.now.inner) (F.post self.now.inner) }
+        ensures { Gives same ((M.within self.now.left).target target.now here world.old) result world.new }
+    {
+        (self.inner)(world, Goal::Target(target), here, self.left)
     }
 
     /// The body of the class of this declaration.

@@ -1,4 +1,5 @@
 use pp_tree::expr::Expr;
+use pp_tree::resource::Reference;
 use pp_tree::statement::{Block, Words};
 
 /// What is evaluated one level further in. A block, a class body and an instance come with the line at which they are
@@ -11,6 +12,8 @@ pub enum Goal<'t> {
     Block(&'t Block, u32),
     /// A call without parentheses.
     Words(&'t Words),
+    /// The target of an override.
+    Target(&'t Reference),
     /// The body of a class, by the number of its declaration.
     Class(u32, u32),
     /// An instance of a define, by the number of its declaration.

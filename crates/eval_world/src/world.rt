@@ -1,4 +1,4 @@
-ghost use Rattle.std.specs.Prelude.{◌≡◌, [], IfOk};
+ghost use Rattle.std.specs.Prelude.{◌≡◌, [], IfOk, OnErr};
 ghost use Rattle.pp_values.specs.Faults.{fault};
 ghost use Rattle.pp_values.specs.declared.fault.Stop.TheVariants as stop;
 ghost use Rattle.pp_values.specs.declared.fault.What.TheVariants as what;
@@ -145,7 +145,8 @@ impl<'a> World<'a> {
         }
     }
 
-    /// Sets a variable. F3 is placed at this line, and a place is made only for it.
+    /// Sets a variable. F3 is placed at this line, and a place is made only for it. Whatever the error, memory included,
+    /// all stays as it was.
     #[inline(always)]
     #[tactic(auto, using(crate::proofs::Elsewhere::set_here, crate::proofs::Elsewhere::refused_here))]
     pub fn assign(
@@ -155,7 +156,8 @@ impl<'a> World<'a> {
         value: Evaluated,
         line: u32,
     ) -> Result<(), Stop>
-        ensures { Gives nothing (spec.assign here name.now value line self.old) result self.new }
+        ensures step { Gives nothing (spec.assign here name.now value line self.old) result self.new }
+        ensures kept { OnErr result (self.new ≡ self.old) }
     {
         let alloc = self.heap.alloc();
         match self.scopes.put(alloc, here.scope, name, value.into_value()) {
@@ -174,11 +176,12 @@ impl<'a> World<'a> {
         Ok(Stop::Fault(self.fault(here, line, What::Reassigned(name))?))
     }
 
-    /// The scope of one call of a lambda that stands here.
+    /// The scope of one call of a lambda that stands here. Where there is no memory, all stays as it was.
     #[inline(always)]
     #[tactic(auto, unfolding(crate::specs::Worlds::enter_lambda))]
     pub fn enter_lambda(&mut self, here: Here) -> Result<Here, Stop>
-        ensures { Gives same (spec.enter_lambda here self.old) result self.new }
+        ensures step { Gives same (spec.enter_lambda here self.old) result self.new }
+        ensures kept { OnErr result (self.new ≡ self.old) }
     {
         let scope = self
             .scopes
@@ -198,10 +201,11 @@ impl<'a> World<'a> {
         self.scopes.leave(here.scope);
     }
 
-    /// Writes a line of the log.
+    /// Writes a line of the log. Where there is no memory, all stays as it was.
     #[tactic(auto, unfolding(crate::specs::Worlds::write_log))]
     pub fn write_log(&mut self, level: Text, text: Text) -> Result<(), Stop>
-        ensures { Gives nothing (spec.write_log level text self.old) result self.new }
+        ensures step { Gives nothing (spec.write_log level text self.old) result self.new }
+        ensures kept { OnErr result (self.new ≡ self.old) }
     {
         self.log.push(LogLine { level, text })?;
         Ok(())

@@ -1,12 +1,14 @@
 -- What the clauses of `site_main` rest on, and a reader has to believe: Asked, AttributeChecks, AttributeViews,
--- Criteria, Lines, Metaparameters, NativeTypes, TagNames
--- What functions promise one another, what types keep, and what proofs read: AskedFacts, CriteriaCodes,
--- ExportSetCodes, ExportedCodes, NamesForms, NativeRows, PlainAttributes, QueryFalls, QueryViews, RequestViews,
+-- Catalogs, Criteria, Lines, Metaparameters, NativeTypes, TagNames
+-- What functions promise one another, what types keep, and what proofs read: AskedFacts, CatalogCodes,
+-- CriteriaCodes, ExportSetCodes, ExportedCodes, NamesForms, NativeRows, PlainAttributes, QueryFalls, QueryViews, RequestViews,
 -- ResourceCodes, TagPlaces
 pub mod Asked
 pub mod AskedFacts
 pub mod AttributeChecks
 pub mod AttributeViews
+pub mod CatalogCodes
+pub mod Catalogs
 pub mod Criteria
 pub mod CriteriaCodes
 pub mod ExportSetCodes

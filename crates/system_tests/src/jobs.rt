@@ -5,7 +5,7 @@ use std::sync::{Barrier, Mutex, Wait};
 use std::test::Fail;
 use std::thread;
 use std::thread::Threads;
-use work_pool::{ClaimSeat, Claims, Job, WaitingJob, run_all, run_waiting};
+use work_pool::{ClaimSeat, Claims, Job, Supply, WaitingJob, run_all, run_supplied, run_waiting};
 
 /// Draws until no number is left.
 fn draw_all(alloc: Global, claims: &Claims, mut seat: ClaimSeat) -> (ClaimSeat, Vec<u32>)
@@ -204,6 +204,85 @@ fn all_meet<R: Threads + Wait + Sync>(
 fn waiting_jobs_wait_for_one_another(rt: HostRuntime) -> Result<(), Fail> {
     for count in MEETERS {
         assert!(rt; all_meet(&rt, rt.alloc(), count)?, "{count} jobs");
+    }
+    Ok(())
+}
+
+/// Gives jobs that come to a barrier, the first of which has the number 0.
+#[derive(Drop)]
+struct Callers<'a> {
+    given: u64,
+    count: u64,
+    barrier: &'a Barrier,
+    // Whether each job has to come to the barrier before the next one is given.
+    meets: bool,
+}
+
+impl<'a> Supply for Callers<'a> {
+    ghost use Rattle.std.specs.Prelude.{⊤};
+
+    type Job = Meeter<'a>;
+
+    ghost gives = { λ _ _ _. ⊤ };
+
+    fn next<R: Wait>(&mut self, rt: &R) -> Option<Meeter<'a>> {
+        if self.meets && self.given > 0 {
+            self.barrier.wait(rt);
+        }
+        if self.given == self.count {
+            return None;
+        }
+        let number = self.given;
+        self.given = number.wrapping_add(1);
+        Some(Meeter {
+            number,
+            barrier: self.barrier,
+        })
+    }
+}
+
+/// Whether the supply's jobs all come back, with their results in order. One more is asked for than there are.
+fn come_back<R: Threads + Wait + Sync>(
+    rt: &R,
+    alloc: Global,
+    callers: Callers<'_>,
+) -> Result<bool, AllocError> {
+    let count = callers.count;
+    let most = (count as usize).saturating_add(1);
+    let results = Vec::with_capacity(alloc, most)?;
+    let (_, numbers) = run_supplied(rt, callers, most, results);
+    Ok(numbers.as_slice().iter().copied().eq(0..count))
+}
+
+/// How many jobs come: one, and more than a call of `run_waiting` starts threads.
+const CALLERS: [u64; 3] = [1, 2, 100];
+
+#[test]
+fn supplied_jobs_wait_for_one_another(rt: HostRuntime) -> Result<(), Fail> {
+    for count in CALLERS {
+        let barrier = Barrier::new(count as usize);
+        let callers = Callers {
+            given: 0,
+            count,
+            barrier: &barrier,
+            meets: false,
+        };
+        assert!(rt; come_back(&rt, rt.alloc(), callers)?, "{count} jobs");
+    }
+    Ok(())
+}
+
+#[test]
+fn a_job_begins_before_the_next_is_asked_for(rt: HostRuntime) -> Result<(), Fail> {
+    for count in CALLERS {
+        let barrier = Barrier::new(2);
+        let callers = Callers {
+            given: 0,
+            count,
+            barrier: &barrier,
+            meets: true,
+        };
+        assert!(rt; come_back(&rt, rt.alloc(), callers)?, "{count} jobs");
     }
     Ok(())
 }

@@ -3,4 +3,5 @@ pub mod Merges
 pub mod Drawn
 pub mod GroupLemmas
 pub mod Shares
+pub mod Supplying
 mod Examples

@@ -3,3 +3,4 @@ pub mod Claimed
 pub mod Steps
 pub mod Seats
 pub mod Groups
+pub mod Supplied

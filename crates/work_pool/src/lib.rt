@@ -9,9 +9,11 @@ mod rule;
 mod run;
 mod side;
 mod stack;
+mod supply;
 mod view;
 
 pub use claims::{ClaimSeat, Claims};
 pub use jobs::{Job, WaitingJob};
 pub use run::{run_all, run_waiting};
 pub use stack::{STACK_SIZE, on_large_stack};
+pub use supply::{Supply, run_supplied};

@@ -1,0 +1,2 @@
+-- What types keep, and what proofs read: ReportCodes
+pub mod ReportCodes

@@ -1,5 +1,5 @@
 -- A collector of the function `realize` takes one declaration at most, which its reference finds.
-use Rattle.std.proofs.Common.{◌≡◌, ℕ, zero, suc, ◌+◌, ◌<◌, ◌≤◌, Bool, true, false, ◌||◌, ◌&&◌, List, length, Option, None, Some, Ok, Err, refl, sym, ap, subst, ◌∙◌, arith}
+use Rattle.std.proofs.Common.{◌≡◌, ℕ, zero, suc, ◌+◌, ◌<◌, ◌≤◌, Bool, true, false, ◌||◌, ◌&&◌, List, length, Option, None, Some, Ok, Err, refl, sym, ap, ◌∙◌, arith, ⊎_elim}
 use Rattle.std.proofs.Math.Bool.{or-false}
 use Rattle.std.proofs.lemmas.Bool.{eqb_tells}
 use Rattle.std.proofs.lemmas.Option.{some-injective}
@@ -92,12 +92,10 @@ one_taken : (c : ℕ) (q : Reference) (k : ℕ) (added : Bool) (n left : ℕ) (w
 unfolding take_from
 one_taken c q k added n zero w from to is other = absurd (omega (arith, from, to))
 one_taken c q k added n (suc left) w from to is other =
-    elim (eqb_tells n k) [
-      | inl e ↦ one_at c q k added n left w e.1 is other
-      | inr e ↦
-          ap (λ o. go_on o (λ more. take_from c (more || added) (n + 1) left)) (passes_others c n q w is (other n e.1))
-          ∙ one_taken c q k added (n + 1) left w (omega (arith, from, e.1)) (omega (arith, to)) is other
-    ]
+    ⊎_elim (λ e. one_at c q k added n left w e.1 is other)
+    (λ e. ap (λ o. go_on o (λ more. take_from c (more || added) (n + 1) left)) (passes_others c n q w is (other n e.1))
+        ∙ one_taken c q k added (n + 1) left w (omega (arith, from, e.1)) (omega (arith, to)) is other)
+    (eqb_tells n k)
 
 -- ---- all declarations
 

@@ -9,5 +9,5 @@ use Rattle.eval_collecting.specs.Matching.{asks, reads_attributes}
 
 pub asks_same : (realized : Option Reference) (query : Criterion) (r : Resource) (set other : List Setting) →
     reads_attributes realized query ≡ false → asks realized query r set ≡ asks realized query r other
-asks_same (Some wanted) query r set other no = refl
-asks_same None query r set other no = matches_same r.title r.tags set other query no
+asks_same (Some wanted) query r set other unread = refl
+asks_same None query r set other unread = matches_same r.title r.tags set other query unread

@@ -19,6 +19,7 @@ use Rattle.res_core.specs.Lines.{Line}
 use Rattle.res_core.specs.Metaparameters.{is_metaparameter}
 use Rattle.res_core.specs.NativeTypes as natives
 use Rattle.res_core.specs.NativeTypes.{native_of}
+use Rattle.res_core.specs.TagNames.{segments}
 use Rattle.res_core.specs.declared.resource.Resource.{Resource}
 use Rattle.eval_classes.specs.Definitions.{define_found, definition_of}
 use Rattle.eval_collecting.specs.Blocks.{lines_added, apply_block, block_applied}
@@ -176,5 +177,5 @@ with_faulty_module = record {
 }
 
 faulty_module : shown (import_vhost (codes "port") (with_rows [] (collects_vhosts ∷ []) with_faulty_module)) ≡ Err faulty
-unfolding import_match finds import_once import_rule tested kind_checked native_of define_found definition_of
+unfolding import_match finds import_once import_rule tested kind_checked native_of define_found definition_of segments
 faulty_module = refl

@@ -17,7 +17,7 @@ use Rattle.eval_collecting.specs.Importing.{item_of, tested, declare_rule, impor
 use Rattle.eval_collecting.specs.Importing.{import_for, import_match}
 use Rattle.eval_collecting.specs.Matching.{takes_at, mark, take, take_if, local_match}
 use Rattle.eval_resources.specs.declared.known_kind.KnownKind.{KnownKind}
-use Rattle.eval_world.specs.Outcomes.{Outcome, Step, go_on, pure, answered}
+use Rattle.eval_world.specs.Outcomes.{Outcome, Step, go_on, ◌>>=◌, ◌>>◌, pure, answered}
 use Rattle.eval_world.specs.Owners.{owner_at}
 use Rattle.eval_world.specs.Worlds.{with_book}
 use Rattle.eval_world.specs.declared.world.World.{World}
@@ -48,8 +48,8 @@ module _ (P : List Row → List Collector → Type 0) where
 
   applied : (c n : ℕ) (ls : List Line) (w : World) → Both w → Holds Both (apply_block c n ls w)
   unfolding apply_block
-  applied c n ls w h = after Both Both (mark_applied c n w) _ h (λ u v g.
-      after Both Both (put_lines ls v) _ (put_back (lines_added v.book ls v.overrides) v g) (λ x y k. k))
+  applied c n ls w h = after Both Both (mark_applied c n w) (λ u. put_lines ls >> pure true) h (λ u v g.
+      after Both Both (put_lines ls v) (λ x. pure true) (put_back (lines_added v.book ls v.overrides) v g) (λ x y k. k))
 
   applied_if : (b : Bool) (c n : ℕ) (ls : List Line) (w : World) → Both w → Holds Both (apply_if b c n ls w)
   applied_if true c n ls w h = applied c n ls w h
@@ -71,8 +71,9 @@ module _ (P : (ℕ → Option Declared) → List Collector → Type 0) where
 
   taken : (c n : ℕ) (w : World) → Taken w → Holds Taken (take c n w)
   unfolding take
-  taken c n w h = after Taken Taken (mark n w) _ (marked_still n w h) (λ b v g.
-      after Taken Taken (block_applied c n v) _ (block_keeps (λ rows cs. P (item_at rows) cs) c n v g) (λ d x k. k))
+  taken c n w h = after Taken Taken (mark n w) (λ b. block_applied c n >>= (λ d. pure (b || d))) (marked_still n w h)
+      (λ b v g. after Taken Taken (block_applied c n v) (λ d. pure (b || d))
+      (block_keeps (λ rows cs. P (item_at rows) cs) c n v g) (λ d x k. k))
 
   taken_if : (b : Bool) (c n : ℕ) (w : World) → Taken w → Holds Taken (take_if b c n w)
   taken_if true c n w h = taken c n w h
@@ -98,14 +99,18 @@ module _ (P : List Collector → Type 0) where
   declared owner node place k e w h =
       declared_still (rows.declared (item_of (owner_at owner w.owners) w.book k e) (mode.Imported node place) w.book) w h
 
+  abbrev stood : ℕ → Step ℕ
+  stood n = (λ v. answered (stands v.overrides v.book n) v) >> pure n
+
   imported : (owner : ℕ) (node : List ℕ) (place : ℕ) (e : Exported) (w : World) → Told w →
       Holds Told (import_rule owner node place e w)
   unfolding import_rule
   imported owner node place e w h =
-      after Told Told (answered (tested w.environment e) w) _ (answer Told (tested w.environment e) w h) (λ k v g.
-      after Told Told (declare_rule owner node place k e v) _ (declared owner node place k e v g) (λ n x f.
-      after Told Told (answered (stands x.overrides x.book n) x) _ (answer Told (stands x.overrides x.book n) x f)
-      (λ u y d. d)))
+      after Told Told (answered (tested w.environment e) w)
+      (λ k. declare_rule owner node place k e >>= stood) (answer Told (tested w.environment e) w h) (λ k v g.
+      after Told Told (declare_rule owner node place k e v) stood (declared owner node place k e v g) (λ n x f.
+      after Told Told (answered (stands x.overrides x.book n) x) (λ u. pure n)
+      (answer Told (stands x.overrides x.book n) x f) (λ u y d. d)))
 
   applied_still : (c n : ℕ) (w : World) → Told w → Holds Told (block_applied c n w)
   applied_still c n w h = block_keeps (λ rows cs. P cs) c n w h
@@ -115,8 +120,9 @@ module _ (P : List Collector → Type 0) where
   unfolding import_once
   once (Some n) c owner node place e w h = applied_still c n w h
   once None c owner node place e w h =
-      after Told Told (import_rule owner node place e w) _ (imported owner node place e w h) (λ n v g.
-      after Told Told (block_applied c n v) _ (applied_still c n v g) (λ b x k. k))
+      after Told Told (import_rule owner node place e w) (λ n. block_applied c n >> pure true)
+      (imported owner node place e w h) (λ n v g.
+      after Told Told (block_applied c n v) (λ b. pure true) (applied_still c n v g) (λ b x k. k))
 
   imported_for : (owner : Option ℕ) (c : ℕ) (node : List ℕ) (place : ℕ) (e : Exported) (w : World) → Told w →
       Holds Told (import_for owner c node place e w)

@@ -45,8 +45,8 @@ passes_others c n q w is other = ap (λ b. take_if b c n w)
 -- ---- exports
 
 not_tagged : (b : Bool) → (b ≡ true → true ≡ false) → b ≡ false
-not_tagged true no = no refl
-not_tagged false no = refl
+not_tagged true lacks = lacks refl
+not_tagged false lacks = refl
 
 asks_not : (realized : Option Reference) (query : Criterion) (e : Exported) (t : List ℕ) →
     tag_by realized query ≡ Some t → is_tagged e.item.tags t ≡ false →

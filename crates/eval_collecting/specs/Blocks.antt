@@ -1,5 +1,6 @@
 -- The block of a collector, which is applied to what the collector takes.
-use Rattle.std.specs.Prelude.{◌≡◌, ℕ, Bool, true, false, not, ◌&&◌, List, [], ◌∷◌, map, Option, None, Some, Result, Ok, Err, slice_get}
+use Rattle.std.specs.Prelude.{◌≡◌, ℕ, nat_lt, Bool, true, false, not, ◌&&◌, List, [], ◌∷◌, length, map, Option, None, Some}
+use Rattle.std.specs.Prelude.{Result, Ok, Err, slice_get}
 use Rattle.override_rules.specs.Lines as over
 use Rattle.override_rules.specs.Meaning.{State, line_added}
 use Rattle.override_rules.specs.declared.override_line.Right.TheVariants as right
@@ -70,13 +71,13 @@ apply_block c n ls = do
   put_lines ls
   pure true
 
-abbrev pub says_something : List over.Line → Bool
-says_something [] = false
-says_something (l ∷ ls) = true
+abbrev pub has_lines : Option Collector → Bool
+has_lines None = false
+has_lines (Some c) = nat_lt 0 (length c.lines)
 
--- what says nothing is never applied
+-- there is a block, which was not applied before
 abbrev pub is_due : World → ℕ → ℕ → Bool
-is_due w c n = says_something (said_at w c n) && not (is_applied c n w.relations)
+is_due w c n = has_lines (slice_get w.relations.collectors c) && not (is_applied c n w.relations)
 
 abbrev pub apply_if : Bool → ℕ → ℕ → List over.Line → Step Bool
 apply_if true c n ls = apply_block c n ls

@@ -1,5 +1,5 @@
 //! The blocks of collectors.
-ghost use Rattle.std.specs.Prelude.{◌≡◌, IfOk};
+ghost use Rattle.std.specs.Prelude.{◌≡◌, ◌<◌, length, slice_get, IfOk};
 ghost use Rattle.eval_collecting.specs.Blocks as spec;
 ghost use Rattle.eval_world.specs.Outcomes.{Gives, nothing, same};
 ghost use Rattle.override_rules.specs.Lines.{line_of as over_line};
@@ -29,31 +29,43 @@ pub fn apply_block(world: &mut World<'_>, collector: u32, number: u32) -> Result
 fn is_due(world: &World<'_>, collector: u32, number: u32) -> bool
     ensures { result ≡ spec.is_due world.now collector number }
 {
-    says_something(world, collector, number) && !world.relations.is_applied(collector, number)
+    has_lines(world, collector) && !world.relations.is_applied(collector, number)
 }
 
-/// Whether the collector has a block with lines, and the declaration is there.
-fn says_something(world: &World<'_>, collector: u32, number: u32) -> bool
-    ensures { result ≡ spec.says_something (spec.said_at world.now collector number) }
+/// Whether the collector has a block with lines.
+fn has_lines(world: &World<'_>, collector: u32) -> bool
+    ensures { result ≡ spec.has_lines (slice_get world.now.relations.collectors collector) }
 {
     match world.relations.collectors().get(collector as usize) {
-        Some(collector) => number < world.book.count() && !collector.lines.is_empty(),
+        Some(collector) => collector.lines.len() > 0,
         None => false,
     }
 }
 
 /// Puts the lines of the collector's block on the declaration, behind all others.
+#[tactic(auto, unfolding(crate::specs::Blocks::lines_added), using(crate::proofs::Numbers::nothing_said))]
 fn put_block(world: &mut World<'_>, collector: u32, number: u32) -> Result<(), Stop>
+    ensures { Gives nothing (spec.put_lines (spec.said_at world.old collector number) world.old) result world.new }
+{
+    if number >= world.book.count() {
+        return Ok(());
+    }
+    put_on(world, collector, number)
+}
+
+#[tactic(auto, unfolding(crate::specs::Blocks::lines_added))]
+fn put_on(world: &mut World<'_>, collector: u32, number: u32) -> Result<(), Stop>
+    requires { number < length world.old.book }
     ensures { Gives nothing (spec.put_lines (spec.said_at world.old collector number) world.old) result world.new }
 {
     let alloc = world.heap.alloc();
     match world.relations.collectors().get(collector as usize) {
-        Some(collector) if number < world.book.count() => {
+        Some(collector) => {
             let target = reference_of(alloc, &world.book.row(number).item.item)?;
             let lines = collector.lines.as_slice();
             put_lines(alloc, &mut world.overrides, &world.book, &target, lines)
         }
-        _ => Ok(()),
+        None => Ok(()),
     }
 }
 

@@ -1,5 +1,5 @@
 -- Where a collector asks for no attribute, what it takes is the same whatever they are.
-use Rattle.std.proofs.Common.{◌≡◌, Bool, false, List, Option, None, Some, refl}
+use Rattle.std.proofs.Common.{◌≡◌, false, List, Option, None, Some, refl}
 use Rattle.collector_query.proofs.Unread.{matches_same}
 use Rattle.pp_values.specs.Settings.{Setting}
 use Rattle.pp_values.specs.declared.reference.Reference.{Reference}

@@ -1,5 +1,5 @@
 -- What the definitions give on worked examples: blocks, and imports of defines.
-use Rattle.std.proofs.Common.{◌≡◌, ℕ, Bool, true, false, List, [], ◌∷◌, map, Option, None, Some, Result, Ok, Err, refl, codes}
+use Rattle.std.proofs.Common.{◌≡◌, ℕ, Bool, true, false, List, [], ◌∷◌, map, Some, Result, Ok, Err, refl, codes}
 use Rattle.pp_values.specs.Datum as d
 use Rattle.pp_values.specs.Faults as faults
 use Rattle.pp_values.specs.Settings.{Setting}

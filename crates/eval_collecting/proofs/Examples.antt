@@ -1,5 +1,5 @@
 -- What the definitions give on worked examples: what is taken, and what is imported.
-use Rattle.std.proofs.Common.{◌≡◌, Bool, true, false, List, [], ◌∷◌, Option, None, Some, Result, Ok, Err, refl, codes}
+use Rattle.std.proofs.Common.{◌≡◌, Bool, true, false, [], ◌∷◌, None, Some, Ok, refl, codes}
 use Rattle.pp_values.specs.Datum as d
 use Rattle.pp_values.specs.declared.fault.What.TheVariants as what
 use Rattle.override_rules.specs.Fold.{after_lines}

@@ -1,11 +1,11 @@
 -- What one collector does leaves the collectors as they are; and with local declarations, what was declared.
-use Rattle.std.proofs.Common.{◌≡◌, ℕ, Bool, true, false, ◌||◌, List, [], ◌∷◌, Option, None, Some, Result, Ok, Err, refl, sym, subst}
+use Rattle.std.proofs.Common.{ℕ, Bool, true, false, ◌||◌, List, Option, None, Some, Result, Ok, Err, refl, sym, subst}
 use Rattle.override_rules.specs.Lines.{Line}
 use Rattle.override_rules.specs.Meaning.{State, stands}
 use Rattle.pp_values.specs.declared.fault.Fault.{Fault}
 use Rattle.res_book.proofs.Rows.{item_at-change}
 use Rattle.res_book.specs.Rows as rows
-use Rattle.res_book.specs.Rows.{item_at, marked, with_mark}
+use Rattle.res_book.specs.Rows.{item_at, marked}
 use Rattle.res_book.specs.declared.collector.Collector.{Collector}
 use Rattle.res_book.specs.declared.mode.Mode.TheVariants as mode
 use Rattle.res_book.specs.declared.row.Row.{Row}

@@ -1,5 +1,5 @@
 -- Resources, collectors, a world and small sites, for the examples.
-use Rattle.std.proofs.Common.{ℕ, Bool, false, List, [], ◌∷◌, Option, None, Some, Result, Ok, Err, codes}
+use Rattle.std.proofs.Common.{ℕ, Bool, false, List, [], ◌∷◌, None, Some, Result, Ok, Err, codes}
 use Rattle.pp_tree.specs.Building.{name_at, define_of, param}
 use Rattle.pp_tree.specs.Tables.{Entries}
 use Rattle.pp_tree.specs.declared.definition.Definition.TheVariants as definition

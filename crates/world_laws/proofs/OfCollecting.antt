@@ -18,7 +18,6 @@ use Rattle.eval_collecting.specs.Importing.{item_of, declare_rule, import_rule, 
 use Rattle.eval_collecting.specs.Importing.{import_match}
 use Rattle.eval_collecting.specs.Matching.{takes_at, mark, take, take_if, local_match}
 use Rattle.eval_resources.specs.declared.known_kind.KnownKind.{KnownKind}
-use Rattle.eval_world.specs.Outcomes.{Step}
 use Rattle.eval_world.specs.Owners.{owner_at}
 use Rattle.eval_world.specs.Worlds.{put}
 use Rattle.eval_world.specs.declared.world.World.{World}

@@ -94,7 +94,7 @@ one_taken c q k added n zero w from to is other = absurd (omega (arith, from, to
 one_taken c q k added n (suc left) w from to is other =
     ⊎_elim (λ e. one_at c q k added n left w e.1 is other)
     (λ e. ap (λ o. go_on o (λ more. take_from c (more || added) (n + 1) left)) (passes_others c n q w is (other n e.1))
-        ∙ one_taken c q k added (n + 1) left w (omega (arith, from, e.1)) (omega (arith, to)) is other)
+    ∙ one_taken c q k added (n + 1) left w (omega (arith, from, e.1)) (omega (arith, to)) is other)
     (eqb_tells n k)
 
 -- ---- all declarations

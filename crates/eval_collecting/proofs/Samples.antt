@@ -95,8 +95,10 @@ nothing = site_of []
 -- one with `define vhost($port) { }`
 abbrev pub vhost : Environment
 vhost = site_of
-    ((Code (codes "vhost"),
-    definition.Define (define_of (name_at (codes "vhost") 1) (param None (codes "port") None 1 ∷ []) [] 1)) ∷ [])
+    ((
+      Code (codes "vhost"),
+      definition.Define (define_of (name_at (codes "vhost") 1) (param None (codes "port") None 1 ∷ []) [] 1),
+    ) ∷ [])
 
 -- ---- worlds
 

@@ -173,7 +173,13 @@ fn tested(
     let at = &exported.node_place;
     let known = check_kind(alloc, environment, item.kind.as_text(), at)?;
     let reference = reference_of(alloc, item)?;
-    check_attributes(alloc, &reference, &known.known, at, item.attributes.as_slice())?;
+    check_attributes(
+        alloc,
+        &reference,
+        &known.known,
+        at,
+        item.attributes.as_slice(),
+    )?;
     Ok(known)
 }
 

@@ -63,7 +63,8 @@ none_taken : (c : ℕ) (q : Reference) (added : Bool) (n left : ℕ) (w : World)
 unfolding take_from
 none_taken c q added n zero w is other = refl
 none_taken c q added n (suc left) w is other =
-    ap (λ o. go_on o (λ more. take_from c (more || added) (n + 1) left)) (passes_others c n q w is (other n (omega arith)))
+    ap (λ o. go_on o (λ more. take_from c (more || added) (n + 1) left))
+    (passes_others c n q w is (other n (omega arith)))
     ∙ none_taken c q added (n + 1) left w is (λ m past. other m (omega (arith, past)))
 
 -- of a reference that was asked for, and of all others but one

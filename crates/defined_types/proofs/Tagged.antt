@@ -60,7 +60,8 @@ module _ (c : ℕ) (t kind node : List ℕ) where
 
 narrowed : (c : ℕ) (kind node : List ℕ) (ps : List Placed) (tag : Option (List ℕ)) (added : Bool) (w : World) →
     needed_tag w c ≡ tag →
-    take_imports c added (filter (is_found kind None node) ps) w ≡ take_imports c added (filter (is_found kind tag node) ps) w
+    take_imports c added (filter (is_found kind None node) ps) w
+    ≡ take_imports c added (filter (is_found kind tag node) ps) w
 narrowed c kind node ps None added w needs = refl
 narrowed c kind node ps (Some t) added w needs = all_same c t kind node ps added w needs
 

@@ -10,8 +10,8 @@ use pp_values::{Stop, Text};
 use res_core::Exported;
 use std::alloc::Global;
 
-/// Has a collector import what it finds. `added` says whether it added something before. Where all that it finds has some
-/// tag, only what has that tag is looked at.
+/// Has a collector import what it finds. `added` says whether it added something before. Where all that it finds has
+/// some tag, only what has that tag is looked at.
 #[tactic(auto, using(crate::proofs::Tagged::tagged_alone))]
 pub fn import_all(
     alloc: Global,

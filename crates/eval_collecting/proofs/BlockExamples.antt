@@ -88,7 +88,8 @@ changed_before m = refl
 
 -- each collector applies its own
 two_collectors : (m : Environment) → settled (go_on
-    (local_match 0 0 (with_rows (row mode.Exported ∷ []) (with_block false ∷ with_block true ∷ []) m)) (λ b. local_match 1 0))
+    (local_match 0 0 (with_rows (row mode.Exported ∷ []) (with_block false ∷ with_block true ∷ []) m))
+    (λ b. local_match 1 0))
     ≡ Ok (true, message_is (codes "x") ∷ [])
 unfolding local_match take block_applied apply_block lines_added takes attributes_of after_lines names_within
 two_collectors m = refl

@@ -71,7 +71,8 @@ unfolding local_match take block_applied takes
 first_time m = refl
 
 second_time : (m : Environment)
-    → shown (go_on (local_match 0 0 (with_rows (row mode.Virtual ∷ []) (collector false all ∷ []) m)) (λ b. local_match 0 0))
+    → shown (go_on (local_match 0 0 (with_rows (row mode.Virtual ∷ []) (collector false all ∷ []) m))
+    (λ b. local_match 0 0))
     ≡ Ok (false, true ∷ [])
 unfolding local_match take block_applied takes
 second_time m = refl

@@ -43,9 +43,9 @@ fn tag_of(collector: &Collector) -> Option<&Text>
     }
 }
 
-/// Whether one collector finds the resource that a node exports at this place of its set, which is declared then unless it
-/// was imported before, and to which the collector's block is applied where it was not before: true exactly where it is
-/// declared here, or the block is applied now.
+/// Whether one collector finds the resource that a node exports at this place of its set, which is declared then unless
+/// it was imported before, and to which the collector's block is applied where it was not before: true exactly where it
+/// is declared here, or the block is applied now.
 #[tactic(auto, unfolding(crate::specs::Importing::import_match))]
 pub fn import_match(
     world: &mut World<'_>,

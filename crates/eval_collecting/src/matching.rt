@@ -14,8 +14,8 @@ use res_book::{Book, Collector, Mode, Row};
 use res_core::{Attributes, Resource};
 use std::alloc::Global;
 
-/// Whether one collector takes one local declaration, which is marked then, and to which the collector's block is applied
-/// where it was not before: true exactly where the mark makes it live, or the block is applied now.
+/// Whether one collector takes one local declaration, which is marked then, and to which the collector's block is
+/// applied where it was not before: true exactly where the mark makes it live, or the block is applied now.
 #[tactic(auto, unfolding(crate::specs::Matching::local_match), using(crate::proofs::Numbers::none_taken))]
 pub fn local_match(world: &mut World<'_>, collector: u32, number: u32) -> Result<bool, Stop>
     ensures { Gives same (spec.local_match collector number world.old) result world.new }

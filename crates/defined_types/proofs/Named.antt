@@ -1,8 +1,7 @@
 -- A collector of the function `realize` takes one declaration at most, which its reference finds.
 use Rattle.std.proofs.Common.{◌≡◌, ℕ, zero, suc, ◌+◌, ◌<◌, ◌≤◌, Bool, true, false, ◌||◌, ◌&&◌, List, length, Option, None, Some, Ok, Err, refl, sym, ap, ◌∙◌, arith, ⊎_elim}
 use Rattle.std.proofs.Math.Bool.{or-false}
-use Rattle.std.proofs.lemmas.Bool.{eqb_tells}
-use Rattle.std.proofs.lemmas.Option.{some-injective}
+use Rattle.std.proofs.lemmas.Bool.Decides.{eqb_tells}
 use Rattle.std.proofs.lemmas.Slice.Eq.{bytes_eq-Decides}
 use Rattle.std.specs.Prelude.{slice_get}
 use Rattle.std.specs.Str.{bytes_eq}
@@ -110,8 +109,9 @@ by_number c q w None is apart none =
     none_taken c q false 0 (length w.book) w is
     (λ m past. others w.book q m apart (λ at. let told : None ≡ Some m = sym none ∙ at in absurd cc))
 by_number c q w (Some k) is apart found =
-    one_taken c q k false 0 (length w.book) w (omega arith) (number_of-below q w.book k found) is
-    (λ m apart_from. others w.book q m apart (λ at. apart_from (some-injective (sym at ∙ found))))
+    one_taken c q k false 0 (length w.book) w (omega arith) (omega (arith, number_of-below q w.book k found)) is
+    (λ m apart_from. others w.book q m apart (λ at.
+    let both_found : Some m ≡ Some k = sym at ∙ found in let same : m ≡ k = cc in apart_from same))
     ∙ as_it_is (local_match c k w)
 
 pub only_named : (c : ℕ) (q : Reference) (w : World) → realized w c ≡ Some q → AreApart w.book →

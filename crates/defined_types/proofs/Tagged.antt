@@ -13,7 +13,7 @@ use Rattle.eval_world.specs.Outcomes.{Outcome, go_on}
 use Rattle.eval_world.specs.declared.world.World.{World}
 use Rattle.defined_types.proofs.PlaceLemmas.{placed_found}
 use Rattle.defined_types.specs.ImportPlaces.{all_placed_at}
-use Rattle.defined_types.specs.Rounds.{take_imports, others}
+use Rattle.defined_types.specs.Rounds.{take_imports}
 
 module _ (c : ℕ) (t kind node : List ℕ) where
   abbrev Of : List Collector → Type 0
@@ -66,8 +66,8 @@ narrowed c kind node ps None added w needs = refl
 narrowed c kind node ps (Some t) added w needs = all_same c t kind node ps added w needs
 
 pub tagged_alone : (c : ℕ) (added : Bool) (kind node : List ℕ) (sets : Sets) (w : World) →
-    take_imports c added (others kind node sets) w
-    ≡ take_imports c added (all_placed_at sets (found kind (needed_tag w c) node sets)) w
+    take_imports c added (all_placed_at sets (found kind (needed_tag w c) node sets)) w
+    ≡ take_imports c added (filter (is_found kind None node) (exports_of sets)) w
 tagged_alone c added kind node sets w =
-    narrowed c kind node (exports_of sets) (needed_tag w c) added w refl
-    ∙ ap (λ ps. take_imports c added ps w) (sym (placed_found sets kind (needed_tag w c) node))
+    ap (λ ps. take_imports c added ps w) (placed_found sets kind (needed_tag w c) node)
+    ∙ sym (narrowed c kind node (exports_of sets) (needed_tag w c) added w refl)

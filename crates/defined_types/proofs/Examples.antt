@@ -1,12 +1,12 @@
 -- What the definitions give on worked examples.
-use Rattle.std.proofs.Common.{◌≡◌, ℕ, Bool, true, false, List, [], ◌∷◌, None, Some, Result, Ok, Err, refl, codes}
+use Rattle.std.proofs.Common.{◌≡◌, ℕ, Bool, true, false, List, [], ◌∷◌, filter, None, Some, Result, Ok, Err, refl, codes}
 use Rattle.std.specs.FinMap as fin
 use Rattle.pp_values.specs.Datum as d
 use Rattle.pp_values.specs.Faults as faults
 use Rattle.pp_values.specs.declared.fault.Fault.{Fault}
 use Rattle.pp_values.specs.declared.fault.What.TheVariants as what
 use Rattle.pp_values.specs.declared.place.Place.{Place}
-use Rattle.export_store.specs.ExportQueries.{Placed}
+use Rattle.export_store.specs.ExportQueries.{Placed, is_found}
 use Rattle.export_store.specs.Sets.{Sets}
 use Rattle.override_rules.specs.Rights.{line_tests}
 use Rattle.res_book.specs.Rows.{new_row}
@@ -105,6 +105,14 @@ import_twice : (m : Environment)
     ≡ Err (faults.fault (place 5) (what.Duplicate (record { kind = codes "notify"; title = codes "a" }) (place 1)))
 unfolding take_imports import_match finds import_once import_rule block_applied tested kind_checked native_of natives.attributes_of settings_known known_checked declare_rule owner_at line_tests
 import_twice m = refl
+
+-- what a node published before is not given to it
+not_its_own : filter (is_found (codes "notify") None (codes "o")) (from_other 0 (codes "y") ∷ []) ≡ []
+not_its_own = refl
+
+by_another_node : filter (is_found (codes "notify") None (codes "n")) (from_other 0 (codes "y") ∷ [])
+    ≡ from_other 0 (codes "y") ∷ []
+by_another_node = refl
 
 -- `<| |>` imports nothing
 local_collector : (m : Environment) → imports (with_two (collector false all ∷ []) m) 0 ≡ None

@@ -1,5 +1,5 @@
 -- What one collector takes: marks, blocks, imports.
-use Rattle.std.proofs.Common.{ℕ, Bool, true, false, ◌||◌, List, [], ◌∷◌, Option, None, Some, Result, Ok, Err, sym, subst}
+use Rattle.std.proofs.Common.{ℕ, Bool, true, false, ◌||◌, List, [], ◌∷◌, Option, None, Some, Result, Ok, Err, refl, sym, subst}
 use Rattle.std.specs.Prelude.{IsTrue}
 use Rattle.override_rules.specs.Lines.{Line}
 use Rattle.override_rules.specs.Meaning.{State, line_added, test_of, tested, row_of, with_line}
@@ -75,7 +75,7 @@ put_lines_grow ls = record {
 -- ---- blocks
 
 still : (a b : Bool) → IsTrue b → IsTrue (a || b)
-still true b is = tt
+still true b is = refl
 still false b is = is
 
 -- a block that was applied to a declaration stays so
@@ -95,7 +95,7 @@ mark_applied_grows c n = record {
 
 apply_grows : (c n : ℕ) (ls : List Line) → Grows (apply_block c n ls)
 unfolding apply_block
-apply_grows c n ls = and_then (mark_applied_grows c n) (λ u. and_then (put_lines_grow ls) (λ v. pure_grows))
+apply_grows c n ls = and_then (mark_applied_grows c n) (λ u. and_then (put_lines_grow ls) (λ v. pure_grows {a = true}))
 
 apply_if_grows : (b : Bool) (c n : ℕ) (ls : List Line) → Grows (apply_if b c n ls)
 apply_if_grows true c n ls = apply_grows c n ls
@@ -135,14 +135,14 @@ declare_grows owner node place k e =
 import_grows : (owner : ℕ) (node : List ℕ) (place : ℕ) (e : Exported) → Grows (import_rule owner node place e)
 unfolding import_rule
 import_grows owner node place e = and_then (answer_grows _) (λ k. and_then (declare_grows owner node place k e)
-    (λ n. and_then (answer_grows _) (λ u. pure_grows)))
+    (λ n. and_then (answer_grows _) (λ u. pure_grows {a = n})))
 
 import_once_grows : (n : Option ℕ) (c owner : ℕ) (node : List ℕ) (place : ℕ) (e : Exported) →
     Grows (import_once n c owner node place e)
 unfolding import_once
 import_once_grows (Some n) c owner node place e = block_grows c n
 import_once_grows None c owner node place e =
-    and_then (import_grows owner node place e) (λ n. and_then (block_grows c n) (λ b. pure_grows))
+    and_then (import_grows owner node place e) (λ n. and_then (block_grows c n) (λ b. pure_grows {a = true}))
 
 import_for_grows : (owner : Option ℕ) (c : ℕ) (node : List ℕ) (place : ℕ) (e : Exported) →
     Grows (import_for owner c node place e)

@@ -113,7 +113,7 @@ mark_grows n = record { reaches = λ w. book_grows w (with_mark n w.book) (grows
 
 take_grows : (c n : ℕ) → Grows (take c n)
 unfolding take
-take_grows c n = and_then (mark_grows n) (λ b. and_then (block_grows c n) (λ d. pure_grows))
+take_grows c n = and_then (mark_grows n) (λ b. and_then (block_grows c n) (λ d. pure_grows {a = b || d}))
 
 take_if_grows : (b : Bool) (c n : ℕ) → Grows (take_if b c n)
 take_if_grows true c n = take_grows c n

@@ -19,7 +19,7 @@ use crate::nodes::{has_nodes, node_of};
 use crate::running::run;
 use crate::starting::start_world;
 use eval_classes::{BodyOwner, enter_body, run_instance};
-use eval_collecting::{import_match, imports, local_match};
+use eval_collecting::{import_match, imports, local_match, needed_tag, realized};
 use eval_world::{Environment, Evaluated, Forms, Goal, Here, World};
 use override_rules::Overrides;
 use pp_tree::definition::Node;
@@ -27,7 +27,7 @@ use pp_tree::expr::Expr;
 use pp_tree::file::File;
 use pp_tree::statement::Block;
 use pp_tree::table::Table;
-use pp_values::{Fault, MAIN_MANIFEST, Memory, Place, Stop, Text, Value, What};
+use pp_values::{Fault, MAIN_MANIFEST, Memory, Place, Reference, Stop, Text, Value, What};
 use res_book::{Book, Relations};
 use res_core::{Attributes, Exported, LogLines};
 use scope_core::{ScopeId, ScopeKind, Scopes};
@@ -167,8 +167,9 @@ impl<'a> Evaluator<'a> {
         run_instance(&forms, &mut self.world, number)
     }
 
-    /// Has one collector take one local declaration, which is marked then: true exactly where that makes it live. It is
-    /// counted, whatever the answer. Both are given by their numbers.
+    /// Has one collector take one local declaration, which is marked then, and to which the collector's block is applied
+    /// where it was not before: true exactly where the mark makes it live, or the block is applied now. It is counted,
+    /// whatever the answer. Both are given by their numbers.
     pub fn local_match(&mut self, collector: u32, number: u32) -> Result<bool, Stop>
         ensures world { Gives same (matching.local_match collector number self.old.world) result self.new.world }
         ensures node { self.new.node ≡ self.old.node }
@@ -178,8 +179,9 @@ impl<'a> Evaluator<'a> {
         local_match(&mut self.world, collector, number)
     }
 
-    /// Has one collector import the resource that a node exports at this place of its set: true exactly where it is
-    /// declared here. The collector is given by its number.
+    /// Has one collector import the resource that a node exports at this place of its set, unless it was imported before,
+    /// and apply its block to it where it was not applied before: true exactly where the resource is declared here, or
+    /// the block is applied now. The collector is given by its number.
     pub fn import_match(
         &mut self,
         collector: u32,
@@ -207,6 +209,21 @@ impl<'a> Evaluator<'a> {
         ensures { option_copied result ≡ importing.imports self.now.world collector }
     {
         imports(&self.world, collector)
+    }
+
+    /// A tag that all has which a collector finds, where its query tells one. The collector is given by its number.
+    pub fn needed_tag(&self, collector: u32) -> Option<&Text>
+        ensures { option_copied result ≡ importing.needed_tag self.now.world collector }
+    {
+        needed_tag(&self.world, collector)
+    }
+
+    /// The one reference that a collector asks for, where it comes from the function `realize`. The collector is given by
+    /// its number.
+    pub fn realized(&self, collector: u32) -> Option<&Reference>
+        ensures { option_copied result ≡ matching.realized self.now.world collector }
+    {
+        realized(&self.world, collector)
     }
 
     /// How many override lines so far are on the declaration, and how many defaults so far are for its kind.

@@ -1,3 +1,4 @@
 mod Examples
 pub mod Inner
 pub mod Needed
+pub mod Unread

@@ -3,6 +3,8 @@
 
 pub mod matching;
 mod needing;
+mod reading;
 
 pub use matching::matches;
 pub use needing::needed_tag;
+pub use reading::reads_attributes;

@@ -1,12 +1,12 @@
 -- What the definitions give on worked examples.
-use Rattle.std.proofs.Common.{◌≡◌, ℕ, Bool, true, false, List, [], ◌∷◌, None, Some, Result, Ok, Err, refl, codes}
+use Rattle.std.proofs.Common.{◌≡◌, ℕ, Bool, true, false, List, [], ◌∷◌, filter, None, Some, Result, Ok, Err, refl, codes}
 use Rattle.std.specs.FinMap as fin
 use Rattle.pp_values.specs.Datum as d
 use Rattle.pp_values.specs.Faults as faults
 use Rattle.pp_values.specs.declared.fault.Fault.{Fault}
 use Rattle.pp_values.specs.declared.fault.What.TheVariants as what
 use Rattle.pp_values.specs.declared.place.Place.{Place}
-use Rattle.export_store.specs.ExportQueries.{Placed}
+use Rattle.export_store.specs.ExportQueries.{Placed, is_found}
 use Rattle.export_store.specs.Sets.{Sets}
 use Rattle.override_rules.specs.Rights.{line_tests}
 use Rattle.res_book.specs.Rows.{new_row}
@@ -18,9 +18,10 @@ use Rattle.res_core.specs.Criteria.{Criterion, all, by_tag}
 use Rattle.res_core.specs.NativeTypes as natives
 use Rattle.res_core.specs.NativeTypes.{native_of}
 use Rattle.res_core.specs.declared.resource.Resource.{Resource}
-use Rattle.eval_collecting.specs.Importing.{finds, tested, declare_rule, import_rule, import_match, imports}
-use Rattle.eval_resources.specs.Checks.{settings_known}
-use Rattle.eval_collecting.specs.Matching.{takes, local_match}
+use Rattle.eval_collecting.specs.Blocks.{block_applied}
+use Rattle.eval_collecting.specs.Importing.{finds, tested, declare_rule, import_rule, import_once, import_match, imports}
+use Rattle.eval_collecting.specs.Matching.{takes, take, local_match}
+use Rattle.eval_resources.specs.Checks.{kind_checked, settings_known}
 use Rattle.eval_world.specs.Environment.{Environment}
 use Rattle.eval_world.specs.Outcomes.{Outcome}
 use Rattle.eval_world.specs.Owners.{owner_at}
@@ -84,7 +85,7 @@ both x y = (codes "a", x) ∷ (codes "b", y) ∷ []
 
 by_tag_alone : (m : Environment) → shown (collector_turn 0 (codes "n") nothing (with_two (asks_for (codes "u") ∷ []) m))
     ≡ Ok (true, both false true)
-unfolding collector_turn take_from local_match takes
+unfolding collector_turn take_from local_match take block_applied takes
 by_tag_alone m = refl
 
 -- what other nodes export comes behind what is declared here, and once
@@ -96,14 +97,22 @@ imports_in_order : (m : Environment)
     → shown (take_imports 0 false (from_other 0 (codes "y") ∷ from_other 1 (codes "x") ∷ from_other 0 (codes "y") ∷ [])
     (with_two (collector true all ∷ []) m))
     ≡ Ok (true, (codes "a", false) ∷ (codes "b", false) ∷ (codes "y", false) ∷ (codes "x", false) ∷ [])
-unfolding take_imports import_match finds import_rule tested native_of natives.attributes_of settings_known known_checked declare_rule owner_at line_tests
+unfolding take_imports import_match finds import_once import_rule block_applied tested kind_checked native_of natives.attributes_of settings_known known_checked declare_rule owner_at line_tests
 imports_in_order m = refl
 
 import_twice : (m : Environment)
     → shown (take_imports 0 false (from_other 0 (codes "a") ∷ []) (with_two (collector true all ∷ []) m))
     ≡ Err (faults.fault (place 5) (what.Duplicate (record { kind = codes "notify"; title = codes "a" }) (place 1)))
-unfolding take_imports import_match finds import_rule tested native_of natives.attributes_of settings_known known_checked declare_rule owner_at line_tests
+unfolding take_imports import_match finds import_once import_rule block_applied tested kind_checked native_of natives.attributes_of settings_known known_checked declare_rule owner_at line_tests
 import_twice m = refl
+
+-- what a node published before is not given to it
+not_its_own : filter (is_found (codes "notify") None (codes "o")) (from_other 0 (codes "y") ∷ []) ≡ []
+not_its_own = refl
+
+by_another_node : filter (is_found (codes "notify") None (codes "n")) (from_other 0 (codes "y") ∷ [])
+    ≡ from_other 0 (codes "y") ∷ []
+by_another_node = refl
 
 -- `<| |>` imports nothing
 local_collector : (m : Environment) → imports (with_two (collector false all ∷ []) m) 0 ≡ None
@@ -118,17 +127,17 @@ exported_collector m = refl
 two_rounds : (m : Environment)
     → shown (rounds_left 2 (codes "n") nothing (with_two (asks_for (codes "u") ∷ asks_for (codes "t") ∷ []) m))
     ≡ Ok (tt, both true true)
-unfolding rounds_left round run_instances turns_from collector_turn take_from local_match takes native_of
+unfolding rounds_left round run_instances turns_from collector_turn take_from local_match take block_applied takes native_of
 two_rounds m = refl
 
 -- F27 where the last round still adds something
 one_round_alone : (m : Environment)
     → shown (rounds_left 1 (codes "n") nothing (with_two (asks_for (codes "u") ∷ []) m))
     ≡ Err (faults.fault (place 1) what.RoundLimit)
-unfolding rounds_left round run_instances turns_from collector_turn take_from local_match takes owner_at native_of
+unfolding rounds_left round run_instances turns_from collector_turn take_from local_match take block_applied takes owner_at native_of
 one_round_alone m = refl
 
 nothing_to_take : (m : Environment)
     → shown (rounds_left 1 (codes "n") nothing (with_two (asks_for (codes "v") ∷ []) m)) ≡ Ok (tt, both false false)
-unfolding rounds_left round run_instances turns_from collector_turn take_from local_match takes native_of
+unfolding rounds_left round run_instances turns_from collector_turn take_from local_match take block_applied takes native_of
 nothing_to_take m = refl

@@ -1,4 +1,6 @@
 mod Counts
 mod Examples
+mod Named
 mod Pending
 mod PlaceLemmas
+mod Tagged

@@ -1,4 +1,5 @@
 -- What the clauses of `site_main` rest on, and a reader has to believe: Rounds
--- What functions promise one another, what types keep, and what proofs read: ImportPlaces
+-- What functions promise one another, what types keep, and what proofs read: ImportPlaces, Named
 pub mod ImportPlaces
+pub mod Named
 pub mod Rounds

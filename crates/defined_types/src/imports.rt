@@ -10,8 +10,9 @@ use pp_values::{Stop, Text};
 use res_core::Exported;
 use std::alloc::Global;
 
-/// Has a collector import what it finds. `added` says whether it added something before.
-#[tactic(auto, using(crate::proofs::PlaceLemmas::placed_found))]
+/// Has a collector import what it finds. `added` says whether it added something before. Where all that it finds has
+/// some tag, only what has that tag is looked at.
+#[tactic(auto, using(crate::proofs::Tagged::tagged_alone))]
 pub fn import_all(
     alloc: Global,
     evaluator: &mut Evaluator<'_>,
@@ -27,7 +28,8 @@ pub fn import_all(
     match evaluator.imports(collector) {
         None => Ok(added),
         Some(kind) => {
-            let places = sets.exported(alloc, kind, None, node)?;
+            let tag = evaluator.needed_tag(collector);
+            let places = sets.exported(alloc, kind, tag, node)?;
             import_places(evaluator, collector, added, sets, places.as_slice())
         }
     }

@@ -1,14 +1,17 @@
 //! Rounds.
 ghost use Rattle.std.specs.Prelude.{◌≡◌};
+ghost use Rattle.defined_types.specs.Named as named;
 ghost use Rattle.defined_types.specs.Rounds as spec;
 ghost use Rattle.eval_world.specs.Outcomes.{Gives, nothing, same};
+ghost use Rattle.res_book.specs.Rows.{AreApart, number_of};
 
 use crate::imports::import_all;
 use crate::instances::run_pending;
 use class_eval::Evaluator;
 use eval_world::Here;
 use export_store::Version;
-use pp_values::{Stop, Text, What};
+use pp_values::{Reference, Stop, Text, What};
+use res_book::Book;
 use std::alloc::Global;
 
 /// How many rounds a compile may have.
@@ -89,8 +92,47 @@ fn turn(
     import_all(alloc, evaluator, collector, added, sets, node)
 }
 
-#[tactic(auto, using(crate::proofs::Counts::one_local, crate::proofs::Counts::no_local))]
+/// What a collector takes of what is declared here. One that comes from the function `realize` looks up the declaration
+/// that it names.
+#[tactic(auto, using(crate::proofs::Named::only_named))]
 fn take_locals(evaluator: &mut Evaluator<'_>, collector: u32) -> Result<bool, Stop>
+    ensures world { Gives same (spec.take_locals collector evaluator.old.world) result evaluator.new.world }
+    ensures node { evaluator.new.node ≡ evaluator.old.node }
+{
+    match evaluator.realized(collector) {
+        Some(reference) => {
+            let number = find_apart(evaluator.book(), reference);
+            take_named(evaluator, collector, number)
+        }
+        None => take_each(evaluator, collector),
+    }
+}
+
+/// The number of the one declaration that has this reference.
+fn find_apart(book: &Book, reference: &Reference) -> Option<u32>
+    ensures number { result ≡ number_of reference.now book.now }
+    ensures apart { AreApart book.now }
+{
+    book.references_differ();
+    book.find(reference)
+}
+
+fn take_named(
+    evaluator: &mut Evaluator<'_>,
+    collector: u32,
+    number: Option<u32>,
+) -> Result<bool, Stop>
+    ensures world { Gives same (named.take_named collector number evaluator.old.world) result evaluator.new.world }
+    ensures node { evaluator.new.node ≡ evaluator.old.node }
+{
+    match number {
+        Some(number) => evaluator.local_match(collector, number),
+        None => Ok(false),
+    }
+}
+
+#[tactic(auto, using(crate::proofs::Counts::one_local, crate::proofs::Counts::no_local))]
+fn take_each(evaluator: &mut Evaluator<'_>, collector: u32) -> Result<bool, Stop>
     ensures world { Gives same (spec.take_locals collector evaluator.old.world) result evaluator.new.world }
     ensures node { evaluator.new.node ≡ evaluator.old.node }
 {

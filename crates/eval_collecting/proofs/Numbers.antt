@@ -1,10 +1,11 @@
 -- Numbers of no declaration.
-use Rattle.std.proofs.Common.{◌≡◌, ℕ, ◌<◌, false, List, length, Option, None, Some, ap, ◌∙◌, refl, arith}
+use Rattle.std.proofs.Common.{◌≡◌, ℕ, ◌<◌, false, List, [], length, Option, None, Some, ap, ◌∙◌, refl, arith}
 use Rattle.std.specs.Prelude.{slice_get}
 use Rattle.std.proofs.lemmas.Option.{slice_get_past}
 use Rattle.override_rules.specs.Meaning.{State}
 use Rattle.res_book.specs.declared.collector.Collector.{Collector}
 use Rattle.res_book.specs.declared.row.Row.{Row}
+use Rattle.eval_collecting.specs.Blocks.{said_by}
 use Rattle.eval_collecting.specs.Importing.{is_import_of}
 use Rattle.eval_collecting.specs.Matching.{taken_by}
 
@@ -21,3 +22,11 @@ pub no_import : (node : List ℕ) (place : ℕ) (rows : List Row) (n : ℕ) → 
     is_import_of node place (slice_get rows n) ≡ false
 no_import node place rows n outside =
     ap (is_import_of node place) (slice_get_past rows n (omega (arith, outside)))
+
+none_said : (c : Option Collector) → said_by c None ≡ []
+none_said None = refl
+none_said (Some c) = refl
+
+pub nothing_said : (c : Option Collector) (rows : List Row) (n : ℕ) → ¬ (n < length rows) →
+    said_by c (slice_get rows n) ≡ []
+nothing_said c rows n outside = ap (said_by c) (slice_get_past rows n (omega (arith, outside))) ∙ none_said c

@@ -1,3 +1,4 @@
--- What the clauses of `site_main` rest on, and a reader has to believe: Importing, Matching
+-- What the clauses of `site_main` rest on, and a reader has to believe: Blocks, Importing, Matching
+pub mod Blocks
 pub mod Importing
 pub mod Matching

@@ -1,16 +1,17 @@
-//! Resources that other nodes export, as a collector imports them.
+//! Resources that other nodes export, as a collector imports them, and what becomes of them.
 ghost use Rattle.std.specs.Prelude.{◌≡◌, ◌<◌, length, option_copied, slice_get, IfOk};
 ghost use Rattle.eval_collecting.specs.Importing as spec;
-ghost use Rattle.eval_collecting.specs.Matching as matched;
 ghost use Rattle.eval_world.specs.Outcomes.{Gives, same};
 ghost use Rattle.pp_values.specs.Answers.{Answers};
 
+use crate::blocks::apply_block;
 use crate::matching::asks;
-use eval_resources::{check_attributes, container_in};
-use eval_world::{Owner, World};
-use pp_values::{Fault, Memory, Reference, Stop, Text, What};
+use crate::references::reference_of;
+use eval_resources::{KnownKind, check_attributes, check_kind, container_in};
+use eval_world::{Environment, Owner, World};
+use pp_values::{Memory, Stop, Text};
 use res_book::{Book, Collector, Mode};
-use res_core::{Declared, Exported, KnownNames, NativeType, Resource, copy_resource, native};
+use res_core::{Declared, Exported, Resource, copy_resource};
 use std::alloc::Global;
 
 /// The kind whose exports a collector takes, where it takes any.
@@ -23,8 +24,28 @@ pub fn imports<'w>(world: &'w World<'_>, collector: u32) -> Option<&'w Text>
     }
 }
 
-/// Whether one collector imports the resource that a node exports at this place of its set: true exactly where it is
-/// declared here.
+/// A tag that all has which a collector finds, where its query tells one.
+pub fn needed_tag<'w>(world: &'w World<'_>, collector: u32) -> Option<&'w Text>
+    ensures { option_copied result ≡ spec.needed_tag world.now collector }
+{
+    match world.relations.collectors().get(collector as usize) {
+        Some(collector) => tag_of(collector),
+        None => None,
+    }
+}
+
+fn tag_of(collector: &Collector) -> Option<&Text>
+    ensures { option_copied result ≡ spec.tag_by collector.now.realized collector.now.query }
+{
+    match &collector.realized {
+        Some(_) => None,
+        None => collector_query::needed_tag(collector.query.as_query()),
+    }
+}
+
+/// Whether one collector finds the resource that a node exports at this place of its set, which is declared then unless
+/// it was imported before, and to which the collector's block is applied where it was not before: true exactly where it
+/// is declared here, or the block is applied now.
 #[tactic(auto, unfolding(crate::specs::Importing::import_match))]
 pub fn import_match(
     world: &mut World<'_>,
@@ -35,31 +56,42 @@ pub fn import_match(
 ) -> Result<bool, Stop>
     ensures { Gives same (spec.import_match collector node.now place exported.now world.old) result world.new }
 {
-    match new_owner(world, collector, node, place, exported)? {
-        Some(owner) => import(world, owner, node, place, exported),
+    match owner_for(world, collector, exported) {
+        Some(owner) => import_once(world, collector, owner, node, place, exported),
         None => Ok(false),
     }
 }
 
-/// Whose an import of the collector is, where the resource is found and was not imported already.
-fn new_owner(
-    world: &World<'_>,
+/// Whose an import of the collector is, where it finds the resource.
+fn owner_for(world: &World<'_>, collector: u32, exported: &Exported) -> Option<u32>
+    ensures { result ≡ spec.owner_for world.now collector exported.now }
+{
+    match world.relations.collectors().get(collector as usize) {
+        Some(collector) if finds(collector, exported) => Some(collector.owner),
+        _ => None,
+    }
+}
+
+#[tactic(auto, unfolding(crate::specs::Importing::import_once))]
+fn import_once(
+    world: &mut World<'_>,
     collector: u32,
+    owner: u32,
     node: &Text,
     place: u32,
     exported: &Exported,
-) -> Result<Option<u32>, Memory>
-    ensures { IfOk result (λ o. o ≡ spec.new_owner world.now collector node.now place exported.now) }
+) -> Result<bool, Stop>
+    ensures { Gives same (spec.import_once (spec.import_of node.now place exported.now.item world.old.book)
+        collector owner node.now place exported.now world.old) result world.new }
 {
-    match world.relations.collectors().get(collector as usize) {
-        Some(collector) if finds(collector, exported) => {
-            let item = exported.item.as_resource();
-            if was_imported(world.heap.alloc(), &world.book, node, place, item)? {
-                return Ok(None);
-            }
-            Ok(Some(collector.owner))
+    let item = exported.item.as_resource();
+    match import_of(world.heap.alloc(), &world.book, node, place, item)? {
+        Some(number) => apply_block(world, collector, number),
+        None => {
+            let number = import(world, owner, node, place, exported)?;
+            apply_block(world, collector, number)?;
+            Ok(true)
         }
-        _ => Ok(None),
     }
 }
 
@@ -71,19 +103,20 @@ fn finds(collector: &Collector, exported: &Exported) -> bool
     collector.exported && item.kind == collector.kind && asks(collector, item, &item.attributes)
 }
 
-fn was_imported(
+/// The number of what was imported from this place.
+fn import_of(
     alloc: Global,
     book: &Book,
     node: &Text,
     place: u32,
     item: &Resource,
-) -> Result<bool, Memory>
-    ensures { IfOk result (λ b. b ≡ spec.was_imported node.now place item.now book.now) }
+) -> Result<Option<u32>, Memory>
+    ensures { IfOk result (λ o. o ≡ spec.import_of node.now place item.now book.now) }
 {
     let reference = reference_of(alloc, item)?;
     match book.find(&reference) {
-        Some(number) => Ok(is_import_at(book, number, node, place)),
-        None => Ok(false),
+        Some(number) if is_import_at(book, number, node, place) => Ok(Some(number)),
+        _ => Ok(None),
     }
 }
 
@@ -109,15 +142,7 @@ fn is_same_import(mode: &Mode, node: &Text, place: u32) -> bool
     }
 }
 
-fn reference_of(alloc: Global, item: &Resource) -> Result<Reference, Memory>
-    ensures { IfOk result (λ r. r ≡ matched.reference_of item.now) }
-{
-    let kind = item.kind.copy(alloc)?;
-    let title = item.title.copy(alloc)?;
-    Ok(Reference { kind, title })
-}
-
-/// The tests, the declaration, the override lines that came before it.
+/// The tests, the declaration, the override lines that came before it. The answer is its number.
 #[tactic(auto, unfolding(crate::specs::Importing::import_rule))]
 fn import(
     world: &mut World<'_>,
@@ -125,50 +150,37 @@ fn import(
     node: &Text,
     place: u32,
     exported: &Exported,
-) -> Result<bool, Stop>
+) -> Result<u32, Stop>
     ensures { Gives same (spec.import_rule owner node.now place exported.now world.old) result world.new }
 {
     let alloc = world.heap.alloc();
-    let native = tested(alloc, exported)?;
-    let number = declare(world, owner, node, place, native, exported)?;
+    let known = tested(alloc, &world.environment, exported)?;
+    let number = declare(world, owner, node, place, known, exported)?;
     world.overrides.stand(alloc, &world.book, number)?;
-    Ok(true)
+    Ok(number)
 }
 
 /// F5 and F10, as of a local declaration.
 #[tactic(auto, unfolding(crate::specs::Importing::tested))]
-fn tested(alloc: Global, exported: &Exported) -> Result<NativeType, Stop>
-    ensures { Answers result (spec.tested exported.now) }
+fn tested(
+    alloc: Global,
+    environment: &Environment<'_>,
+    exported: &Exported,
+) -> Result<KnownKind, Stop>
+    ensures { Answers result (spec.tested environment.now exported.now) }
 {
     let item = exported.item.as_resource();
-    match native(item.kind.as_text()) {
-        Some(native) => checked(alloc, exported, native),
-        None => Err(Stop::Fault(unknown_type(alloc, exported)?)),
-    }
-}
-
-fn unknown_type(alloc: Global, exported: &Exported) -> Result<Fault, Memory>
-    ensures { IfOk result (λ f. f ≡ spec.unknown_type exported.now) }
-{
-    let at = exported.node_place.copy(alloc)?;
-    let kind = exported.item.as_resource().kind.as_text().copy(alloc)?;
-    Fault::new(alloc, at, What::UnknownType(kind))
-}
-
-fn checked(alloc: Global, exported: &Exported, native: NativeType) -> Result<NativeType, Stop>
-    ensures { Answers result (spec.attributes_checked exported.now native) }
-{
-    let item = exported.item.as_resource();
-    let known = KnownNames::of_native(native);
+    let at = &exported.node_place;
+    let known = check_kind(alloc, environment, item.kind.as_text(), at)?;
     let reference = reference_of(alloc, item)?;
     check_attributes(
         alloc,
         &reference,
-        &known,
-        &exported.node_place,
+        &known.known,
+        at,
         item.attributes.as_slice(),
     )?;
-    Ok(native)
+    Ok(known)
 }
 
 /// Declares the import. The answer is its number.
@@ -178,16 +190,16 @@ fn declare(
     owner: u32,
     node: &Text,
     place: u32,
-    native: NativeType,
+    known: KnownKind,
     exported: &Exported,
 ) -> Result<u32, Stop>
     ensures number { Gives same
-        (spec.declare_rule owner node.now place native exported.now world.old) result world.new }
+        (spec.declare_rule owner node.now place known exported.now world.old) result world.new }
     ensures within { IfOk result (λ n. n < length world.new.book) }
 {
     let alloc = world.heap.alloc();
     let owner = world.owners.get(owner);
-    let item = item_of(alloc, owner, &world.book, native, exported)?;
+    let item = item_of(alloc, owner, &world.book, known, exported)?;
     let node = node.copy(alloc)?;
     world
         .book
@@ -198,17 +210,21 @@ fn item_of(
     alloc: Global,
     owner: &Owner,
     book: &Book,
-    native: NativeType,
+    known: KnownKind,
     exported: &Exported,
 ) -> Result<Declared, Memory>
-    ensures { IfOk result (λ d. d ≡ spec.item_of owner.now book.now native exported.now) }
+    ensures { IfOk result (λ d. d ≡ spec.item_of owner.now book.now known exported.now) }
 {
+    let item = copy_resource(alloc, exported.item.as_resource())?;
+    let at = exported.node_place.copy(alloc)?;
+    let class = owner.source.copy(alloc)?;
+    let KnownKind { kind: _kind, known } = known;
     Ok(Declared {
-        item: copy_resource(alloc, exported.item.as_resource())?,
-        at: exported.node_place.copy(alloc)?,
+        item,
+        at,
         scope: owner.scope,
         container: container_in(book, owner.resource),
-        class: owner.source.copy(alloc)?,
-        known: KnownNames::of_native(native),
+        class,
+        known,
     })
 }

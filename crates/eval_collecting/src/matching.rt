@@ -1,9 +1,11 @@
-//! Local declarations that a collector takes.
+//! Local declarations that a collector takes, and what becomes of them.
 ghost use Rattle.std.specs.Prelude.{◌≡◌, ◌<◌, length, Some, IfOk, option_copied, slice_get};
 ghost use Rattle.eval_collecting.specs.Matching as spec;
 ghost use Rattle.eval_world.specs.Outcomes.{Gives, same};
 ghost use Rattle.override_rules.specs.Names.{attributes_of};
 
+use crate::blocks::apply_block;
+use crate::references::is_named;
 use collector_query::matches;
 use eval_world::World;
 use override_rules::Overrides;
@@ -12,7 +14,8 @@ use res_book::{Book, Collector, Mode, Row};
 use res_core::{Attributes, Resource};
 use std::alloc::Global;
 
-/// Whether one collector takes one local declaration, which is marked then: true exactly where that makes it live.
+/// Whether one collector takes one local declaration, which is marked then, and to which the collector's block is
+/// applied where it was not before: true exactly where the mark makes it live, or the block is applied now.
 #[tactic(auto, unfolding(crate::specs::Matching::local_match), using(crate::proofs::Numbers::none_taken))]
 pub fn local_match(world: &mut World<'_>, collector: u32, number: u32) -> Result<bool, Stop>
     ensures { Gives same (spec.local_match collector number world.old) result world.new }
@@ -21,9 +24,20 @@ pub fn local_match(world: &mut World<'_>, collector: u32, number: u32) -> Result
         return Ok(false);
     }
     if takes_at(world, collector, number)? {
-        return Ok(world.book.realize(number)?);
+        return take(world, collector, number);
     }
     Ok(false)
+}
+
+/// Marks the declaration, and then applies the block.
+#[tactic(auto, unfolding(crate::specs::Matching::take))]
+fn take(world: &mut World<'_>, collector: u32, number: u32) -> Result<bool, Stop>
+    requires { number < length world.old.book }
+    ensures { Gives same (spec.take collector number world.old) result world.new }
+{
+    let came_to_life = world.book.realize(number)?;
+    let applied = apply_block(world, collector, number)?;
+    Ok(came_to_life || applied)
 }
 
 fn takes_at(world: &World<'_>, collector: u32, number: u32) -> Result<bool, Memory>
@@ -42,7 +56,7 @@ fn takes_at(world: &World<'_>, collector: u32, number: u32) -> Result<bool, Memo
     }
 }
 
-#[tactic(auto, unfolding(crate::specs::Matching::takes))]
+#[tactic(auto, unfolding(crate::specs::Matching::takes), using(crate::proofs::Attributes::asks_same))]
 fn takes(
     alloc: Global,
     overrides: &Overrides,
@@ -53,11 +67,35 @@ fn takes(
     requires { number < length book.now }
     ensures { IfOk result (λ b. b ≡ spec.taken_by overrides.now (Some collector.now) (slice_get book.now number)) }
 {
-    if !may_take(collector, book.row(number)) {
+    let row = book.row(number);
+    if !may_take(collector, row) {
         return Ok(false);
     }
-    let set = overrides.attributes(alloc, book, number)?;
-    Ok(asks(collector, &book.row(number).item.item, &set))
+    if !reads_attributes(collector) {
+        return Ok(asks(collector, &row.item.item, &row.item.item.attributes));
+    }
+    let set = overrides.row_attributes(alloc, row)?;
+    Ok(asks(collector, &row.item.item, &set))
+}
+
+/// Whether attributes decide. Else none have to be made.
+fn reads_attributes(collector: &Collector) -> bool
+    ensures { result ≡ spec.reads_attributes collector.now.realized collector.now.query }
+{
+    match &collector.realized {
+        Some(_) => false,
+        None => collector_query::reads_attributes(collector.query.as_query()),
+    }
+}
+
+/// The one reference that a collector asks for, where it comes from the function `realize`.
+pub fn realized<'w>(world: &'w World<'_>, collector: u32) -> Option<&'w Reference>
+    ensures { option_copied result ≡ spec.realized world.now collector }
+{
+    match world.relations.collectors().get(collector as usize) {
+        Some(collector) => collector.realized.as_ref(),
+        None => None,
+    }
 }
 
 /// Whether it is open to the collector and of its kind.
@@ -82,7 +120,7 @@ pub fn asks(collector: &Collector, resource: &Resource, set: &Attributes) -> boo
     ensures { result ≡ spec.asks collector.now.realized collector.now.query resource.now set.now }
 {
     match &collector.realized {
-        Some(wanted) => is_reference_of(wanted, resource),
+        Some(wanted) => is_named(wanted, resource),
         None => matches(
             collector.query.as_query(),
             &resource.title,
@@ -90,11 +128,4 @@ pub fn asks(collector: &Collector, resource: &Resource, set: &Attributes) -> boo
             set,
         ),
     }
-}
-
-#[tactic(auto, unfolding(crate::specs::Matching::named))]
-fn is_reference_of(wanted: &Reference, resource: &Resource) -> bool
-    ensures { result ≡ spec.named wanted.now resource.now }
-{
-    wanted.kind == resource.kind && wanted.title == resource.title
 }

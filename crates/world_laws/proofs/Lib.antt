@@ -11,5 +11,6 @@ mod OfCalls
 mod OfResources
 mod OfOverrides
 mod OfEvaluator
+mod OfCollecting
 mod OfRounds
 mod Examples

@@ -1,67 +1,25 @@
 -- Rounds: what collectors take, and the instances of defines.
-use Rattle.std.proofs.Common.{ℕ, zero, suc, ◌+◌, Bool, true, false, cond, List, [], ◌∷◌, length, Option, None, Some, Result, Ok, Err}
-use Rattle.std.specs.Prelude.{not}
+use Rattle.std.proofs.Common.{ℕ, zero, suc, ◌+◌, Bool, true, false, List, [], ◌∷◌, length, Option, None, Some}
 use Rattle.export_store.specs.ExportQueries.{Placed}
 use Rattle.export_store.specs.Sets.{Sets}
-use Rattle.res_book.proofs.Growth.{grows-mark}
-use Rattle.res_book.specs.Rows.{is_live_at, with_mark}
-use Rattle.res_book.specs.declared.mode.Mode.TheVariants as mode
-use Rattle.res_core.specs.declared.exported.Exported.{Exported}
-use Rattle.res_core.specs.declared.native_type.NativeType.{NativeType}
-use Rattle.eval_world.specs.Outcomes.{Outcome, Step}
-use Rattle.eval_world.specs.Owners.{owner_at}
-use Rattle.eval_world.specs.Worlds.{put}
-use Rattle.eval_world.specs.declared.world.World.{World}
-use Rattle.eval_collecting.specs.Importing.{item_of, declare_rule, import_rule, imports, new_owner, import_for, import_match}
-use Rattle.eval_collecting.specs.Matching.{takes_at, local_match}
+use Rattle.eval_world.specs.Outcomes.{Step}
+use Rattle.eval_collecting.specs.Importing.{imports}
 use Rattle.defined_types.specs.Rounds.{take_from, take_locals, take_imports, import_kind, import_all}
 use Rattle.defined_types.specs.Rounds.{collector_turn, turns_from, all_turns, pending, run_instances, round, again}
 use Rattle.defined_types.specs.Rounds.{rounds_left, rounds, limit}
-use Rattle.world_laws.specs.Growing.{Reaches, Grows}
+use Rattle.world_laws.specs.Growing.{Grows}
+use Rattle.world_laws.proofs.OfCollecting.{local_match_grows, import_match_grows}
 use Rattle.world_laws.proofs.OfEvaluator.{instance_at_grows}
-use Rattle.world_laws.proofs.OfWorld.{put_grows}
-use Rattle.world_laws.proofs.Steps.{and_then, pure_grows, answer_grows, fault_grows, told}
-use Rattle.world_laws.proofs.Worlds.{same_world, book_grows}
+use Rattle.world_laws.proofs.Steps.{and_then, pure_grows, fault_grows, told}
 
 -- ---- local declarations
-
-marks : (b : Bool) (n : ℕ) (w : World) →
-    Reaches {A = Bool} w (cond {A = Outcome Bool} b (Ok (not (is_live_at w.book n), record w { book = with_mark n w.book })) (Ok (false, w)))
-marks true n w = book_grows w (with_mark n w.book) (grows-mark n w.book)
-marks false n w = same_world w
-
-match_grows : (c n : ℕ) → Grows (local_match c n)
-unfolding local_match
-match_grows c n = record { reaches = λ w. marks (takes_at w c n) n w }
 
 takes_grow : (c : ℕ) (added : Bool) (n left : ℕ) → Grows (take_from c added n left)
 unfolding take_from
 takes_grow c added n zero = pure_grows
-takes_grow c added n (suc left) = and_then (match_grows c n) (λ more. takes_grow c _ (n + 1) left)
+takes_grow c added n (suc left) = and_then (local_match_grows c n) (λ more. takes_grow c _ (n + 1) left)
 
 -- ---- imports
-
-declare_grows : (owner : ℕ) (node : List ℕ) (place : ℕ) (n : NativeType) (e : Exported) →
-    Grows (declare_rule owner node place n e)
-unfolding declare_rule
-declare_grows owner node place n e =
-    told (λ w. put (item_of (owner_at owner w.owners) w.book n e) (mode.Imported node place))
-    (λ w. put_grows (item_of (owner_at owner w.owners) w.book n e) (mode.Imported node place))
-
-import_grows : (owner : ℕ) (node : List ℕ) (place : ℕ) (e : Exported) → Grows (import_rule owner node place e)
-unfolding import_rule
-import_grows owner node place e = and_then (answer_grows _) (λ n. and_then (declare_grows owner node place n e)
-    (λ number. and_then (answer_grows _) (λ u. pure_grows)))
-
-import_for_grows : (owner : Option ℕ) (node : List ℕ) (place : ℕ) (e : Exported) →
-    Grows (import_for owner node place e)
-import_for_grows None node place e = pure_grows
-import_for_grows (Some owner) node place e = import_grows owner node place e
-
-import_match_grows : (c : ℕ) (node : List ℕ) (place : ℕ) (e : Exported) → Grows (import_match c node place e)
-unfolding import_match
-import_match_grows c node place e =
-    told (λ w. import_for (new_owner w c node place e) node place e) (λ w. import_for_grows _ node place e)
 
 imports_grow : (c : ℕ) (added : Bool) (ps : List Placed) → Grows (take_imports c added ps)
 unfolding take_imports

@@ -38,7 +38,7 @@ same_relations r = record {
   applied = λ c n is. is;
 }
 
-overrides_on : {r s t : State} → OverridesStay r s → OverridesStay s t → OverridesStay r t
+pub overrides_on : {r s t : State} → OverridesStay r s → OverridesStay s t → OverridesStay r t
 overrides_on f g = record {
   lines = further f.lines g.lines;
   defaults = λ kind scope name d e. g.defaults kind scope name d (f.defaults kind scope name d e);

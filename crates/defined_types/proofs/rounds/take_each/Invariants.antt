@@ -1,7 +1,7 @@
 -- What the declarations that are left add is what all of them add; the node stays.
 use Rattle.std.proofs.Common.{◌≡◌, ◌-◌}
 use Rattle.defined_types.specs.Rounds.{take_from, take_locals}
-use Rattle.defined_types.proofs.rounds.take_locals.Given as goal
+use Rattle.defined_types.proofs.rounds.take_each.Given as goal
 
 abbrev pub invariant-loop-number : goal.invariant-loop-number
 invariant-loop-number l =

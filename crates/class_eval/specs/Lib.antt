@@ -1,5 +1,5 @@
 -- What the clauses of `site_main` rest on, and a reader has to believe: Evaluating, Facts, Meaning, Postfixes,
--- Starting, Statements
+-- Starting, Statements, TypeNames
 -- What functions promise one another, what types keep, and what proofs read: EvaluatorCodes, Evaluators, LeafLaw,
 -- Single, Running
 pub mod Evaluating
@@ -12,4 +12,5 @@ pub mod Postfixes
 pub mod Single
 pub mod Starting
 pub mod Statements
+pub mod TypeNames
 pub mod Running

@@ -10,6 +10,7 @@ mod running;
 mod starting;
 mod statements;
 mod top_names;
+mod type_names;
 
 pub use evaluator::{Evaluator, GREATEST_DEPTH};
 pub use starting::top_scopes;

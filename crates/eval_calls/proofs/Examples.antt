@@ -29,6 +29,7 @@ use Rattle.eval_world.specs.Outcomes.{Outcome, Step, ◌>>=◌, ◌>>◌, pure}
 use Rattle.eval_world.specs.Owners.{owner_at}
 use Rattle.eval_world.specs.Worlds.{empty, fault, read, assign, enter_lambda, write_log}
 use Rattle.eval_world.specs.declared.here.Here.{Here}
+use Rattle.eval_classes.specs.ParameterTypes.{has_type}
 use Rattle.eval_world.specs.Environment.{Environment}
 use Rattle.eval_calls.specs.Calls.{invoked, invoked_on, words_rule}
 use Rattle.eval_calls.specs.Calls.{plain_rule, evaluated_rule, site_rule, log_rule, with_lambda_rule}
@@ -374,10 +375,24 @@ twice : (m : Environment)
 unfolding lambda_rule enter_lambda bind_from bind_rule assign scopes.assign owner_at
 twice m = refl
 
+-- one call of a lambda whose parameter has this type, at line 5
+abbrev typed_by : Datum → Param Expr → List Datum → Step Datum
+typed_by kind p arguments = lambda_rule (inner kind notice_x) (takes (p ∷ [])) arguments 3 top
+
+abbrev typed_x : Param Expr
+typed_x = tree.param (Some given) x None 7
+
+abbrev integers : Datum
+integers = d.kind (of sort.integer none)
+
+-- the argument is of the parameter's type, else F8 at the call; F11 stands at the type
 typed : (m : Environment)
-    → run (lambda_of notice_x (tree.param (Some given) x None 7 ∷ []) (one ∷ [])) m ≡ refuses 7 what.NotBuilt
-unfolding lambda_rule enter_lambda bind_from bind_rule owner_at
-typed m = refl
+    → (run (typed_by integers typed_x (one ∷ [])) m ≡ Ok (one, codes "1" ∷ []))
+    × (run (typed_by integers typed_x (d.undef ∷ [])) m ≡ refuses 3 (what.TypeMismatch x))
+    × (run (typed_by one typed_x (one ∷ [])) m ≡ refuses 5 (what.BadOperand (codes "=~")))
+unfolding lambda_rule enter_lambda bind_from bind_rule has_type assign read write_log scopes.assign scopes.read
+    scopes.found last_cut scopes.seen_from owner_at digits out-Form denote.Hole.Carrier.out
+typed m = (refl, refl, refl)
 
 typed_after_twice : (m : Environment)
     → run (lambda_of notice_x (plain x 7 ∷ plain x 8 ∷ tree.param (Some given) y None 9 ∷ [])

@@ -7,7 +7,8 @@ use Rattle.pp_tree.specs.declared.manifest_file.ManifestFile.{ManifestFile}
 use Rattle.pp_values.specs.Datum as d
 use Rattle.pp_values.specs.Datum.{Datum, Pair, data_of, entries_of}
 use Rattle.pp_values.specs.Faults as faults
-use Rattle.pp_values.specs.Sort.{Sort}
+use Rattle.pp_values.specs.Sort as sort
+use Rattle.pp_values.specs.Sort.{Sort, of, none}
 use Rattle.pp_values.specs.declared.fault.Fault.{Fault}
 use Rattle.pp_values.specs.declared.fault.What.{What}
 use Rattle.pp_values.specs.declared.fault.What.TheVariants as what
@@ -53,7 +54,7 @@ at name value = (t name, value)
 -- ---- keys
 
 abbrev asks : List (List ℕ) → Option Request
-asks keys = Some (record { keys = keys; options = record { has_type = false; merge = None; default = None } })
+asks keys = Some (record { keys = keys; options = record { of_type = None; merge = None; default = None } })
 
 -- a text, or a list of texts, which may be empty
 keys : (request_of (t (codes "k") ∷ []) ≡ asks (codes "k" ∷ [])) × (request_of (t [] ∷ []) ≡ asks ([] ∷ []))
@@ -70,22 +71,22 @@ no_keys = (refl, refl, refl, refl, refl, refl)
 
 -- ---- behind the key
 
-abbrev gives : Bool → Option Merge → Option Datum → Option Options
-gives has_type merge default = Some (record { has_type = has_type; merge = merge; default = default })
+abbrev gives : Option Datum → Option Merge → Option Datum → Option Options
+gives of_type merge default = Some (record { of_type = of_type; merge = merge; default = default })
 
--- a type, whatever it is
-types : (s : Sort) → (options_in [] ≡ gives false None None) × (options_in (d.undef ∷ []) ≡ gives false None None)
-    × (options_in (d.kind s ∷ []) ≡ gives true None None)
-    × (options_in (d.kind s ∷ t (codes "deep") ∷ []) ≡ gives true (Some by.Deep) None)
-    × (options_in (d.kind s ∷ d.undef ∷ n 1 ∷ []) ≡ gives true None (Some (n 1)))
-types s = (refl, refl, refl, refl, refl)
+-- a type, whatever it is, or a reference
+types : (s : Sort) (r : Reference) → (options_in [] ≡ gives None None None) × (options_in (d.undef ∷ []) ≡ gives None None None)
+    × (options_in (d.kind s ∷ []) ≡ gives (Some (d.kind s)) None None)
+    × (options_in (d.kind s ∷ t (codes "deep") ∷ []) ≡ gives (Some (d.kind s)) (Some by.Deep) None)
+    × (options_in (d.kind s ∷ d.undef ∷ n 1 ∷ []) ≡ gives (Some (d.kind s)) None (Some (n 1)))
+    × (options_in (d.reference r ∷ []) ≡ gives (Some (d.reference r)) None None)
+types s r = (refl, refl, refl, refl, refl, refl)
 
-no_types : (r : Reference) → (options_in (n 1 ∷ []) ≡ None) × (options_in (t (codes "hash") ∷ []) ≡ None)
-    × (options_in (list [] ∷ []) ≡ None) × (options_in (d.reference r ∷ []) ≡ None)
-    × (options_in (d.default ∷ []) ≡ None) × (options_in (d.flag false ∷ []) ≡ None)
+no_types : (options_in (n 1 ∷ []) ≡ None) × (options_in (t (codes "hash") ∷ []) ≡ None)
+    × (options_in (list [] ∷ []) ≡ None) × (options_in (d.default ∷ []) ≡ None) × (options_in (d.flag false ∷ []) ≡ None)
     × (options_in (hash [] ∷ d.undef ∷ []) ≡ None)
     × (options_in (hash [] ∷ d.undef ∷ d.undef ∷ []) ≡ None)
-no_types r = (refl, refl, refl, refl, refl, refl, refl, refl)
+no_types = (refl, refl, refl, refl, refl, refl, refl)
 
 abbrev with_merge : Datum → Option Options
 with_merge m = options_in (d.undef ∷ m ∷ [])
@@ -93,12 +94,12 @@ with_merge m = options_in (d.undef ∷ m ∷ [])
 abbrev strategy : Datum → Datum
 strategy name = hash (at (codes "strategy") name ∷ [])
 
-merges : (with_merge d.undef ≡ gives false None None)
-    × (with_merge (t (codes "first")) ≡ gives false (Some by.First) None)
-    × (with_merge (t (codes "unique")) ≡ gives false (Some by.Unique) None)
-    × (with_merge (t (codes "hash")) ≡ gives false (Some by.Hash) None)
-    × (with_merge (t (codes "deep")) ≡ gives false (Some by.Deep) None)
-    × (with_merge (strategy (t (codes "hash"))) ≡ gives false (Some by.Hash) None)
+merges : (with_merge d.undef ≡ gives None None None)
+    × (with_merge (t (codes "first")) ≡ gives None (Some by.First) None)
+    × (with_merge (t (codes "unique")) ≡ gives None (Some by.Unique) None)
+    × (with_merge (t (codes "hash")) ≡ gives None (Some by.Hash) None)
+    × (with_merge (t (codes "deep")) ≡ gives None (Some by.Deep) None)
+    × (with_merge (strategy (t (codes "hash"))) ≡ gives None (Some by.Hash) None)
 merges = (refl, refl, refl, refl, refl, refl)
 
 no_merges : (s : Sort) → (with_merge (t (codes "some")) ≡ None) × (with_merge (t (codes "First")) ≡ None)
@@ -109,9 +110,9 @@ no_merges : (s : Sort) → (with_merge (t (codes "some")) ≡ None) × (with_mer
 no_merges s = (refl, refl, refl, refl, refl, refl, refl, refl, refl)
 
 -- any value, Undef too
-defaults : (options_in (d.undef ∷ d.undef ∷ n 1 ∷ []) ≡ gives false None (Some (n 1)))
-    × (options_in (d.undef ∷ d.undef ∷ d.undef ∷ []) ≡ gives false None (Some d.undef))
-    × (options_in (d.undef ∷ t (codes "deep") ∷ hash [] ∷ []) ≡ gives false (Some by.Deep) (Some (hash [])))
+defaults : (options_in (d.undef ∷ d.undef ∷ n 1 ∷ []) ≡ gives None None (Some (n 1)))
+    × (options_in (d.undef ∷ d.undef ∷ d.undef ∷ []) ≡ gives None None (Some d.undef))
+    × (options_in (d.undef ∷ t (codes "deep") ∷ hash [] ∷ []) ≡ gives None (Some by.Deep) (Some (hash [])))
     × (options_in (d.undef ∷ d.undef ∷ n 1 ∷ n 2 ∷ []) ≡ None)
 defaults = (refl, refl, refl, refl)
 
@@ -120,16 +121,16 @@ defaults = (refl, refl, refl, refl)
 abbrev named : List Pair → Option Options
 named ps = options_in (hash ps ∷ [])
 
-options : (s : Sort) → (named [] ≡ gives false None None)
-    × (named (at (codes "value_type") (d.kind s) ∷ []) ≡ gives true None None)
-    × (named (at (codes "value_type") d.undef ∷ []) ≡ gives false None None)
-    × (named (at (codes "merge") (t (codes "unique")) ∷ []) ≡ gives false (Some by.Unique) None)
-    × (named (at (codes "merge") (strategy (t (codes "deep"))) ∷ []) ≡ gives false (Some by.Deep) None)
-    × (named (at (codes "merge") d.undef ∷ []) ≡ gives false None None)
-    × (named (at (codes "default_value") (n 1) ∷ []) ≡ gives false None (Some (n 1)))
-    × (named (at (codes "default_value") d.undef ∷ []) ≡ gives false None (Some d.undef))
+options : (s : Sort) → (named [] ≡ gives None None None)
+    × (named (at (codes "value_type") (d.kind s) ∷ []) ≡ gives (Some (d.kind s)) None None)
+    × (named (at (codes "value_type") d.undef ∷ []) ≡ gives None None None)
+    × (named (at (codes "merge") (t (codes "unique")) ∷ []) ≡ gives None (Some by.Unique) None)
+    × (named (at (codes "merge") (strategy (t (codes "deep"))) ∷ []) ≡ gives None (Some by.Deep) None)
+    × (named (at (codes "merge") d.undef ∷ []) ≡ gives None None None)
+    × (named (at (codes "default_value") (n 1) ∷ []) ≡ gives None None (Some (n 1)))
+    × (named (at (codes "default_value") d.undef ∷ []) ≡ gives None None (Some d.undef))
     × (named (at (codes "default_value") (n 1) ∷ at (codes "value_type") (d.kind s)
-    ∷ at (codes "merge") (t (codes "hash")) ∷ []) ≡ gives true (Some by.Hash) (Some (n 1)))
+    ∷ at (codes "merge") (t (codes "hash")) ∷ []) ≡ gives (Some (d.kind s)) (Some by.Hash) (Some (n 1)))
 options s = (refl, refl, refl, refl, refl, refl, refl, refl, refl)
 
 no_options : (named (at (codes "value_type") (t (codes "String")) ∷ []) ≡ None)
@@ -155,7 +156,7 @@ lookup arguments here = lookup_rule (codes "lookup") arguments 3 here
 abbrev given : Environment → List Datum → Result Datum Fault
 given e arguments = shown (lookup arguments top (empty e))
 
--- F7 comes before F31, and both before any key is looked up: they don't depend on the data
+-- F7 comes before any key is looked up: it doesn't depend on the data
 refused_first : (e : Environment) (s : Sort)
     → (given e [] ≡ refuses (what.WrongArguments (codes "lookup")))
     × (given e (t (codes "k") ∷ n 1 ∷ []) ≡ refuses (what.WrongArguments (codes "lookup")))
@@ -163,11 +164,8 @@ refused_first : (e : Environment) (s : Sort)
     ≡ refuses (what.WrongArguments (codes "lookup")))
     × (given e (t (codes "k") ∷ hash (at (codes "value_type") (d.kind s) ∷ at (codes "other") (n 1) ∷ []) ∷ [])
     ≡ refuses (what.WrongArguments (codes "lookup")))
-    × (given e (t (codes "k") ∷ d.kind s ∷ []) ≡ refuses what.NotBuilt)
-    × (given e (list [] ∷ hash (at (codes "value_type") (d.kind s) ∷ at (codes "default_value") (n 1) ∷ []) ∷ [])
-    ≡ refuses what.NotBuilt)
 unfolding lookup_rule keys_from owner_at
-refused_first e s = (refl, refl, refl, refl, refl, refl)
+refused_first e s = (refl, refl, refl, refl)
 
 -- no key: whatever the data
 without_keys : (e : Environment)
@@ -212,6 +210,22 @@ unfolding lookup_rule found_rule first_found keys_from owner_at look_up go_on in
     in_module pieces_from path_form form_of method_of whole_alias cut_at trimmed_start trimmed_end look look_within
     interpolated answers answer option_for merge_for option_in bad_options found found_in serde_json_on_literals
 missing f fs = (refl, refl, refl, refl)
+
+abbrev integers : Datum
+integers = d.kind (of sort.integer none)
+
+-- what is found, or the default, is of the type, else F8
+typed : (f : File) (fs : List (List ℕ × ManifestFile))
+    → (given (site f fs) (t (codes "k") ∷ integers ∷ []) ≡ Ok (n 1))
+    × (given (site f fs) (t (codes "l") ∷ integers ∷ []) ≡ refuses (what.TypeMismatch (codes "lookup")))
+    × (given (site f fs) (t (codes "none") ∷ integers ∷ d.undef ∷ n 2 ∷ []) ≡ Ok (n 2))
+    × (given (site f fs) (t (codes "none") ∷ hash (at (codes "value_type") integers
+    ∷ at (codes "default_value") d.undef ∷ []) ∷ []) ≡ refuses (what.TypeMismatch (codes "lookup")))
+    × (given (site f fs) (t (codes "none") ∷ integers ∷ []) ≡ refuses (what.LookupMissing (codes "none")))
+unfolding lookup_rule found_rule first_found keys_from owner_at look_up go_on in_turn in_template in_level in_layer
+    in_module pieces_from path_form form_of method_of whole_alias cut_at trimmed_start trimmed_end look look_within
+    interpolated answers answer option_for merge_for option_in bad_options found found_in serde_json_on_literals
+typed f fs = (refl, refl, refl, refl, refl)
 
 -- The first key that has a value gives the result, and no later one is looked up. A fault is the call's, also where a
 -- later key has a value or a default is given; the call's merge is that of each key.

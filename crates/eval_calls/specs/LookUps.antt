@@ -4,6 +4,7 @@ use Rattle.std.specs.Prelude.{ℕ, Bool, true, false, ◌||◌, if◌then◌else
 use Rattle.std.specs.Prelude.{Option, None, Some, option_map, option_and_then, codes}
 use Rattle.std.specs.List.{list_all}
 use Rattle.std.specs.Str.{bytes_eq}
+use Rattle.expr_eval.specs.Testing.{is_of}
 use Rattle.hiera_merge.specs.Digging.{member}
 use Rattle.hiera_merge.specs.Options.{merge_in}
 use Rattle.hiera_merge.specs.declared.merge.Merge.{Merge}
@@ -14,8 +15,8 @@ use Rattle.pp_values.specs.declared.fault.What.TheVariants as what
 use Rattle.pp_values.specs.declared.place.Place.{Place}
 use Rattle.pp_values.specs.declared.value.Value.{Value}
 use Rattle.eval_world.specs.Data.{look_up}
-use Rattle.eval_world.specs.Outcomes.{Step, ◌>>=◌, pure}
-use Rattle.eval_world.specs.Worlds.{fault, not_built, place_at, wrong}
+use Rattle.eval_world.specs.Outcomes.{Step, ◌>>=◌, pure, answered}
+use Rattle.eval_world.specs.Worlds.{fault, place_at, wrong}
 use Rattle.eval_world.specs.declared.here.Here.{Here}
 use Rattle.eval_calls.specs.declared.request.Options as held_options
 use Rattle.eval_calls.specs.declared.request.Request as held_request
@@ -23,15 +24,16 @@ use Rattle.eval_calls.specs.declared.request.Request as held_request
 -- ---- what is given beside the keys
 
 pub record Options : Type 0 where
-  pub has_type : Bool
+  pub of_type : Option Datum
   pub merge : Option Merge
   pub default : Option Datum
 
--- in the place of the type: none or Undef, or a data type
-abbrev pub type_given : Option Datum → Option Bool
-type_given None = Some false
-type_given (Some d.undef) = Some false
-type_given (Some (d.kind t)) = Some true
+-- in the place of the type: none or Undef, or a data type, which a reference counts as
+abbrev pub type_given : Option Datum → Option (Option Datum)
+type_given None = Some None
+type_given (Some d.undef) = Some None
+type_given (Some (d.kind t)) = Some (Some (d.kind t))
+type_given (Some (d.reference r)) = Some (Some (d.reference r))
 type_given (Some _) = None
 
 -- in the place of the merge: none or Undef, or its name, or a hash that has its name as `strategy` and nothing else
@@ -40,11 +42,11 @@ merge_given None = Some None
 merge_given (Some d.undef) = Some None
 merge_given (Some value) = option_map Some (merge_in value)
 
-abbrev pub options_by : Option Bool → Option (Option Merge) → Option Datum → Option Options
+abbrev pub options_by : Option (Option Datum) → Option (Option Merge) → Option Datum → Option Options
 options_by None merge default = None
-options_by (Some has_type) None default = None
-options_by (Some has_type) (Some merge) default =
-    Some (record { has_type = has_type; merge = merge; default = default })
+options_by (Some of_type) None default = None
+options_by (Some of_type) (Some merge) default =
+    Some (record { of_type = of_type; merge = merge; default = default })
 
 -- any value that is given as the default is one, Undef too
 abbrev pub options_of : Option Datum → Option Datum → Option Datum → Option Options
@@ -114,7 +116,11 @@ abbrev pub value_seen : Bor Value → Datum
 value_seen v = view v.now
 
 abbrev pub options_seen : held_options.Options → Options
-options_seen o = record { has_type = o.has_type; merge = o.merge; default = option_map value_seen o.default }
+options_seen o = record {
+  of_type = option_map value_seen o.of_type;
+  merge = o.merge;
+  default = option_map value_seen o.default;
+}
 
 abbrev pub request_seen : held_request.Request → Request
 request_seen r = record { keys = r.keys; options = options_seen r.options }
@@ -147,19 +153,27 @@ abbrev pub found_or : Option Datum → Request → ℕ → Here → Step Datum
 found_or (Some value) r line here = pure value
 found_or None r line here = default_or_fault r.options.default r.keys line here
 
+-- the value, also one that is a default, is of the type that is asked for, else F8
+abbrev pub fitting : Bool → Datum → ℕ → Here → Step Datum
+fitting true value line here = pure value
+fitting false value line here = fault here line (what.TypeMismatch (codes "lookup"))
+
+abbrev pub of_type : Option Datum → Datum → ℕ → Here → Step Datum
+of_type None value line here = pure value
+of_type (Some kind) value line here = do
+  fits ← (λ w. answered (is_of value kind (place_at w here line)) w)
+  fitting fits value line here
+
 -- in the scope that the call stands in, at its place
 unfoldable pub found_rule : Request → ℕ → Here → Step Datum
 found_rule r line here = do
   found ← (λ w. first_found here.scope.number r.keys r.options.merge (place_at w here line) w)
-  found_or found r line here
-
--- data types are not evaluated yet
-abbrev pub asked_rule : Request → ℕ → Here → Step Datum
-asked_rule r line here = if r.options.has_type then not_built here line else found_rule r line here
+  value ← found_or found r line here
+  of_type r.options.of_type value line here
 
 abbrev pub lookup_by : Option Request → List ℕ → ℕ → Here → Step Datum
 lookup_by None f line here = wrong f line here
-lookup_by (Some r) f line here = asked_rule r line here
+lookup_by (Some r) f line here = found_rule r line here
 
 -- what the arguments ask for, or F7, before any key is looked up
 unfoldable pub lookup_rule : List ℕ → List Datum → ℕ → Here → Step Datum

@@ -1,12 +1,15 @@
 //! A call of a lambda.
-ghost use Rattle.std.specs.Prelude.{◌≡◌, ◌∷◌, [], IfOk};
+ghost use Rattle.std.specs.Prelude.{◌≡◌, ◌∷◌, [], IfOk, Some};
 ghost use Rattle.eval_calls.specs.Lambdas as spec;
 ghost use Rattle.eval_world.specs.Nests.{Nests};
 ghost use Rattle.eval_world.specs.Outcomes.{Gives, nothing, same};
+ghost use Rattle.pp_values.specs.Views.{view};
 
+use eval_classes::{accepted, has_type};
 use eval_world::{Evaluated, Forms, Goal, Here, Meaning, World};
+use pp_tree::expr::Expr;
 use pp_tree::{Lambda, Param};
-use pp_values::{Memory, Stop, Values, What};
+use pp_values::{Memory, Stop, Text, Value, Values};
 
 /// How many parameters a lambda has.
 pub fn param_count(lambda: &Lambda) -> Result<u32, Memory>
@@ -37,7 +40,7 @@ pub fn call_lambda<
         world.old) result world.new }
 {
     let own = world.enter_lambda(here)?;
-    bind(world, lambda.params.as_slice(), arguments, own)?;
+    bind(forms, world, lambda.params.as_slice(), arguments, line, own)?;
     let value = forms.block(world, &lambda.block, line, own)?;
     world.leave(own);
     Ok(value)
@@ -61,7 +64,7 @@ pub fn call_with_one<
         world.old) result world.new }
 {
     let own = world.enter_lambda(here)?;
-    bind_last(world, lambda.params.as_slice(), argument, own)?;
+    bind_last(forms, world, lambda.params.as_slice(), argument, line, own)?;
     let value = forms.block(world, &lambda.block, line, own)?;
     world.leave(own);
     Ok(value)
@@ -86,7 +89,7 @@ pub fn call_with_two<
         here world.old) result world.new }
 {
     let own = world.enter_lambda(here)?;
-    bind_both(world, lambda.params.as_slice(), first, second, own)?;
+    bind_both(forms, world, lambda.params.as_slice(), first, second, line, own)?;
     let value = forms.block(world, &lambda.block, line, own)?;
     world.leave(own);
     Ok(value)
@@ -94,8 +97,17 @@ pub fn call_with_two<
 
 /// Sets each parameter to its argument.
 #[tactic(auto, unfolding(crate::specs::Lambdas::bind_from))]
-fn bind(world: &mut World<'_>, params: &[Param], arguments: Values, own: Here) -> Result<(), Stop>
-    ensures { Gives nothing (spec.bind_from params.now arguments own world.old) result world.new }
+fn bind<F: Fn(&mut World<'_>, Goal<'_>, Here, u32) -> Result<Evaluated, Stop>, M: Meaning>(
+    forms: &Forms<F, M>,
+    world: &mut World<'_>,
+    params: &[Param],
+    arguments: Values,
+    line: u32,
+    own: Here,
+) -> Result<(), Stop>
+    requires { Nests (M.within forms.now.left) forms.now.left (F.pre forms.now.inner) (F.post forms.now.inner) }
+    ensures { Gives nothing (spec.bind_from (M.within forms.now.left) params.now arguments line own world.old) result
+        world.new }
 {
     let mut params = params;
     let mut left = arguments.into_vec().into_iter();
@@ -103,7 +115,7 @@ fn bind(world: &mut World<'_>, params: &[Param], arguments: Values, own: Here) -
         let Some(argument) = left.next() else {
             return Ok(());
         };
-        bind_one(world, param, Evaluated::new(argument), own)?;
+        bind_one(forms, world, param, Evaluated::new(argument), line, own)?;
         params = more;
     }
     Ok(())
@@ -112,20 +124,24 @@ fn bind(world: &mut World<'_>, params: &[Param], arguments: Values, own: Here) -
 /// Sets the first two parameters.
 #[inline(always)]
 #[tactic(auto, unfolding(crate::specs::Lambdas::bind_from))]
-fn bind_both(
+fn bind_both<F: Fn(&mut World<'_>, Goal<'_>, Here, u32) -> Result<Evaluated, Stop>, M: Meaning>(
+    forms: &Forms<F, M>,
     world: &mut World<'_>,
     params: &[Param],
     first: Evaluated,
     second: Evaluated,
+    line: u32,
     own: Here,
 ) -> Result<(), Stop>
-    ensures { Gives nothing (spec.bind_from params.now (first ∷ second ∷ []) own world.old) result world.new }
+    requires { Nests (M.within forms.now.left) forms.now.left (F.pre forms.now.inner) (F.post forms.now.inner) }
+    ensures { Gives nothing (spec.bind_from (M.within forms.now.left) params.now (first ∷ second ∷ []) line own
+        world.old) result world.new }
 {
     match params {
         [] => Ok(()),
         [param, rest @ ..] => {
-            bind_one(world, param, first, own)?;
-            bind_last(world, rest, second, own)?;
+            bind_one(forms, world, param, first, line, own)?;
+            bind_last(forms, world, rest, second, line, own)?;
             Ok(())
         }
     }
@@ -134,18 +150,22 @@ fn bind_both(
 /// Sets the first parameter. Those behind it have no argument.
 #[inline(always)]
 #[tactic(auto, unfolding(crate::specs::Lambdas::bind_from), using(crate::proofs::Binding::no_arguments))]
-fn bind_last(
+fn bind_last<F: Fn(&mut World<'_>, Goal<'_>, Here, u32) -> Result<Evaluated, Stop>, M: Meaning>(
+    forms: &Forms<F, M>,
     world: &mut World<'_>,
     params: &[Param],
     argument: Evaluated,
+    line: u32,
     own: Here,
 ) -> Result<(), Stop>
-    ensures { Gives nothing (spec.bind_from params.now (argument ∷ []) own world.old) result world.new }
+    requires { Nests (M.within forms.now.left) forms.now.left (F.pre forms.now.inner) (F.post forms.now.inner) }
+    ensures { Gives nothing (spec.bind_from (M.within forms.now.left) params.now (argument ∷ []) line own world.old)
+        result world.new }
 {
     match params {
         [] => Ok(()),
         [param, _rest @ ..] => {
-            bind_one(world, param, argument, own)?;
+            bind_one(forms, world, param, argument, line, own)?;
             Ok(())
         }
     }
@@ -153,16 +173,56 @@ fn bind_last(
 
 #[inline(always)]
 #[tactic(auto, unfolding(crate::specs::Lambdas::bind_rule))]
-fn bind_one(
+fn bind_one<F: Fn(&mut World<'_>, Goal<'_>, Here, u32) -> Result<Evaluated, Stop>, M: Meaning>(
+    forms: &Forms<F, M>,
     world: &mut World<'_>,
     param: &Param,
     argument: Evaluated,
+    line: u32,
     own: Here,
 ) -> Result<(), Stop>
-    ensures { Gives nothing (spec.bind_rule param.now argument own world.old) result world.new }
+    requires { Nests (M.within forms.now.left) forms.now.left (F.pre forms.now.inner) (F.post forms.now.inner) }
+    ensures { Gives nothing (spec.bind_rule (M.within forms.now.left) param.now argument line own world.old) result
+        world.new }
+{
+    check_type(forms, world, param, argument.as_value(), line, own)?;
+    world.assign(own, &param.name, argument, param.at)
+}
+
+/// Where the parameter has a type, its argument is of it, else F8 at the call.
+#[inline(always)]
+fn check_type<F: Fn(&mut World<'_>, Goal<'_>, Here, u32) -> Result<Evaluated, Stop>, M: Meaning>(
+    forms: &Forms<F, M>,
+    world: &mut World<'_>,
+    param: &Param,
+    argument: &Value,
+    line: u32,
+    own: Here,
+) -> Result<(), Stop>
+    requires { Nests (M.within forms.now.left) forms.now.left (F.pre forms.now.inner) (F.post forms.now.inner) }
+    ensures { Gives nothing (spec.typed (M.within forms.now.left) param.now.kind (view argument.now) param.now.name
+        line own world.old) result world.new }
 {
     match &param.kind {
-        None => world.assign(own, &param.name, argument, param.at),
-        Some(_) => Err(Stop::Fault(world.fault(own, param.at, What::NotBuilt)?)),
+        None => Ok(()),
+        Some(kind) => check_kind(forms, world, kind, argument, &param.name, line, own),
     }
+}
+
+fn check_kind<F: Fn(&mut World<'_>, Goal<'_>, Here, u32) -> Result<Evaluated, Stop>, M: Meaning>(
+    forms: &Forms<F, M>,
+    world: &mut World<'_>,
+    kind: &Expr,
+    argument: &Value,
+    name: &Text,
+    line: u32,
+    own: Here,
+) -> Result<(), Stop>
+    requires { Nests (M.within forms.now.left) forms.now.left (F.pre forms.now.inner) (F.post forms.now.inner) }
+    ensures { Gives nothing (spec.typed (M.within forms.now.left) (Some kind.now) (view argument.now) name.now line own
+        world.old) result world.new }
+{
+    let fits = has_type(forms, world, kind, argument, own)?;
+    let at = world.place(own, line)?;
+    accepted(world.heap.alloc(), fits, name, &at)
 }

@@ -1,14 +1,16 @@
 //! The function `lookup`.
-ghost use Rattle.std.specs.Prelude.{None, option_map};
+ghost use Rattle.std.specs.Prelude.{None, Some, option_map};
 ghost use Rattle.eval_calls.specs.LookUps as spec;
 ghost use Rattle.eval_world.specs.Outcomes.{Gives, same};
+ghost use Rattle.pp_values.specs.Views.{view};
 
 use crate::names::wrong;
 use crate::request::Request;
 use crate::requests::request_of;
 use eval_world::{Evaluated, Here, World};
+use expr_eval::is_of;
 use hiera_merge::Merge;
-use pp_values::{Place, Stop, Text, Values, What};
+use pp_values::{Place, Stop, Text, Value, Values, What};
 use scope_core::ScopeId;
 
 /// `lookup`, with its arguments there.
@@ -23,32 +25,70 @@ pub fn look_up(
     ensures { Gives same (spec.lookup_rule function.now arguments.now line here world.now) result world.now }
 {
     match request_of(world.heap.alloc(), arguments.as_slice())? {
-        Some(request) => asked(world, &request, line, here),
+        Some(request) => found(world, &request, line, here),
         None => Err(Stop::Fault(wrong(world, function, line, here)?)),
     }
 }
 
-fn asked(world: &World<'_>, request: &Request<'_>, line: u32, here: Here) -> Result<Evaluated, Stop>
-    ensures { Gives same (spec.asked_rule (spec.request_seen request.now) line here world.now) result world.now }
-{
-    if request.options.has_type {
-        world.not_built(here, line)
-    } else {
-        found(world, request, line, here)
-    }
-}
-
-/// The value of the first key that has one, or what stands in for it.
+/// The value of the first key that has one, or what stands in for it, tested against the type that is asked for.
 #[tactic(auto, unfolding(crate::specs::LookUps::found_rule))]
 fn found(world: &World<'_>, request: &Request<'_>, line: u32, here: Here) -> Result<Evaluated, Stop>
     ensures { Gives same (spec.found_rule (spec.request_seen request.now) line here world.now) result world.now }
 {
     let at = world.place(here, line)?;
     let merge = request.options.merge;
-    match first_found(world, here.scope, request.keys.as_slice(), merge, &at)? {
+    let found = first_found(world, here.scope, request.keys.as_slice(), merge, &at)?;
+    let value = found_or(world, found, request, line, here)?;
+    of_type(world, request.options.of_type, value, line, here)
+}
+
+fn found_or(
+    world: &World<'_>,
+    found: Option<Evaluated>,
+    request: &Request<'_>,
+    line: u32,
+    here: Here,
+) -> Result<Evaluated, Stop>
+    ensures { Gives same (spec.found_or found (spec.request_seen request.now) line here world.now) result world.now }
+{
+    match found {
         Some(value) => Ok(value),
         None => default_or_fault(world, request, line, here),
     }
+}
+
+/// The value, where it is of the type that is asked for; else F8.
+fn of_type(
+    world: &World<'_>,
+    kind: Option<&Value>,
+    value: Evaluated,
+    line: u32,
+    here: Here,
+) -> Result<Evaluated, Stop>
+    ensures { Gives same (spec.of_type (option_map spec.value_seen kind.entry) value line here world.now) result
+        world.now }
+{
+    match kind {
+        None => Ok(value),
+        Some(kind) => of_kind(world, kind, value, line, here),
+    }
+}
+
+fn of_kind(
+    world: &World<'_>,
+    kind: &Value,
+    value: Evaluated,
+    line: u32,
+    here: Here,
+) -> Result<Evaluated, Stop>
+    ensures { Gives same (spec.of_type (Some (view kind.now)) value line here world.now) result world.now }
+{
+    let at = world.place(here, line)?;
+    if is_of(world.heap.alloc(), value.as_value(), kind, &at)? {
+        return Ok(value);
+    }
+    let name = Text::from_str(world.heap.alloc(), "lookup")?;
+    Err(Stop::Fault(world.fault(here, line, What::TypeMismatch(name))?))
 }
 
 #[tactic(auto, unfolding(crate::specs::LookUps::first_found))]

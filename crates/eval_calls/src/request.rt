@@ -4,8 +4,8 @@ use pp_values::{Texts, Value};
 /// What a call of `lookup` gives beside its keys. Contracts see what it says by `options_seen`.
 #[derive(Clone, Copy)]
 pub struct Options<'a> {
-    /// Whether a data type is given.
-    pub has_type: bool,
+    /// The data type that the value is to be of, where one is given: a type, or a reference.
+    pub of_type: Option<&'a Value>,
     pub merge: Option<Merge>,
     pub default: Option<&'a Value>,
 }

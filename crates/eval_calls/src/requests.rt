@@ -131,38 +131,39 @@ fn is_option(name: &Value) -> bool
 
 /// The options of what stands in these places; `None` where it may not stand there.
 fn options_of<'a>(
-    data_type: Option<&Value>,
+    data_type: Option<&'a Value>,
     merge: Option<&Value>,
     default: Option<&'a Value>,
 ) -> Option<Options<'a>>
     ensures { option_map spec.options_seen result ≡ spec.options_of (option_map spec.value_seen data_type.entry)
         (option_map spec.value_seen merge.entry) (option_map spec.value_seen default.entry) }
 {
-    let has_type = type_given(data_type)?;
+    let of_type = type_given(data_type)?;
     let merge = merge_given(merge)?;
     Some(Options {
-        has_type,
+        of_type,
         merge,
         default,
     })
 }
 
-/// Whether there is a data type; `None` where something else stands in its place.
-fn type_given(value: Option<&Value>) -> Option<bool>
-    ensures { result ≡ spec.type_given (option_map spec.value_seen value.entry) }
+/// The data type, where there is one; `None` where something else stands in its place.
+fn type_given<'a>(value: Option<&'a Value>) -> Option<Option<&'a Value>>
+    ensures { option_map (option_map spec.value_seen) result
+        ≡ spec.type_given (option_map spec.value_seen value.entry) }
 {
     match value {
-        None => Some(false),
-        Some(value) => is_type(value),
+        None => Some(None),
+        Some(value) => type_in(value),
     }
 }
 
-fn is_type(value: &Value) -> Option<bool>
-    ensures { result ≡ spec.type_given (Some (view value.now)) }
+fn type_in<'a>(value: &'a Value) -> Option<Option<&'a Value>>
+    ensures { option_map (option_map spec.value_seen) result ≡ spec.type_given (Some (view value.now)) }
 {
     match value {
-        Value::Undef => Some(false),
-        Value::Kind(_) => Some(true),
+        Value::Undef => Some(None),
+        Value::Kind(_) | Value::Ref(_) => Some(Some(value)),
         _ => None,
     }
 }

@@ -18,4 +18,6 @@ pub use acting::act;
 pub use checks::check_attributes;
 pub use collecting::collector;
 pub use declaring::container_in;
+pub use kinds::check_kind;
+pub use known_kind::KnownKind;
 pub use resources::resource;

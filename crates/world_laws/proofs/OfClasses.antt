@@ -35,6 +35,7 @@ use Rattle.eval_classes.specs.Listing.{class_names, class_item, class_reference,
 use Rattle.eval_classes.specs.Listing.{outer_scope, class_owner, enter_scope, enter_all, enter_chain, own_rule, list_rule, list_all}
 use Rattle.eval_classes.specs.Listing.{known_parent, run_all, chain_declared, class_declared}
 use Rattle.eval_classes.specs.OwnNames.{names_rule}
+use Rattle.eval_classes.specs.ParameterTypes.{has_type}
 use Rattle.eval_classes.specs.Parameters.{Given, is_class, data_by, default_rule, counted, or_else, data_or_default}
 use Rattle.eval_classes.specs.Parameters.{value_rule, typed, bind_rule, bind_from}
 use Rattle.eval_classes.specs.Stacks.{Chain, Entered}
@@ -141,10 +142,6 @@ contain_grows including.Include c here = pure_grows
 contain_grows including.Contain c here =
     told (λ w. contain_by (number_of (class_reference (class_name c)) w.book) here) (λ w. contain_by_grows _ here)
 
-typed_grows : (t : Option Expr) (own : Here) → Grows (typed t own)
-typed_grows None own = pure_grows
-typed_grows (Some e) own = fault_grows _
-
 -- ---- the site's data
 
 data_by_grows : (b : Bool) (of : Reference) (x : List ℕ) (at : Place) → Grows (data_by b of x at)
@@ -235,11 +232,20 @@ module _ (inner : Inner) (g : GrowsInner inner) where
   unfolding value_rule
   value_grows given p of at own = or_else_grows (counted (given p.name)) _ (data_grows p of at own)
 
+  pub type_grows : (kind : Expr) (value : Datum) (own : Here) → Grows (has_type inner kind value own)
+  unfolding has_type
+  type_grows kind value own = and_then (g.value kind _) (λ of_kind. answer_grows _)
+
+  typed_grows : (kind : Option Expr) (v : Datum) (x : List ℕ) (at : Place) (own : Here) →
+      Grows (typed inner kind v x at own)
+  typed_grows None v x at own = pure_grows
+  typed_grows (Some kind) v x at own = and_then (type_grows kind v own) (λ fits. answer_grows _)
+
   bind_grows : (given : Given) (done : List Setting) (p : Param Expr) (of : Reference) (at : Place) (own : Here) →
       Grows (bind_rule inner given done p of at own)
   unfolding bind_rule
   bind_grows given done p of at own = and_then (value_grows given p of at own) (λ v.
-      and_then (typed_grows p.kind own) (λ u. and_then (assign_grows own p.name v p.at) (λ u. pure_grows)))
+      and_then (typed_grows p.kind v p.name at own) (λ u. and_then (assign_grows own p.name v p.at) (λ u. pure_grows)))
 
   binds_grow : (given : Given) (done : List Setting) (ps : List (Param Expr)) (of : Reference) (at : Place)
       (own : Here) → Grows (bind_from inner given done ps of at own)

@@ -6,8 +6,9 @@ use Rattle.eval_calls.proofs.lambdas.bind.Given as goal
 use Rattle.pp_values.specs.Views.{views}
 
 abbrev pub invariant-loop-param : goal.invariant-loop-param
-invariant-loop-param l = bind_from l.fn.params l.fn.arguments l.own l.fn.world
-    ≡ bind_from l.params (views (into_iter_items l.left)) l.own l.world
+invariant-loop-param g l =
+    bind_from (g.M.Meaning.within l.forms.left) l.fn.params l.fn.arguments l.line l.own l.fn.world
+    ≡ bind_from (g.M.Meaning.within l.forms.left) l.params (views (into_iter_items l.left)) l.line l.own l.world
 
 abbrev pub decreases-loop-param : goal.decreases-loop-param
-decreases-loop-param l = length l.params
+decreases-loop-param g l = length l.params

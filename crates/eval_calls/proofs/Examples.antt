@@ -15,6 +15,8 @@ use Rattle.pp_tree.specs.declared.param.Param.{Param}
 use Rattle.pp_values.specs.Datum as d
 use Rattle.pp_values.specs.Datum.{Datum, Pair, data_of, entries_of}
 use Rattle.pp_values.specs.Faults as faults
+use Rattle.pp_values.specs.Sort as sort
+use Rattle.pp_values.specs.Sort.{of, none}
 use Rattle.pp_values.specs.TextOf.{text_of}
 use Rattle.pp_values.specs.declared.fault.Fault.{Fault}
 use Rattle.pp_values.specs.declared.fault.What.{What}
@@ -289,13 +291,14 @@ contains_no_class : (m : Environment) → run (plainly (codes "contain") []) m �
 unfolding plain_rule evaluated_rule site_rule included needs_evaluator lambda_function owner_at
 contains_no_class m = refl
 
+requires_no_class : (m : Environment)
+    → run (plainly (codes "require") (one ∷ [])) m ≡ refuses 3 (what.WrongArguments (codes "require"))
+unfolding plain_rule evaluated_rule site_rule included names_from needs_evaluator lambda_function owner_at
+requires_no_class m = refl
+
 -- what is not evaluated yet
 abbrev is_not_built : List ℕ → Type 0
 is_not_built f = (m : Environment) → run (plainly f (one ∷ [])) m ≡ refuses 3 what.NotBuilt
-
-require_to_come : is_not_built (codes "require")
-unfolding plain_rule evaluated_rule site_rule data_rule needs_evaluator lambda_function owner_at
-require_to_come m = refl
 
 realize_to_come : is_not_built (codes "realize")
 unfolding plain_rule evaluated_rule site_rule data_rule needs_evaluator lambda_function owner_at

@@ -25,7 +25,7 @@ use Rattle.res_book.specs.declared.mode.Mode.TheVariants as mode
 use Rattle.res_book.specs.declared.row.Row.{Row}
 use Rattle.res_core.specs.AttributeChecks.{known_checked}
 use Rattle.res_core.specs.Criteria.{all, by_tag}
-use Rattle.res_core.specs.Metaparameters.{is_relation_name, is_metaparameter}
+use Rattle.res_core.specs.Metaparameters.{is_metaparameter}
 use Rattle.res_core.specs.NativeTypes.{native_of, attributes_of}
 use Rattle.res_core.specs.TagNames.{segments, is_word_byte, is_tag_byte}
 use Rattle.res_core.specs.declared.action.Action.TheVariants as action
@@ -317,20 +317,11 @@ first_body : Fails
 unfolding declare_bodies titles_rule title_rule declared_rule declare_rule tested kind_checked native_of title_checked lines_checked names_known names_apart attributes_of known_checked is_metaparameter
 first_body environment = refl
 
--- a relation is not built: F31 at its line, after all other tests of the title; one that is Undef is none
+-- a relation
 abbrev before : Datum → Line
 before value = line (codes "before") false value (place 8)
 
-relation : Fails (titles_rule sample form.Plain kind (text a ∷ []) (body_with (before (text c) ∷ [])) here) 8 what.NotBuilt
-unfolding titles_rule title_rule declared_rule declare_rule tested kind_checked native_of title_checked lines_checked names_known names_apart attributes_of set_from segments is_word_byte is_tag_byte is_relation_name is_metaparameter known_checked line_tests
-relation environment = refl
-
-relation_of_second : Fails (titles_rule sample form.Plain kind (text a ∷ text a ∷ []) (body_with (before d.undef ∷ [])) here)
-    7 (what.Duplicate (record { kind = kind; title = a }) (place 7))
-unfolding titles_rule title_rule declared_rule declare_rule tested kind_checked native_of title_checked lines_checked names_known names_apart attributes_of set_from segments is_word_byte is_tag_byte is_relation_name is_metaparameter known_checked line_tests
-relation_of_second environment = refl
-
--- an override line that came before it is tested then, and before relations: F10 at the line
+-- an override line that came before it is tested then: F10 at the line
 overridden_before : (environment : Environment)
     → book_by
     (titles_rule sample form.Plain kind (text a ∷ []) (body_with (before (text c) ∷ [])) here (overridden environment))

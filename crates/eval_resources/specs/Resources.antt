@@ -12,7 +12,6 @@ use Rattle.pp_values.specs.Faults as faults
 use Rattle.pp_values.specs.declared.fault.Fault.{Fault}
 use Rattle.pp_values.specs.declared.fault.What.TheVariants as what
 use Rattle.override_rules.specs.Meaning.{stands}
-use Rattle.res_core.specs.Metaparameters.{is_relation_name}
 use Rattle.res_core.specs.declared.action.Action.{Action}
 use Rattle.res_core.specs.declared.action.Action.TheVariants as action
 use Rattle.res_core.specs.declared.form.Form.{Form}
@@ -22,7 +21,6 @@ use Rattle.eval_world.specs.Outcomes.{Step, ◌>>=◌, ◌>>◌, pure, answered}
 use Rattle.eval_world.specs.Worlds.{not_built}
 use Rattle.eval_world.specs.declared.here.Here.{Here}
 use Rattle.eval_resources.specs.Bodies.{bodies_rule}
-use Rattle.eval_classes.specs.Attributes.{is_value}
 use Rattle.eval_classes.specs.Listing.{class_declared}
 use Rattle.eval_resources.specs.Checks.{class_tested, tested}
 use Rattle.eval_resources.specs.Declaring.{declare_rule, set_from}
@@ -31,33 +29,18 @@ use Rattle.res_core.specs.declared.body.Body.{Body}
 
 -- ---- one title
 
--- `before`, `require`, `notify` or `subscribe`, set to a value
-abbrev pub relates : Line → Bool
-relates l = is_relation_name l.name && is_value l.value
-
-abbrev pub unrelated : Option Line → Result (Unit {0}) Fault
-unrelated None = Ok tt
-unrelated (Some l) = Err (faults.fault l.at what.NotBuilt)
-
--- relations by attributes are not built: the first of them is F31 at its line, after all else that its title does
-abbrev pub relations_checked : List Line → Result (Unit {0}) Fault
-relations_checked ls = unrelated (find relates ls)
-
--- The tests, the declaration, the override lines that came before it, the relations. An instance of a define is not
--- evaluated here.
+-- The tests, the declaration, the override lines that came before it. An instance of a define is not evaluated here.
 unfoldable pub declared_rule : Form → List ℕ → Datum → Body → Here → Step (Unit {0})
 declared_rule written kind title b here = do
   named ← (λ w. answered (tested w.environment kind title b) w)
   number ← declare_rule written named b here
   (λ w. answered (stands w.overrides w.book number) w)
-  answered (relations_checked b.lines)
 
--- A class: the tests, then it is declared with what the body gives, and evaluated at once, then the relations.
+-- A class: the tests, then it is declared with what the body gives, and evaluated at once.
 unfoldable pub class_title_rule : Inner → Form → Datum → Body → Here → Step (Unit {0})
 class_title_rule inner written title b here = do
   c ← (λ w. answered (class_tested w.environment written title b) w)
   class_declared inner c (set_from [] b.lines) b.at here.owner
-  answered (relations_checked b.lines)
 
 unfoldable pub title_rule : Inner → Form → List ℕ → Datum → Body → Here → Step (Unit {0})
 title_rule inner written kind title b here =

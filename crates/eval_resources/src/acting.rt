@@ -1,22 +1,18 @@
 //! What statements ask for, with their values there.
-ghost use Rattle.std.specs.Prelude.{◌≡◌, option_map, find};
-ghost use Rattle.res_core.specs.Lines.{line_of, lines_of};
 ghost use Rattle.eval_resources.specs.Resources as spec;
 ghost use Rattle.eval_world.specs.Nests.{Nests};
 ghost use Rattle.eval_world.specs.Outcomes.{Gives, nothing};
 ghost use Rattle.eval_world.specs.Worlds as worlds;
-ghost use Rattle.pp_values.specs.Answers.{Answers};
 ghost use Rattle.pp_values.specs.Views.{view, views};
 
 use crate::attributes::attributes;
 use crate::checks::tested;
 use crate::classes::class_tested;
 use crate::declaring::declare;
-use eval_classes::{declare_class, is_value};
+use eval_classes::declare_class;
 use eval_world::{Evaluated, Forms, Goal, Here, Meaning, World};
-use pp_values::{Fault, Stop, Text, Value, What};
-use res_core::{Action, Body, Form, Line, is_relation_name};
-use std::alloc::Global;
+use pp_values::{Stop, Text, Value, What};
+use res_core::{Action, Body, Form};
 
 /// Does what a statement that begins at this line asks for. Of a resource each title of each body is declared, in
 /// order.
@@ -133,7 +129,7 @@ fn declare_title<F: Fn(&mut World<'_>, Goal<'_>, Here, u32) -> Result<Evaluated,
     }
 }
 
-/// The tests of one title, its declaration, the override lines that came before it, its relations.
+/// The tests of one title, its declaration, the override lines that came before it.
 #[tactic(auto, unfolding(crate::specs::Resources::declared_rule))]
 fn declare_resource(
     world: &mut World<'_>,
@@ -149,11 +145,10 @@ fn declare_resource(
     let alloc = world.heap.alloc();
     let named = tested(alloc, &world.environment, kind, title, body)?;
     let number = declare(world, form, named, body, here)?;
-    world.overrides.stand(alloc, &world.book, number)?;
-    check_relations(alloc, body.lines.as_slice())
+    world.overrides.stand(alloc, &world.book, number)
 }
 
-/// The tests of a class, its declaration and evaluation, its relations.
+/// The tests of a class, its declaration and evaluation.
 #[tactic(auto, unfolding(crate::specs::Resources::class_title_rule))]
 fn declare_class_title<
     F: Fn(&mut World<'_>, Goal<'_>, Here, u32) -> Result<Evaluated, Stop>,
@@ -174,38 +169,5 @@ fn declare_class_title<
     let alloc = world.heap.alloc();
     let class = class_tested(alloc, &world.environment, form, title, body)?;
     let given = attributes(alloc, body.lines.as_slice())?;
-    declare_class(forms, world, class, &given, &body.at, here.owner)?;
-    check_relations(alloc, body.lines.as_slice())
-}
-
-/// Relations by attributes are not built.
-fn check_relations(alloc: Global, lines: &[Line]) -> Result<(), Stop>
-    ensures { Answers result (spec.relations_checked (lines_of lines.now)) }
-{
-    match first_relation(lines) {
-        None => Ok(()),
-        Some(line) => {
-            let at = line.at.copy(alloc)?;
-            Err(Stop::Fault(Fault::new(alloc, at, What::NotBuilt)?))
-        }
-    }
-}
-
-fn first_relation(lines: &[Line]) -> Option<&Line>
-    ensures { option_map (λ l. line_of l.now) result ≡ find spec.relates (lines_of lines.now) }
-{
-    let mut rest = lines;
-    while let Some((line, more)) = rest.split_first() {
-        if relates(line) {
-            return Some(line);
-        }
-        rest = more;
-    }
-    None
-}
-
-fn relates(line: &Line) -> bool
-    ensures { result ≡ spec.relates (line_of line.now) }
-{
-    is_relation_name(&line.name) && is_value(&line.value)
+    declare_class(forms, world, class, &given, &body.at, here.owner)
 }

@@ -34,7 +34,6 @@ use Rattle.res_core.specs.Lines.{Line}
 use Rattle.res_core.specs.declared.body.Body.{Body}
 use Rattle.attribute_lines.specs.Reading.{setting_rule, splat_by, splat_rule, attribute_rule, lines_from}
 use Rattle.eval_resources.specs.Resources.{declared_rule, class_title_rule, title_rule, titles_rule, declare_bodies}
-use Rattle.eval_resources.specs.Resources.{relations_checked}
 use Rattle.eval_resources.specs.Resources.{form_of, resource_rule}
 use Rattle.eval_resources.specs.declared.named.Named.{Named}
 use Rattle.world_laws.specs.Extends.{RelationsGoOn}
@@ -64,7 +63,7 @@ declared_grows : (written : Form) (kind : List ℕ) (title : Datum) (b : Body) (
 unfolding declared_rule
 declared_grows written kind title b here =
     and_then (answer_grows _) (λ named. and_then (declare_grows written named b here) (λ number.
-    and_then (answer_grows (λ w. stands w.overrides w.book number)) (λ u. answer_grows (λ w. relations_checked b.lines))))
+    answer_grows (λ w. stands w.overrides w.book number)))
 
 -- ---- collectors
 

@@ -11,9 +11,7 @@ use crate::statements::block;
 use crate::type_names::type_named;
 use eval_calls::{call, words};
 use eval_classes::{class_body, instance_body};
-use eval_forms::{
-    assigned, binary, case_of, hash, if_of, interpolated, list, prefix, unless_of,
-};
+use eval_forms::{assigned, binary, case_of, hash, if_of, interpolated, list, prefix, unless_of};
 use eval_world::{Evaluated, Forms, Goal, Here, Meaning, World};
 use pp_tree::expr::{Expr, Form};
 use pp_values::{Memory, Stop, Text, Value, What};

@@ -1,6 +1,8 @@
 //! The evaluator: what each form of the language gives, within one another to any lawful depth.
 #![tactic(auto)]
 
+mod chain_end;
+mod chains;
 mod classes;
 mod evaluator;
 mod knot;

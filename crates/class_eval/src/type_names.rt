@@ -14,12 +14,7 @@ use pp_values::{Stop, Text};
 
 /// What the name of a type gives. Within the type of a parameter a kind that it names has to be there, else F5.
 #[tactic(auto, unfolding(crate::specs::TypeNames::type_named_rule))]
-pub fn type_named(
-    world: &World<'_>,
-    name: &Text,
-    line: u32,
-    here: Here,
-) -> Result<Evaluated, Stop>
+pub fn type_named(world: &World<'_>, name: &Text, line: u32, here: Here) -> Result<Evaluated, Stop>
     ensures { Gives same (spec.type_named_rule name.now line here world.now) result world.now }
 {
     if here.typed {

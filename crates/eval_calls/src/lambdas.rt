@@ -89,7 +89,15 @@ pub fn call_with_two<
         here world.old) result world.new }
 {
     let own = world.enter_lambda(here)?;
-    bind_both(forms, world, lambda.params.as_slice(), first, second, line, own)?;
+    bind_both(
+        forms,
+        world,
+        lambda.params.as_slice(),
+        first,
+        second,
+        line,
+        own,
+    )?;
     let value = forms.block(world, &lambda.block, line, own)?;
     world.leave(own);
     Ok(value)

@@ -24,10 +24,7 @@ fn within_type(own: Here) -> Here
 
 /// Whether the value is of the type of a parameter, which is evaluated here.
 #[tactic(auto, unfolding(crate::specs::ParameterTypes::has_type))]
-pub fn has_type<
-    F: Fn(&mut World<'_>, Goal<'_>, Here, u32) -> Result<Evaluated, Stop>,
-    M: Meaning,
->(
+pub fn has_type<F: Fn(&mut World<'_>, Goal<'_>, Here, u32) -> Result<Evaluated, Stop>, M: Meaning>(
     forms: &Forms<F, M>,
     world: &mut World<'_>,
     kind: &Expr,

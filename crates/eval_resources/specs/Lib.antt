@@ -5,5 +5,6 @@ pub mod Bodies
 pub mod Checks
 pub mod Declaring
 pub mod GoodLines
+pub mod Relating
 pub mod Resources
 pub mod Collectors

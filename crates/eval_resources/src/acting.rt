@@ -56,8 +56,9 @@ fn not_built(world: &World<'_>, line: u32, here: Here) -> Result<(), Stop>
     Err(Stop::Fault(world.fault(here, line, What::NotBuilt)?))
 }
 
+/// Each title of each body is declared, in order.
 #[tactic(auto, unfolding(crate::specs::Resources::declare_bodies))]
-fn declare_bodies<
+pub fn declare_bodies<
     F: Fn(&mut World<'_>, Goal<'_>, Here, u32) -> Result<Evaluated, Stop>,
     M: Meaning,
 >(

@@ -12,6 +12,7 @@ mod filling;
 mod kinds;
 mod known_kind;
 mod named;
+mod relating;
 mod resources;
 
 pub use acting::act;
@@ -20,4 +21,5 @@ pub use collecting::collector;
 pub use declaring::container_in;
 pub use kinds::check_kind;
 pub use known_kind::KnownKind;
+pub use relating::operands;
 pub use resources::resource;

@@ -33,7 +33,7 @@ pub fn resource<F: Fn(&mut World<'_>, Goal<'_>, Here, u32) -> Result<Evaluated, 
     act(forms, world, &action, written.at, here)
 }
 
-fn form_of(written: ResourceForm) -> Form
+pub fn form_of(written: ResourceForm) -> Form
     ensures { result ≡ spec.form_of written }
 {
     match written {

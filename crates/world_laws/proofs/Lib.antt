@@ -6,6 +6,7 @@ mod OfForms
 mod OfClasses
 mod OfCalls
 mod OfResources
+mod OfChains
 mod OfEvaluator
 mod OfRounds
 mod Examples

@@ -137,7 +137,7 @@ contain_by_grows (Some number) here = record {
   reaches = λ w. relations_grow w _ (one_containment _ w.relations);
 }
 
-one_line : (x : RelationLine) (r : Related) → RelationsGoOn r (with_line x r)
+pub one_line : (x : RelationLine) (r : Related) → RelationsGoOn r (with_line x r)
 one_line x r = record {
   lines = goes_on r.lines (x ∷ []);
   containments = stays r.containments;

@@ -36,6 +36,7 @@ use Rattle.class_eval.specs.Statements.{statement_rule, or_before, statements_fr
 use Rattle.class_eval.specs.TypeNames.{there_by, named_by, type_named_rule}
 use Rattle.world_laws.specs.Growing.{Reaches, Grows, GrowsInner}
 use Rattle.world_laws.proofs.OfCalls.{call_grows, method_grows, words_grow}
+use Rattle.world_laws.proofs.OfChains.{links_grow}
 use Rattle.world_laws.proofs.OfClasses.{class_declared_grows, once_grows, class_grows, instance_grows, run_grows}
 use Rattle.world_laws.proofs.OfClasses.{enter_grows}
 use Rattle.world_laws.proofs.OfForms.{type_grows, list_grows, hash_grows, interpolated_grows, prefix_grows, binary_grows}
@@ -105,7 +106,7 @@ module _ (inner : Inner) (g : GrowsInner inner) where
   chained_grows : (first : Operand) (ls : List (Link Operand)) (line : ℕ) (here : Here) →
       Grows (chained_by inner first ls line here)
   chained_grows first [] line here = operand_grows first line here
-  chained_grows first (l ∷ ls) line here = fault_grows _
+  chained_grows first (l ∷ ls) line here = unvalued_grows _ (links_grow inner g first (l ∷ ls) line here)
 
   chain_grows : (c : Chain Operand) (here : Here) → Grows (chain_rule inner c here)
   unfolding chain_rule

@@ -141,7 +141,7 @@ module _ (inner : Inner) (g : GrowsInner inner) where
       and_then (body_more_grows (is_default b) defaults before done b here)
       (λ more. bodies_grow defaults (before_next (is_default b) before) more bs here)
 
-  all_bodies_grow : (bs : List (tree_body.Body Expr)) (here : Here) → Grows (bodies_rule inner bs here)
+  pub all_bodies_grow : (bs : List (tree_body.Body Expr)) (here : Here) → Grows (bodies_rule inner bs here)
   unfolding bodies_rule
   all_bodies_grow bs here = and_then (defaults_grow [] bs here) (λ defaults. bodies_grow defaults 0 [] bs here)
 
@@ -151,7 +151,7 @@ module _ (inner : Inner) (g : GrowsInner inner) where
       Grows (class_title_rule inner written title b here)
   unfolding class_title_rule
   class_title_grows written title b here = and_then (answer_grows _) (λ c.
-      and_then (class_declared_grows inner g c (set_from [] b.lines) b.at here.owner) (λ u. answer_grows _))
+      class_declared_grows inner g c (set_from [] b.lines) b.at here.owner)
 
   title_grows : (written : Form) (kind : List ℕ) (title : Datum) (b : Body) (here : Here) →
       Grows (title_rule inner written kind title b here)
@@ -166,7 +166,7 @@ module _ (inner : Inner) (g : GrowsInner inner) where
   titles_grow written kind (t ∷ ts) b here =
       and_then (title_grows written kind t b here) (λ u. titles_grow written kind ts b here)
 
-  declare_bodies_grow : (written : Form) (kind : List ℕ) (bs : List Body) (here : Here) →
+  pub declare_bodies_grow : (written : Form) (kind : List ℕ) (bs : List Body) (here : Here) →
       Grows (declare_bodies inner written kind bs here)
   unfolding declare_bodies
   declare_bodies_grow written kind [] here = pure_grows

@@ -105,6 +105,7 @@ sample = record {
   value = λ e here. meant (out-Form (form_of e)) (line_of e) here;
   block = λ b line here. write_log (codes "block") [] >> pure d.undef;
   words = λ x here. pure d.undef;
+  target = λ r here. pure d.undef;
   class = λ n line here. write_log (codes "class") (n ∷ line ∷ here.scope.number ∷ here.owner ∷ []) >> pure d.undef;
   instance = λ n line here. write_log (codes "instance") (n ∷ line ∷ here.scope.number ∷ here.owner ∷ []) >> pure d.undef;
 }

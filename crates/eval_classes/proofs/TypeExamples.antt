@@ -60,7 +60,7 @@ of_type name = expr_at 4 (f.Type name)
 -- the value that was given, or the default, is of the type, else F8 where the instance was declared
 tested : (bound (of_type (codes "Integer")) (Some one) None ≡ Ok ((codes "x", one) ∷ []))
     × (bound (of_type (codes "Integer")) (Some (d.text b)) None ≡ refuses 7 (what.TypeMismatch (codes "x")))
-    × (bound (of_type (codes "String")) None (Some (expr_at 5 (f.Text b))) ≡ Ok ((codes "x", d.text b) ∷ []))
+    × (bound (of_type (codes "NotUndef")) None (Some (expr_at 5 (f.Text b))) ≡ Ok ((codes "x", d.text b) ∷ []))
     × (bound (of_type (codes "Integer")) None (Some (expr_at 5 (f.Text b)))
     ≡ refuses 7 (what.TypeMismatch (codes "x")))
     × (bound (of_type (codes "Undef")) None (Some (expr_at 5 f.Undef)) ≡ Ok ((codes "x", d.undef) ∷ []))

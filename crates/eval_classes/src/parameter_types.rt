@@ -1,4 +1,5 @@
 //! The types of parameters.
+ghost use Rattle.std.specs.Prelude.{◌≡◌};
 ghost use Rattle.eval_classes.specs.ParameterTypes as spec;
 ghost use Rattle.eval_world.specs.Nests.{Nests};
 ghost use Rattle.eval_world.specs.Outcomes.{Gives, same};

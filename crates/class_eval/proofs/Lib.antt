@@ -1,3 +1,4 @@
+mod ChainExamples
 mod Examples
 mod Lending
 mod Levels

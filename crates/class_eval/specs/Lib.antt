@@ -1,7 +1,8 @@
--- What the clauses of `site_main` rest on, and a reader has to believe: Evaluating, Facts, Meaning, Postfixes,
--- Starting, Statements
+-- What the clauses of `site_main` rest on, and a reader has to believe: Chains, Evaluating, Facts, Meaning, Postfixes,
+-- Starting, Statements, TypeNames
 -- What functions promise one another, what types keep, and what proofs read: EvaluatorCodes, Evaluators, LeafLaw,
 -- Single, Running
+pub mod Chains
 pub mod Evaluating
 pub mod EvaluatorCodes
 pub mod Evaluators
@@ -12,4 +13,5 @@ pub mod Postfixes
 pub mod Single
 pub mod Starting
 pub mod Statements
+pub mod TypeNames
 pub mod Running

@@ -11,12 +11,12 @@ use Rattle.pp_values.specs.Datum.{Datum}
 use Rattle.pp_values.specs.declared.fault.What.TheVariants as what
 use Rattle.class_eval.specs.Postfixes.{postfixed_rule}
 use Rattle.class_eval.specs.Statements.{block_rule}
+use Rattle.class_eval.specs.TypeNames.{type_named_rule}
 use Rattle.eval_calls.specs.Calls.{call_rule, words_rule}
 use Rattle.eval_classes.specs.Bodies.{class_rule, instance_rule}
 use Rattle.eval_forms.specs.Conditions.{if_rule, unless_rule, case_rule}
 use Rattle.eval_forms.specs.Literals.{list_rule, hash_rule, interpolated_rule}
 use Rattle.eval_forms.specs.Operators.{prefix_rule, binary_rule, assigned_rule}
-use Rattle.eval_forms.specs.Types.{type_rule}
 use Rattle.eval_overrides.specs.OverrideStatements.{target_rule}
 use Rattle.eval_world.specs.Inner.{Inner}
 use Rattle.eval_world.specs.Outcomes.{Step, pure}
@@ -35,7 +35,7 @@ value_by inner (Form-F.Text t) line here = pure (d.text t)
 value_by inner (Form-F.Name t) line here = pure (d.text t)
 value_by inner (Form-F.Interpolated ps) line here = interpolated_rule inner ps here
 value_by inner (Form-F.Variable x) line here = read here x line
-value_by inner (Form-F.Type t) line here = type_rule t line here
+value_by inner (Form-F.Type t) line here = type_named_rule t line here
 value_by inner (Form-F.List es) line here = list_rule inner es here
 value_by inner (Form-F.Hash ps) line here = hash_rule inner ps line here
 value_by inner (Form-F.Parentheses e) line here = inner.value e here

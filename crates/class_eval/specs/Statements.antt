@@ -8,13 +8,13 @@ use Rattle.pp_tree.specs.declared.statement.Operand.{Operand, out-Operand}
 use Rattle.pp_tree.specs.declared.statement.Statement.{Statement, out-Statement}
 use Rattle.pp_values.specs.Datum as d
 use Rattle.pp_values.specs.Datum.{Datum}
+use Rattle.class_eval.specs.Chains.{links_rule}
 use Rattle.eval_collectors.specs.Collectors.{collector_rule}
 use Rattle.eval_overrides.specs.DefaultStatements.{defaults_rule}
 use Rattle.eval_overrides.specs.OverrideStatements.{override_rule}
 use Rattle.eval_resources.specs.Resources.{resource_rule}
 use Rattle.eval_world.specs.Inner.{Inner}
 use Rattle.eval_world.specs.Outcomes.{Step, ◌>>=◌, ◌>>◌, pure}
-use Rattle.eval_world.specs.Worlds.{not_built}
 use Rattle.eval_world.specs.declared.here.Here.{Here}
 
 -- a statement that gives a value
@@ -40,10 +40,10 @@ operand_by inner (Operand-F.Defaults o) line here = unvalued (defaults_rule inne
 unfoldable pub operand_rule : Inner → Operand → ℕ → Here → Step (Option Datum)
 operand_rule inner o line here = operand_by inner (out-Operand o) line here
 
--- a chain with arrows
+-- A chain with arrows gives no value.
 abbrev pub chained_by : Inner → Operand → List (Link Operand) → ℕ → Here → Step (Option Datum)
 chained_by inner first [] line here = operand_rule inner first line here
-chained_by inner first (l ∷ ls) line here = not_built here line
+chained_by inner first (l ∷ ls) line here = unvalued (links_rule inner first (l ∷ ls) line here)
 
 unfoldable pub chain_rule : Inner → Chain Operand → Here → Step (Option Datum)
 chain_rule inner c here = chained_by inner c.first c.links c.at here

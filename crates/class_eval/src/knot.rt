@@ -8,11 +8,10 @@ ghost use Rattle.eval_world.specs.Outcomes.{Gives, same};
 
 use crate::postfixes::postfixed;
 use crate::statements::block;
+use crate::type_names::type_named;
 use eval_calls::{call, words};
 use eval_classes::{class_body, instance_body};
-use eval_forms::{
-    assigned, binary, case_of, hash, if_of, interpolated, list, prefix, type_of, unless_of,
-};
+use eval_forms::{assigned, binary, case_of, hash, if_of, interpolated, list, prefix, unless_of};
 use eval_overrides::target_of;
 use eval_world::{Evaluated, Forms, Goal, Here, Meaning, World};
 use pp_tree::expr::{Expr, Form};
@@ -54,7 +53,7 @@ pub fn form<F: Fn(&mut World<'_>, Goal<'_>, Here, u32) -> Result<Evaluated, Stop
         Form::Name(name) => Ok(text_value(world.heap.alloc(), name)?),
         Form::Interpolated(pieces) => interpolated(forms, world, pieces, here),
         Form::Variable(name) => world.read(here, name, expr.at),
-        Form::Type(name) => type_of(world, name, expr.at, here),
+        Form::Type(name) => type_named(world, name, expr.at, here),
         Form::List(items) => list(forms, world, items, here),
         Form::Hash(pairs) => hash(forms, world, pairs, expr.at, here),
         Form::Parentheses(within) => forms.value(world, within, here),

@@ -7,6 +7,7 @@ ghost use Rattle.eval_world.specs.Outcomes.{Gives, same};
 ghost use Rattle.pp_tree.specs.declared.statement.Operand.{out-Operand};
 ghost use Rattle.pp_tree.specs.declared.statement.Statement.{out-Statement};
 
+use crate::chains::relate_chain;
 use eval_collectors::collector;
 use eval_overrides::{defaults_of, override_of};
 use eval_resources::resource;
@@ -116,7 +117,11 @@ fn chained<F: Fn(&mut World<'_>, Goal<'_>, Here, u32) -> Result<Evaluated, Stop>
 {
     match chain.links.as_slice() {
         [] => operand(forms, world, &chain.first, chain.at, here),
-        [_, ..] => Ok(Some(world.not_built(here, chain.at)?)),
+        [_, ..] => {
+            let links = chain.links.as_slice();
+            relate_chain(forms, world, &chain.first, links, chain.at, here)?;
+            Ok(None)
+        }
     }
 }
 

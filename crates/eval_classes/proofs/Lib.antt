@@ -12,3 +12,4 @@ mod AboveExamples
 mod DataExamples
 mod Examples
 mod Samples
+mod TypeExamples

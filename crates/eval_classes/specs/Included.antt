@@ -1,4 +1,4 @@
--- The functions `include` and `contain`.
+-- The functions `include`, `contain` and `require`.
 use Rattle.std.specs.Prelude.{ℕ, Bool, true, false, if◌then◌else◌, List, [], ◌∷◌, ◌++◌, map, Option, None, Some}
 use Rattle.std.specs.Prelude.{Ok, codes}
 use Rattle.std.specs.Str.{bytes_eq}
@@ -10,8 +10,11 @@ use Rattle.pp_values.specs.Datum.{Datum, data_of}
 use Rattle.pp_values.specs.declared.fault.What.TheVariants as what
 use Rattle.pp_values.specs.declared.place.Place.{Place}
 use Rattle.pp_values.specs.declared.reference.Reference.{Reference}
-use Rattle.res_book.specs.Relations.{with_containment}
-use Rattle.res_book.specs.Rows.{number_of}
+use Rattle.res_book.specs.Relations.{with_containment, with_line}
+use Rattle.res_book.specs.Rows.{item_at, number_of, reference_of}
+use Rattle.res_book.specs.declared.relation_line.RelationLine.{RelationLine}
+use Rattle.res_core.specs.declared.declared.Declared.{Declared}
+use Rattle.res_core.specs.declared.operand.Operand.TheVariants as operand
 use Rattle.eval_world.specs.Inner.{Inner}
 use Rattle.eval_world.specs.Outcomes.{Step, ◌>>=◌, ◌>>◌, pure, answered}
 use Rattle.eval_world.specs.Owners.{owner_at}
@@ -28,6 +31,7 @@ abbrev pub including_of : List ℕ → Option Including
 including_of f =
     if bytes_eq f (codes "include") then Some including.Include
     else if bytes_eq f (codes "contain") then Some including.Contain
+    else if bytes_eq f (codes "require") then Some including.Require
     else None
 
 -- ---- the names of classes
@@ -70,9 +74,26 @@ contain_by (Some number) here = λ w. Ok (
   },
 )
 
-unfoldable pub contain_rule : Including → Class → Here → Step (Unit {0})
-contain_rule including.Include c here = pure tt
-contain_rule including.Contain c here = λ w. contain_by (number_of (class_reference (class_name c)) w.book) here w
+-- The class comes before the resource of the scope.
+abbrev pub before : Reference → Declared → Place → RelationLine
+before class item at = record {
+  left = operand.One class ∷ [];
+  right = operand.One (reference_of item) ∷ [];
+  signal = false;
+  at = at;
+}
+
+-- a number of no declaration stands for none
+abbrev pub require_by : Option Declared → Reference → Place → Step (Unit {0})
+require_by None class at = pure tt
+require_by (Some item) class at = λ w. Ok (tt, record w { relations = with_line (before class item at) w.relations })
+
+-- what the function tells of the class and the resource of the scope
+unfoldable pub relate_rule : Including → Class → Place → Here → Step (Unit {0})
+relate_rule including.Include c at here = pure tt
+relate_rule including.Contain c at here = λ w. contain_by (number_of (class_reference (class_name c)) w.book) here w
+relate_rule including.Require c at here = λ w.
+    require_by (item_at w.book (owner_at here.owner w.owners).resource) (class_reference (class_name c)) at w
 
 -- a class that is declared already stays as it is
 abbrev pub unless_there : Bool → Inner → Class → Place → ℕ → Step (Unit {0})
@@ -87,7 +108,7 @@ unfoldable pub include_rule : Inner → Including → List ℕ → Place → Her
 include_rule inner f name at here = do
   c ← (λ w. answered (class_found w.environment name at) w)
   declared_once inner c at here.owner
-  contain_rule f c here
+  relate_rule f c at here
 
 -- one class after another
 unfoldable pub include_from : Inner → Including → List (List ℕ) → Place → Here → Step (Unit {0})

@@ -1,5 +1,5 @@
 -- What the clauses of `site_main` rest on, and a reader has to believe: Attributes, Bodies, Definitions, Entering,
--- Included, Listing, OwnNames, Parameters, Stacks
+-- Included, Listing, OwnNames, ParameterTypes, Parameters, Stacks
 -- What functions promise one another, what types keep, and what proofs read: Above, Answers, AttributeSets
 pub mod Above
 pub mod Answers
@@ -11,5 +11,6 @@ pub mod Entering
 pub mod Included
 pub mod Listing
 pub mod OwnNames
+pub mod ParameterTypes
 pub mod Parameters
 pub mod Stacks

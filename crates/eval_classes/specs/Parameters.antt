@@ -2,7 +2,6 @@
 use Rattle.std.specs.Prelude.{ℕ, Bool, true, false, if◌then◌else◌, List, [], ◌∷◌, ◌++◌, Option, None, Some, Err, codes}
 use Rattle.std.specs.BTreeMap.{insert_entry}
 use Rattle.std.specs.Str.{bytes_eq}
-use Rattle.pp_tree.specs.Building.{line_of}
 use Rattle.pp_tree.specs.declared.expr.Expr.{Expr}
 use Rattle.pp_tree.specs.declared.param.Param.{Param}
 use Rattle.pp_values.specs.Datum.{Datum}
@@ -14,10 +13,11 @@ use Rattle.pp_values.specs.declared.place.Place.{Place}
 use Rattle.pp_values.specs.declared.reference.Reference.{Reference}
 use Rattle.eval_world.specs.Data.{look_up}
 use Rattle.eval_world.specs.Inner.{Inner}
-use Rattle.eval_world.specs.Outcomes.{Step, ◌>>=◌, ◌>>◌, pure}
-use Rattle.eval_world.specs.Worlds.{assign, not_built}
+use Rattle.eval_world.specs.Outcomes.{Step, ◌>>=◌, ◌>>◌, pure, answered}
+use Rattle.eval_world.specs.Worlds.{assign}
 use Rattle.eval_world.specs.declared.here.Here.{Here}
 use Rattle.eval_classes.specs.Attributes.{is_value}
+use Rattle.eval_classes.specs.ParameterTypes.{has_type, accepted}
 
 -- what was given for each name
 abbrev pub Given : Type 0
@@ -75,16 +75,18 @@ value_rule inner given p of at own = or_else (counted (given p.name)) (data_or_d
 
 -- ---- in order
 
--- a parameter with a type is not built, at the line of the type
-abbrev pub typed : Option Expr → Here → Step (Unit {0})
-typed None own = pure tt
-typed (Some kind) own = not_built own (line_of kind)
+-- where the parameter has a type, its value is of it, else F8 where the class or instance was declared
+abbrev pub typed : Inner → Option Expr → Datum → List ℕ → Place → Here → Step (Unit {0})
+typed inner None v x at own = pure tt
+typed inner (Some kind) v x at own = do
+  fits ← has_type inner kind v own
+  answered (accepted fits x at)
 
 -- The value is found first, then comes its type, then the name is set: F3 at the line of the variable.
 unfoldable pub bind_rule : Inner → Given → List Setting → Param Expr → Reference → Place → Here → Step (List Setting)
 bind_rule inner given done p of at own = do
   v ← value_rule inner given p of at own
-  typed p.kind own
+  typed inner p.kind v p.name at own
   assign own p.name v p.at
   pure (insert_entry text_cmp done p.name v)
 

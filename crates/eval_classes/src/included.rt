@@ -1,10 +1,13 @@
 //! Classes that are declared by functions and by resource expressions.
-ghost use Rattle.std.specs.Prelude.{◌≡◌, IfOk};
+ghost use Rattle.std.specs.Prelude.{◌≡◌, ◌∷◌, [], IfOk};
+ghost use Rattle.res_book.specs.Rows.{item_at};
+ghost use Rattle.res_core.specs.declared.operand.Operand.TheVariants as operand;
 ghost use Rattle.eval_classes.specs.Included as spec;
 ghost use Rattle.eval_classes.specs.Listing as listing;
 ghost use Rattle.eval_classes.specs.Stacks.{chain_seen, stack_of};
 ghost use Rattle.eval_world.specs.Nests.{Nests};
 ghost use Rattle.eval_world.specs.Outcomes.{Gives, nothing, same};
+ghost use Rattle.eval_world.specs.Owners.{owner_at};
 
 use crate::asked::{names_asked, references};
 use crate::chain::Chain;
@@ -14,14 +17,15 @@ use crate::definitions::class_found;
 use crate::including::Including;
 use crate::listed::Listed;
 use crate::listing::{check_parent, enter_chain, list_all};
-use crate::names::class_name;
+use crate::names::{class_name, class_reference};
 use eval_world::{Evaluated, Forms, Goal, Here, Meaning, World};
 use pp_tree::definition::Class;
-use pp_values::{Place, Stop, Text, Texts, Values, What};
-use res_book::Containment;
-use res_core::Attributes;
+use pp_values::{Memory, Place, Reference, Stop, Text, Texts, Values, What};
+use res_book::{Containment, RelationLine};
+use res_core::{Attributes, Declared, Operand, Operands};
+use std::alloc::Global;
 
-/// `include` and `contain`, with their arguments there. The answer is the list of references to the classes.
+/// `include`, `contain` and `require`, with their arguments there. The answer is the list of references to the classes.
 #[tactic(auto, unfolding(crate::specs::Included::included))]
 pub fn include<F: Fn(&mut World<'_>, Goal<'_>, Here, u32) -> Result<Evaluated, Stop>, M: Meaning>(
     forms: &Forms<F, M>,
@@ -104,7 +108,7 @@ fn include_one<F: Fn(&mut World<'_>, Goal<'_>, Here, u32) -> Result<Evaluated, S
 {
     let class = class_found(world.heap.alloc(), &world.environment, name, at)?;
     declare_once(forms, world, class, at, here.owner)?;
-    contain(world, including, class, here)
+    relate(world, including, class, at, here)
 }
 
 /// Declares a class as `include` does: one that is declared already stays as it is.
@@ -131,15 +135,16 @@ pub fn declare_once<
     declare_class(forms, world, class, &none, at, from)
 }
 
-/// The resource of the scope contains the class.
-#[tactic(auto, unfolding(crate::specs::Included::contain_rule))]
-fn contain(
+/// What the function tells of the class and the resource of the scope.
+#[tactic(auto, unfolding(crate::specs::Included::relate_rule))]
+fn relate(
     world: &mut World<'_>,
     including: Including,
     class: &Class,
+    at: &Place,
     here: Here,
 ) -> Result<(), Stop>
-    ensures { Gives nothing (spec.contain_rule including class.now here world.old) result world.new }
+    ensures { Gives nothing (spec.relate_rule including class.now at.now here world.old) result world.new }
 {
     match including {
         Including::Include => Ok(()),
@@ -148,9 +153,14 @@ fn contain(
             let number = number_of(world.heap.alloc(), &world.book, &name)?;
             contain_number(world, number, here)
         }
+        Including::Require => {
+            let name = class_name(world.heap.alloc(), class)?;
+            require(world, &name, at, here)
+        }
     }
 }
 
+/// The resource of the scope contains the class.
 fn contain_number(world: &mut World<'_>, number: Option<u32>, here: Here) -> Result<(), Stop>
     ensures { Gives nothing (spec.contain_by number here world.old) result world.new }
 {
@@ -161,6 +171,46 @@ fn contain_number(world: &mut World<'_>, number: Option<u32>, here: Here) -> Res
             .add_containment(Containment { outer, inner })?;
     }
     Ok(())
+}
+
+/// The class of this name comes before the resource of the scope.
+fn require(world: &mut World<'_>, name: &Text, at: &Place, here: Here) -> Result<(), Stop>
+    ensures { Gives nothing (spec.require_by (item_at world.old.book (owner_at here.owner world.old.owners).resource)
+        (listing.class_reference name.now) at.now world.old) result world.new }
+{
+    let resource = world.owners.get(here.owner).resource;
+    if resource >= world.book.count() {
+        return Ok(());
+    }
+    let line = line_before(world.heap.alloc(), name, world.book.item(resource), at)?;
+    Ok(world.relations.add_line(line)?)
+}
+
+fn line_before(
+    alloc: Global,
+    class: &Text,
+    item: &Declared,
+    at: &Place,
+) -> Result<RelationLine, Memory>
+    ensures { IfOk result (λ l. l ≡ spec.before (listing.class_reference class.now) item.now at.now) }
+{
+    let left = one(alloc, class_reference(alloc, class)?)?;
+    let right = one(alloc, item.reference(alloc)?)?;
+    let at = at.copy(alloc)?;
+    Ok(RelationLine {
+        left,
+        right,
+        signal: false,
+        at,
+    })
+}
+
+fn one(alloc: Global, reference: Reference) -> Result<Operands, Memory>
+    ensures { IfOk result (λ l. l ≡ operand.One reference ∷ []) }
+{
+    let mut operands = Operands::new(alloc);
+    operands.push(Operand::One(reference))?;
+    Ok(operands)
 }
 
 /// Declares a class that is not declared yet, with what was given for it, where the code of this owner stands: it is

@@ -9,6 +9,8 @@ pub enum Including {
     Include,
     /// The classes stand within the resource of the scope, too.
     Contain,
+    /// The classes come before the resource of the scope, too.
+    Require,
 }
 
 impl Including {
@@ -20,6 +22,8 @@ impl Including {
             Some(Including::Include)
         } else if function.is("contain") {
             Some(Including::Contain)
+        } else if function.is("require") {
+            Some(Including::Require)
         } else {
             None
         }

@@ -11,9 +11,9 @@ ghost use Rattle.res_core.specs.AttributeViews.{set_in};
 use crate::attribute_set::AttributeSet;
 use crate::attributes::is_value;
 use crate::binding::Binding;
+use crate::parameter_types::{accepted, has_type};
 use eval_world::{Evaluated, Forms, Goal, Here, Meaning, World};
 use pp_tree::Param;
-use pp_tree::expr::Expr;
 use pp_values::{Fault, Memory, Stop, Text, Value, What};
 use res_core::Attributes;
 use scope_core::ScopeId;
@@ -71,20 +71,32 @@ fn with_param<F: Fn(&mut World<'_>, Goal<'_>, Here, u32) -> Result<Evaluated, St
         binding.now.of binding.now.at own world.old) result world.new }
 {
     let value = value(forms, world, binding, param, own)?;
-    check_type(world, &param.kind, own)?;
+    check_type(forms, world, binding, param, value.as_value(), own)?;
     let kept = Evaluated::copy_of(world.heap.alloc(), value.as_value())?;
     world.assign(own, &param.name, value, param.at)?;
     let name = param.name.copy(world.heap.alloc())?;
     Ok(done.with(name, kept)?)
 }
 
-/// A parameter with a type is not built.
-fn check_type(world: &World<'_>, kind: &Option<Expr>, own: Here) -> Result<(), Stop>
-    ensures { Gives nothing (spec.typed kind.now own world.now) result world.now }
+/// Where the parameter has a type, its value is of it, else F8.
+fn check_type<F: Fn(&mut World<'_>, Goal<'_>, Here, u32) -> Result<Evaluated, Stop>, M: Meaning>(
+    forms: &Forms<F, M>,
+    world: &mut World<'_>,
+    binding: &Binding,
+    param: &Param,
+    value: &Value,
+    own: Here,
+) -> Result<(), Stop>
+    requires { Nests (M.within forms.now.left) forms.now.left (F.pre forms.now.inner) (F.post forms.now.inner) }
+    ensures { Gives nothing (spec.typed (M.within forms.now.left) param.now.kind (view value.now) param.now.name
+        binding.now.at own world.old) result world.new }
 {
-    match kind {
+    match &param.kind {
         None => Ok(()),
-        Some(kind) => Err(Stop::Fault(world.fault(own, kind.at, What::NotBuilt)?)),
+        Some(kind) => {
+            let fits = has_type(forms, world, kind, value, own)?;
+            accepted(world.heap.alloc(), fits, &param.name, &binding.at)
+        }
     }
 }
 

@@ -10,6 +10,7 @@ mod OfCollectors
 mod OfCalls
 mod OfResources
 mod OfOverrides
+mod OfChains
 mod OfEvaluator
 mod OfCollecting
 mod OfRounds

@@ -33,14 +33,14 @@ use Rattle.eval_calls.specs.Calls.{stray_lambda_rule, with_lambda_by, with_lambd
 use Rattle.eval_calls.specs.Calls.{invoked_on, method_rule, words_rule}
 use Rattle.eval_calls.specs.Iterating.{turns_from, over_rule, iterate_rule, reduce_from, reduced, reduce_rule, with_rule}
 use Rattle.eval_calls.specs.Iterating.{lambda_function_rule}
-use Rattle.eval_calls.specs.Lambdas.{Opened, opened, bound_by, bind_rule, bind_from, lambda_rule}
+use Rattle.eval_calls.specs.Lambdas.{Opened, opened, typed, bind_rule, bind_from, lambda_rule}
 use Rattle.eval_calls.specs.LookUps.{Request, request_of, or_next, first_found, default_or_fault, found_or, found_rule}
-use Rattle.eval_calls.specs.LookUps.{lookup_by, lookup_rule}
+use Rattle.eval_calls.specs.LookUps.{fitting, of_type, lookup_by, lookup_rule}
 use Rattle.eval_calls.specs.Names.{is_function, is_log}
 use Rattle.eval_calls.specs.Realizing.{references_asked, realize_from, realize_all, realized_by, realized}
 use Rattle.world_laws.specs.Extends.{Extends}
 use Rattle.world_laws.specs.Growing.{Reaches, Grows, GrowsInner}
-use Rattle.world_laws.proofs.OfClasses.{included_grows}
+use Rattle.world_laws.proofs.OfClasses.{included_grows, type_grows}
 use Rattle.world_laws.proofs.OfCollectors.{realize_grows}
 use Rattle.world_laws.proofs.OfWorld.{assign_grows, log_grows, look_up_grows, values_grow}
 use Rattle.world_laws.proofs.Steps.{and_then, pure_grows, answer_grows, fault_grows, either, told}
@@ -48,20 +48,22 @@ use Rattle.world_laws.proofs.Worlds.{extends_on, scope_entered, left_again}
 
 -- ---- lambdas
 
-bound_grows : (t : Option Expr) (x : List ℕ) (d : Datum) (line : ℕ) (own : Here) →
-    Grows (bound_by t x d line own)
-bound_grows None x d line own = assign_grows own x d line
-bound_grows (Some t) x d line own = fault_grows _
+module _ (inner : Inner) (g : GrowsInner inner) where
+  typed_grows : (kind : Option Expr) (d : Datum) (x : List ℕ) (line : ℕ) (own : Here) →
+      Grows (typed inner kind d x line own)
+  typed_grows None d x line own = pure_grows
+  typed_grows (Some kind) d x line own = and_then (type_grows inner g kind d own) (λ fits. answer_grows _)
 
-bind_grows : (p : Param Expr) (d : Datum) (own : Here) → Grows (bind_rule p d own)
-unfolding bind_rule
-bind_grows p d own = bound_grows p.kind p.name d p.at own
+  bind_grows : (p : Param Expr) (d : Datum) (line : ℕ) (own : Here) → Grows (bind_rule inner p d line own)
+  unfolding bind_rule
+  bind_grows p d line own = and_then (typed_grows p.kind d p.name line own) (λ u. assign_grows own p.name d p.at)
 
-binds_grow : (ps : List (Param Expr)) (ds : List Datum) (own : Here) → Grows (bind_from ps ds own)
-unfolding bind_from
-binds_grow [] ds own = pure_grows
-binds_grow (p ∷ ps) [] own = pure_grows
-binds_grow (p ∷ ps) (d ∷ ds) own = and_then (bind_grows p d own) (λ u. binds_grow ps ds own)
+  binds_grow : (ps : List (Param Expr)) (ds : List Datum) (line : ℕ) (own : Here) →
+      Grows (bind_from inner ps ds line own)
+  unfolding bind_from
+  binds_grow [] ds line own = pure_grows
+  binds_grow (p ∷ ps) [] line own = pure_grows
+  binds_grow (p ∷ ps) (d ∷ ds) line own = and_then (bind_grows p d line own) (λ u. binds_grow ps ds line own)
 
 -- ---- `lookup`
 
@@ -85,16 +87,24 @@ found_or_grows : (o : Option Datum) (r : Request) (line : ℕ) (here : Here) →
 found_or_grows (Some v) r line here = pure_grows
 found_or_grows None r line here = default_grows r.options.default r.keys line here
 
+fitting_grows : (fits : Bool) (value : Datum) (line : ℕ) (here : Here) → Grows (fitting fits value line here)
+fitting_grows true value line here = pure_grows
+fitting_grows false value line here = fault_grows _
+
+of_type_grows : (kind : Option Datum) (value : Datum) (line : ℕ) (here : Here) → Grows (of_type kind value line here)
+of_type_grows None value line here = pure_grows
+of_type_grows (Some kind) value line here = and_then (answer_grows _) (λ fits. fitting_grows fits value line here)
+
 found_grows : (r : Request) (line : ℕ) (here : Here) → Grows (found_rule r line here)
 unfolding found_rule
 found_grows r line here = and_then
     (told (λ w. first_found here.scope.number r.keys r.options.merge (place_at w here line))
     (λ w. firsts_grow here.scope.number r.keys r.options.merge _))
-    (λ found. found_or_grows found r line here)
+    (λ found. and_then (found_or_grows found r line here) (λ value. of_type_grows r.options.of_type value line here))
 
 lookup_by_grows : (o : Option Request) (f : List ℕ) (line : ℕ) (here : Here) → Grows (lookup_by o f line here)
 lookup_by_grows None f line here = fault_grows _
-lookup_by_grows (Some r) f line here = either r.options.has_type (fault_grows _) (found_grows r line here)
+lookup_by_grows (Some r) f line here = found_grows r line here
 
 lookup_grows : (f : List ℕ) (arguments : List Datum) (line : ℕ) (here : Here) →
     Grows (lookup_rule f arguments line here)
@@ -158,9 +168,9 @@ module _ (inner : Inner) (g : GrowsInner inner) where
   lambda_grows l arguments line here = record {
     reaches = λ w.
         block_ends w (entered_by here w) (own_of here w) l.block line
-        (bind_from l.params arguments (own_of here w) (entered_by here w))
+        (bind_from inner l.params arguments line (own_of here w) (entered_by here w))
         (scope_entered w kind.Lambda here.scope.number) (not_less (length w.scopes.scopes))
-        ((binds_grow l.params arguments (own_of here w)).reaches (entered_by here w));
+        ((binds_grow inner g l.params arguments line (own_of here w)).reaches (entered_by here w));
   }
 
   -- ---- functions that take a lambda

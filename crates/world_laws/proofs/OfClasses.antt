@@ -11,9 +11,10 @@ use Rattle.pp_values.specs.Settings.{Setting}
 use Rattle.pp_values.specs.declared.place.Place.{Place}
 use Rattle.pp_values.specs.declared.reference.Reference.{Reference}
 use Rattle.res_book.proofs.Growth.{grows-bound}
-use Rattle.res_book.specs.Relations.{Related, with_containment}
+use Rattle.res_book.specs.Relations.{Related, with_containment, with_line}
 use Rattle.res_book.specs.Rows.{item_at, number_of, reference_of}
 use Rattle.res_book.specs.declared.containment.Containment.{Containment}
+use Rattle.res_book.specs.declared.relation_line.RelationLine.{RelationLine}
 use Rattle.res_book.specs.declared.mode.Mode.TheVariants as mode
 use Rattle.res_core.specs.declared.declared.Declared.{Declared}
 use Rattle.scope_core.specs.Scopes.{entered}
@@ -29,12 +30,13 @@ use Rattle.eval_classes.specs.Bodies.{instance_body, attributes_at, instance_by,
 use Rattle.eval_classes.specs.Bodies.{run_by, run_rule}
 use Rattle.eval_classes.specs.Definitions.{class_name, longest_way, module_of}
 use Rattle.eval_classes.specs.Entering.{enter_rule, with_body}
-use Rattle.eval_classes.specs.Included.{contain_by, contain_rule, unless_there, declared_once, include_rule, include_from}
+use Rattle.eval_classes.specs.Included.{contain_by, require_by, relate_rule, unless_there, declared_once, include_rule, include_from}
 use Rattle.eval_classes.specs.Included.{include_names, included_by, included, names_asked}
 use Rattle.eval_classes.specs.Listing.{class_names, class_item, class_reference, is_declared, declare_rule, chain_from}
 use Rattle.eval_classes.specs.Listing.{outer_scope, class_owner, enter_scope, enter_all, enter_chain, own_rule, list_rule, list_all}
 use Rattle.eval_classes.specs.Listing.{known_parent, run_all, chain_declared, class_declared}
 use Rattle.eval_classes.specs.OwnNames.{names_rule}
+use Rattle.eval_classes.specs.ParameterTypes.{has_type}
 use Rattle.eval_classes.specs.Parameters.{Given, is_class, data_by, default_rule, counted, or_else, data_or_default}
 use Rattle.eval_classes.specs.Parameters.{value_rule, typed, bind_rule, bind_from}
 use Rattle.eval_classes.specs.Stacks.{Chain, Entered}
@@ -135,15 +137,28 @@ contain_by_grows (Some number) here = record {
   reaches = λ w. relations_grow w _ (one_containment _ w.relations);
 }
 
-contain_grows : (f : Including) (c : Class) (here : Here) → Grows (contain_rule f c here)
-unfolding contain_rule
-contain_grows including.Include c here = pure_grows
-contain_grows including.Contain c here =
-    told (λ w. contain_by (number_of (class_reference (class_name c)) w.book) here) (λ w. contain_by_grows _ here)
+pub one_line : (x : RelationLine) (r : Related) → RelationsGoOn r (with_line x r)
+one_line x r = record {
+  lines = goes_on r.lines (x ∷ []);
+  containments = stays r.containments;
+  collectors = stays r.collectors;
+  applied = λ c n is. is;
+}
 
-typed_grows : (t : Option Expr) (own : Here) → Grows (typed t own)
-typed_grows None own = pure_grows
-typed_grows (Some e) own = fault_grows _
+require_by_grows : (item : Option Declared) (class : Reference) (at : Place) → Grows (require_by item class at)
+require_by_grows None class at = pure_grows
+require_by_grows (Some item) class at = record {
+  reaches = λ w. relations_grow w _ (one_line _ w.relations);
+}
+
+relate_grows : (f : Including) (c : Class) (at : Place) (here : Here) → Grows (relate_rule f c at here)
+unfolding relate_rule
+relate_grows including.Include c at here = pure_grows
+relate_grows including.Contain c at here =
+    told (λ w. contain_by (number_of (class_reference (class_name c)) w.book) here) (λ w. contain_by_grows _ here)
+relate_grows including.Require c at here =
+    told (λ w. require_by (item_at w.book (owner_at here.owner w.owners).resource) (class_reference (class_name c)) at)
+    (λ w. require_by_grows _ _ at)
 
 -- ---- the site's data
 
@@ -191,7 +206,7 @@ module _ (inner : Inner) (g : GrowsInner inner) where
       Grows (include_rule inner f name at here)
   unfolding include_rule
   include_grows f name at here =
-      and_then (answer_grows _) (λ c. and_then (once_grows c at here.owner) (λ u. contain_grows f c here))
+      and_then (answer_grows _) (λ c. and_then (once_grows c at here.owner) (λ u. relate_grows f c at here))
 
   includes_grow : (f : Including) (names : List (List ℕ)) (at : Place) (here : Here) →
       Grows (include_from inner f names at here)
@@ -235,11 +250,20 @@ module _ (inner : Inner) (g : GrowsInner inner) where
   unfolding value_rule
   value_grows given p of at own = or_else_grows (counted (given p.name)) _ (data_grows p of at own)
 
+  pub type_grows : (kind : Expr) (value : Datum) (own : Here) → Grows (has_type inner kind value own)
+  unfolding has_type
+  type_grows kind value own = and_then (g.value kind _) (λ of_kind. answer_grows _)
+
+  typed_grows : (kind : Option Expr) (v : Datum) (x : List ℕ) (at : Place) (own : Here) →
+      Grows (typed inner kind v x at own)
+  typed_grows None v x at own = pure_grows
+  typed_grows (Some kind) v x at own = and_then (type_grows kind v own) (λ fits. answer_grows _)
+
   bind_grows : (given : Given) (done : List Setting) (p : Param Expr) (of : Reference) (at : Place) (own : Here) →
       Grows (bind_rule inner given done p of at own)
   unfolding bind_rule
   bind_grows given done p of at own = and_then (value_grows given p of at own) (λ v.
-      and_then (typed_grows p.kind own) (λ u. and_then (assign_grows own p.name v p.at) (λ u. pure_grows)))
+      and_then (typed_grows p.kind v p.name at own) (λ u. and_then (assign_grows own p.name v p.at) (λ u. pure_grows)))
 
   binds_grow : (given : Given) (done : List Setting) (ps : List (Param Expr)) (of : Reference) (at : Place)
       (own : Here) → Grows (bind_from inner given done ps of at own)

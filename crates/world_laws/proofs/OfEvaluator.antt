@@ -15,6 +15,8 @@ use Rattle.pp_tree.specs.declared.statement.Chain.{Chain}
 use Rattle.pp_tree.specs.declared.statement.Link.{Link}
 use Rattle.pp_tree.specs.declared.statement.Operand.{Operand, out-Operand}
 use Rattle.pp_tree.specs.declared.statement.Statement.{Statement, out-Statement}
+use Rattle.pp_types.specs.Names.{bare_name, data_type_named}
+use Rattle.pp_types.specs.declared.data_type.DataType.{DataType}
 use Rattle.pp_values.specs.Datum as datum
 use Rattle.pp_values.specs.Datum.{Datum}
 use Rattle.pp_values.specs.Settings.{Setting}
@@ -31,8 +33,10 @@ use Rattle.class_eval.specs.Meaning.{value_by, value_rule, deep, one_more, withi
 use Rattle.class_eval.specs.Postfixes.{PostfixLayer, postfix_by, postfix_rule, postfixes_from, postfixed_rule}
 use Rattle.class_eval.specs.Statements.{valued, unvalued, operand_by, operand_rule, chained_by, chain_rule, statement_by}
 use Rattle.class_eval.specs.Statements.{statement_rule, or_before, statements_from}
+use Rattle.class_eval.specs.TypeNames.{there_by, named_by, type_named_rule}
 use Rattle.world_laws.specs.Growing.{Reaches, Grows, GrowsInner}
 use Rattle.world_laws.proofs.OfCalls.{call_grows, method_grows, words_grow}
+use Rattle.world_laws.proofs.OfChains.{links_grow}
 use Rattle.world_laws.proofs.OfClasses.{class_declared_grows, once_grows, class_grows, instance_grows, run_grows}
 use Rattle.world_laws.proofs.OfClasses.{enter_grows}
 use Rattle.world_laws.proofs.OfForms.{type_grows, list_grows, hash_grows, interpolated_grows, prefix_grows, binary_grows}
@@ -43,6 +47,21 @@ use Rattle.world_laws.proofs.OfResources.{resource_grows}
 use Rattle.world_laws.proofs.OfWorld.{read_grows}
 use Rattle.world_laws.proofs.Steps.{and_then, pure_grows, answer_grows, fault_grows, told}
 use Rattle.world_laws.proofs.Worlds.{same_world}
+
+-- ---- names of types
+
+there_grows : (t : Option DataType) (name : List ℕ) (line : ℕ) (here : Here) → Grows (there_by t name line here)
+there_grows (Some t) name line here = pure_grows
+there_grows None name line here = answer_grows _
+
+named_grows : (typed : Bool) (name : List ℕ) (line : ℕ) (here : Here) → Grows (named_by typed name line here)
+named_grows false name line here = type_grows name line here
+named_grows true name line here =
+    and_then (there_grows (data_type_named (bare_name name)) name line here) (λ u. type_grows name line here)
+
+type_named_grows : (name : List ℕ) (line : ℕ) (here : Here) → Grows (type_named_rule name line here)
+unfolding type_named_rule
+type_named_grows name line here = named_grows here.typed name line here
 
 valued_grows : (p : Step Datum) → Grows p → Grows (valued p)
 valued_grows p f = and_then f (λ v. pure_grows)
@@ -89,7 +108,7 @@ module _ (inner : Inner) (g : GrowsInner inner) where
   chained_grows : (first : Operand) (ls : List (Link Operand)) (line : ℕ) (here : Here) →
       Grows (chained_by inner first ls line here)
   chained_grows first [] line here = operand_grows first line here
-  chained_grows first (l ∷ ls) line here = fault_grows _
+  chained_grows first (l ∷ ls) line here = unvalued_grows _ (links_grow inner g first (l ∷ ls) line here)
 
   chain_grows : (c : Chain Operand) (here : Here) → Grows (chain_rule inner c here)
   unfolding chain_rule
@@ -120,7 +139,7 @@ module _ (inner : Inner) (g : GrowsInner inner) where
   value_by_grows (Form-F.Name t) line here = pure_grows
   value_by_grows (Form-F.Interpolated ps) line here = interpolated_grows inner g ps here
   value_by_grows (Form-F.Variable x) line here = read_grows here x line
-  value_by_grows (Form-F.Type t) line here = type_grows t line here
+  value_by_grows (Form-F.Type t) line here = type_named_grows t line here
   value_by_grows (Form-F.List es) line here = list_grows inner g es here
   value_by_grows (Form-F.Hash ps) line here = hash_grows inner g ps line here
   value_by_grows (Form-F.Parentheses e) line here = g.value e here

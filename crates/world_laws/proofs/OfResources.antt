@@ -19,7 +19,6 @@ use Rattle.eval_resources.specs.Declaring.{set_from, item_of, mode_of, declare_r
 use Rattle.res_core.specs.Lines.{Line}
 use Rattle.res_core.specs.declared.body.Body.{Body}
 use Rattle.eval_resources.specs.Resources.{declared_rule, class_title_rule, title_rule, titles_rule, declare_bodies}
-use Rattle.eval_resources.specs.Resources.{relations_checked}
 use Rattle.eval_resources.specs.Resources.{form_of, resource_rule}
 use Rattle.eval_resources.specs.declared.named.Named.{Named}
 use Rattle.world_laws.specs.Growing.{Grows, GrowsInner}
@@ -42,7 +41,7 @@ declared_grows : (written : Form) (kind : List ℕ) (title : Datum) (b : Body) (
 unfolding declared_rule
 declared_grows written kind title b here =
     and_then (answer_grows _) (λ named. and_then (declare_grows written named b here) (λ number.
-    and_then (answer_grows (λ w. stands w.overrides w.book number)) (λ u. answer_grows (λ w. relations_checked b.lines))))
+    answer_grows (λ w. stands w.overrides w.book number)))
 
 module _ (inner : Inner) (g : GrowsInner inner) where
   -- ---- bodies
@@ -85,7 +84,7 @@ module _ (inner : Inner) (g : GrowsInner inner) where
       and_then (body_more_grows (is_default b) defaults before done b here)
       (λ more. bodies_grow defaults (before_next (is_default b) before) more bs here)
 
-  all_bodies_grow : (bs : List (tree_body.Body Expr)) (here : Here) → Grows (bodies_rule inner bs here)
+  pub all_bodies_grow : (bs : List (tree_body.Body Expr)) (here : Here) → Grows (bodies_rule inner bs here)
   unfolding bodies_rule
   all_bodies_grow bs here = and_then (defaults_grow [] bs here) (λ defaults. bodies_grow defaults 0 [] bs here)
 
@@ -95,7 +94,7 @@ module _ (inner : Inner) (g : GrowsInner inner) where
       Grows (class_title_rule inner written title b here)
   unfolding class_title_rule
   class_title_grows written title b here = and_then (answer_grows _) (λ c.
-      and_then (class_declared_grows inner g c (set_from [] b.lines) b.at here.owner) (λ u. answer_grows _))
+      class_declared_grows inner g c (set_from [] b.lines) b.at here.owner)
 
   title_grows : (written : Form) (kind : List ℕ) (title : Datum) (b : Body) (here : Here) →
       Grows (title_rule inner written kind title b here)
@@ -110,7 +109,7 @@ module _ (inner : Inner) (g : GrowsInner inner) where
   titles_grow written kind (t ∷ ts) b here =
       and_then (title_grows written kind t b here) (λ u. titles_grow written kind ts b here)
 
-  declare_bodies_grow : (written : Form) (kind : List ℕ) (bs : List Body) (here : Here) →
+  pub declare_bodies_grow : (written : Form) (kind : List ℕ) (bs : List Body) (here : Here) →
       Grows (declare_bodies inner written kind bs here)
   unfolding declare_bodies
   declare_bodies_grow written kind [] here = pure_grows

@@ -18,21 +18,30 @@ use Rattle.res_book.specs.declared.relation_line.RelationLine.{RelationLine}
 use Rattle.res_core.specs.declared.operand.Operand.{Operand}
 use Rattle.res_core.specs.declared.operand.Operand.TheVariants as operand
 use Rattle.class_eval.specs.declared.chain_end.End.{End}
-use Rattle.eval_resources.specs.Collectors.{collector_rule}
+use Rattle.eval_collectors.specs.Collectors.{collector_rule}
+use Rattle.eval_overrides.specs.DefaultStatements.{defaults_rule}
+use Rattle.eval_overrides.specs.OverrideStatements.{override_rule}
 use Rattle.eval_resources.specs.Relating.{operands_rule}
 use Rattle.eval_world.specs.Inner.{Inner}
 use Rattle.eval_world.specs.Outcomes.{Step, ◌>>=◌, ◌>>◌, pure}
-use Rattle.eval_world.specs.Worlds.{fault, not_built, place_at}
+use Rattle.eval_world.specs.Worlds.{fault, place_at}
 use Rattle.eval_world.specs.declared.here.Here.{Here}
 use Rattle.eval_world.specs.declared.world.World.{World}
 
 -- ---- what stands at an end of an arrow; None where it is nothing that can be related
 
+abbrev pub reference_in : Datum → Option Operand
+reference_in (d.reference r) = Some (operand.One r)
+reference_in _ = None
+
+abbrev pub or_none : Option Operand → (Operand → Option (List Operand)) → Option (List Operand)
+or_none None next = None
+or_none (Some o) next = next o
+
 -- the references among these values, behind those that are there; None where one is none
 unfoldable pub references_from : List Operand → List Datum → Option (List Operand)
 references_from done [] = Some done
-references_from done (d.reference r ∷ ds) = references_from (done ++ operand.One r ∷ []) ds
-references_from done (v ∷ ds) = None
+references_from done (v ∷ ds) = or_none (reference_in v) (λ o. references_from (done ++ o ∷ []) ds)
 
 -- a reference, or a list of references, at any depth
 abbrev pub references_in : Datum → Option (List Operand)
@@ -42,7 +51,14 @@ references_in v = references_from [] (flat v)
 abbrev pub last_collector : World → List Operand
 last_collector w = operand.All (length w.relations.collectors - 1) ∷ []
 
--- Resources and collectors stand for what they declare and take. Overrides and default statements stand in no chain.
+-- a statement that relates nothing
+abbrev pub relates_nothing : Step (Unit {0}) → Step (Option (List Operand))
+relates_nothing p = do
+  p
+  pure None
+
+-- Resources and collectors stand for what they declare and take. Overrides and default statements stand in no chain of the
+-- grammar, and relate nothing.
 abbrev pub related_by : Inner → OperandLayer → ℕ → Here → Step (Option (List Operand))
 related_by inner (Operand-F.Expr e) line here = do
   v ← inner.value e here
@@ -53,8 +69,8 @@ related_by inner (Operand-F.Resource r) line here = do
 related_by inner (Operand-F.Collector c) line here = do
   collector_rule inner c here
   (λ w. Ok (Some (last_collector w), w))
-related_by inner (Operand-F.Override o) line here = not_built here line
-related_by inner (Operand-F.Defaults o) line here = not_built here line
+related_by inner (Operand-F.Override o) line here = relates_nothing (override_rule inner o here)
+related_by inner (Operand-F.Defaults o) line here = relates_nothing (defaults_rule inner o here)
 
 unfoldable pub related_rule : Inner → tree.Operand → ℕ → Here → Step (Option (List Operand))
 related_rule inner o line here = related_by inner (out-Operand o) line here

@@ -3,7 +3,6 @@ ghost use Rattle.std.specs.Prelude.{◌≡◌, [], Some, IfOk};
 ghost use Rattle.class_eval.specs.Chains as spec;
 ghost use Rattle.eval_world.specs.Nests.{Nests};
 ghost use Rattle.eval_world.specs.Outcomes.{Gives, nothing, same};
-ghost use Rattle.eval_world.specs.Worlds as worlds;
 ghost use Rattle.eval_world.specs.Worlds.{place_at};
 ghost use Rattle.pp_funcs.specs.Lists.{behind};
 ghost use Rattle.pp_values.specs.Faults.{fault};
@@ -13,7 +12,9 @@ ghost use Rattle.pp_values.specs.declared.fault.What.TheVariants as what;
 
 use crate::chain_end::End;
 use eval_classes::flattened;
-use eval_resources::{collector, operands};
+use eval_collectors::collector;
+use eval_overrides::{defaults_of, override_of};
+use eval_resources::operands;
 use eval_world::{Evaluated, Forms, Goal, Here, Meaning, World};
 use pp_tree::statement::{Arrow, Link, Operand as Written};
 use pp_values::{Memory, Place, Stop, Text, Value, What};
@@ -65,14 +66,15 @@ fn related<F: Fn(&mut World<'_>, Goal<'_>, Here, u32) -> Result<Evaluated, Stop>
             collector(forms, world, registered.get(), here)?;
             Ok(Some(last_collector(world)?))
         }
-        Written::Override(_) | Written::Defaults(_) => not_built(world, line, here),
+        Written::Override(written) => {
+            override_of(forms, world, written.get(), here)?;
+            Ok(None)
+        }
+        Written::Defaults(written) => {
+            defaults_of(forms, world, written.get(), here)?;
+            Ok(None)
+        }
     }
-}
-
-fn not_built(world: &World<'_>, line: u32, here: Here) -> Result<Option<Operands>, Stop>
-    ensures { Gives same (worlds.not_built here line world.now) result world.now }
-{
-    Err(Stop::Fault(world.fault(here, line, What::NotBuilt)?))
 }
 
 /// The references that a value is, or those in a list.
@@ -89,12 +91,21 @@ fn references(alloc: Global, values: &[&Value]) -> Result<Option<Operands>, Memo
 {
     let mut done = Operands::new(alloc);
     for value in values {
-        match value {
-            Value::Ref(reference) => done.push(Operand::One(reference.get().copy(alloc)?))?,
-            _ => return Ok(None),
+        match reference_in(alloc, value)? {
+            Some(reference) => done.push(reference)?,
+            None => return Ok(None),
         }
     }
     Ok(Some(done))
+}
+
+fn reference_in(alloc: Global, value: &Value) -> Result<Option<Operand>, Memory>
+    ensures { IfOk result (λ o. o ≡ spec.reference_in (view value.now)) }
+{
+    match value {
+        Value::Ref(reference) => Ok(Some(Operand::One(reference.get().copy(alloc)?))),
+        _ => Ok(None),
+    }
 }
 
 /// The collector that was registered last.
@@ -230,11 +241,11 @@ fn relation(left: Operands, right: Operands, signal: bool, at: Place) -> Relatio
 fn copy_operands(alloc: Global, operands: &Operands) -> Result<Operands, Memory>
     ensures { IfOk result (λ l. l ≡ operands.now) }
 {
-    let mut all = Operands::new(alloc);
+    let mut all = Vec::with_capacity(alloc, operands.len())?;
     for operand in operands.as_slice() {
         all.push(copy_operand(alloc, operand)?)?;
     }
-    Ok(all)
+    Ok(Operands::from_vec(all))
 }
 
 fn copy_operand(alloc: Global, operand: &Operand) -> Result<Operand, Memory>

@@ -297,22 +297,11 @@ requires_no_class : (m : Environment)
     → run (plainly (codes "require") (one ∷ [])) m ≡ refuses 3 (what.WrongArguments (codes "require"))
 unfolding plain_rule evaluated_rule site_rule included names_from needs_evaluator lambda_function owner_at
 requires_no_class m = refl
-<<<<<<< HEAD
 
 -- resources are brought to life: `proofs/RealizeExamples.antt`
 no_reference : (m : Environment) → run (plainly (codes "realize") (one ∷ [])) m ≡ refuses 3 (what.WrongArguments (codes "realize"))
 unfolding plain_rule evaluated_rule site_rule data_rule realized arguments_from references_from needs_evaluator lambda_function owner_at
 no_reference m = refl
-=======
-
--- what is not evaluated yet
-abbrev is_not_built : List ℕ → Type 0
-is_not_built f = (m : Environment) → run (plainly f (one ∷ [])) m ≡ refuses 3 what.NotBuilt
-
-realize_to_come : is_not_built (codes "realize")
-unfolding plain_rule evaluated_rule site_rule data_rule needs_evaluator lambda_function owner_at
-realize_to_come m = refl
->>>>>>> types/main
 
 -- data are looked up: `proofs/LookUpExamples.antt`
 no_key : (m : Environment) → run (plainly (codes "lookup") (one ∷ [])) m ≡ refuses 3 (what.WrongArguments (codes "lookup"))

@@ -160,13 +160,8 @@ fitting false value line here = fault here line (what.TypeMismatch (codes "looku
 
 abbrev pub of_type : Option Datum → Datum → ℕ → Here → Step Datum
 of_type None value line here = pure value
-<<<<<<< HEAD
 of_type (Some wanted) value line here = do
   fits ← (λ w. answered (is_of value wanted (place_at w here line)) w)
-=======
-of_type (Some kind) value line here = do
-  fits ← (λ w. answered (is_of value kind (place_at w here line)) w)
->>>>>>> types/main
   fitting fits value line here
 
 -- in the scope that the call stands in, at its place

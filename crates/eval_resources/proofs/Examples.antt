@@ -24,10 +24,6 @@ use Rattle.res_book.specs.declared.mode.Mode.{Mode}
 use Rattle.res_book.specs.declared.mode.Mode.TheVariants as mode
 use Rattle.res_book.specs.declared.row.Row.{Row}
 use Rattle.res_core.specs.AttributeChecks.{known_checked}
-<<<<<<< HEAD
-=======
-use Rattle.res_core.specs.Criteria.{all, by_tag}
->>>>>>> types/main
 use Rattle.res_core.specs.Metaparameters.{is_metaparameter}
 use Rattle.res_core.specs.NativeTypes.{native_of, attributes_of}
 use Rattle.res_core.specs.TagNames.{segments, is_word_byte, is_tag_byte}

@@ -8,11 +8,6 @@ use Rattle.pp_tree.specs.declared.resource.ResourceForm.{ResourceForm}
 use Rattle.pp_tree.specs.declared.resource.ResourceForm.TheVariants as mark
 use Rattle.pp_values.specs.Datum.{Datum}
 use Rattle.override_rules.specs.Meaning.{stands}
-<<<<<<< HEAD
-=======
-use Rattle.res_core.specs.declared.action.Action.{Action}
-use Rattle.res_core.specs.declared.action.Action.TheVariants as action
->>>>>>> types/main
 use Rattle.res_core.specs.declared.form.Form.{Form}
 use Rattle.res_core.specs.declared.form.Form.TheVariants as form
 use Rattle.eval_world.specs.Inner.{Inner}

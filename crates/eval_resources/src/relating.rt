@@ -6,15 +6,9 @@ ghost use Rattle.eval_world.specs.Outcomes.{Gives, same};
 ghost use Rattle.pp_values.specs.Datum.{text};
 ghost use Rattle.pp_values.specs.Views.{view, views};
 
-<<<<<<< HEAD
 use crate::bodies::bodies;
 use crate::resources::form_of;
 use crate::titles::declare_bodies;
-=======
-use crate::acting::declare_bodies;
-use crate::bodies::bodies;
-use crate::resources::form_of;
->>>>>>> types/main
 use eval_classes::normal_name;
 use eval_world::{Evaluated, Forms, Goal, Here, Meaning, World};
 use pp_tree::resource::Resource;

@@ -1,15 +1,7 @@
-<<<<<<< HEAD:crates/eval_resources/src/titles.rt
 //! The titles of bodies whose values are there.
 ghost use Rattle.eval_resources.specs.Resources as spec;
 ghost use Rattle.eval_world.specs.Nests.{Nests};
 ghost use Rattle.eval_world.specs.Outcomes.{Gives, nothing};
-=======
-//! What statements ask for, with their values there.
-ghost use Rattle.eval_resources.specs.Resources as spec;
-ghost use Rattle.eval_world.specs.Nests.{Nests};
-ghost use Rattle.eval_world.specs.Outcomes.{Gives, nothing};
-ghost use Rattle.eval_world.specs.Worlds as worlds;
->>>>>>> types/main:crates/eval_resources/src/acting.rt
 ghost use Rattle.pp_values.specs.Views.{view, views};
 
 use crate::attributes::attributes;
@@ -18,59 +10,10 @@ use crate::classes::class_tested;
 use crate::declaring::declare;
 use eval_classes::declare_class;
 use eval_world::{Evaluated, Forms, Goal, Here, Meaning, World};
-<<<<<<< HEAD:crates/eval_resources/src/titles.rt
 use pp_values::{Stop, Text, Value};
 use res_core::{Body, Form};
 
 /// Declares each title of each body, in order.
-=======
-use pp_values::{Stop, Text, Value, What};
-use res_core::{Action, Body, Form};
-
-/// Does what a statement that begins at this line asks for. Of a resource each title of each body is declared, in
-/// order.
-#[tactic(auto, unfolding(crate::specs::Resources::act_rule))]
-pub fn act<F: Fn(&mut World<'_>, Goal<'_>, Here, u32) -> Result<Evaluated, Stop>, M: Meaning>(
-    forms: &Forms<F, M>,
-    world: &mut World<'_>,
-    action: &Action,
-    line: u32,
-    here: Here,
-) -> Result<(), Stop>
-    requires { Nests (M.within forms.now.left) forms.now.left (F.pre forms.now.inner) (F.post forms.now.inner) }
-    ensures { Gives nothing (spec.act_rule (M.within forms.now.left) action.now line here world.old) result world.new }
-{
-    match action {
-        Action::Resource { form, kind, bodies } => {
-            declare_bodies(forms, world, *form, kind, bodies.as_slice(), here)
-        }
-        Action::Override {
-            target: _,
-            lines: _,
-        } => not_built(world, line, here),
-        Action::Defaults { kind: _, lines: _ } => not_built(world, line, here),
-        Action::Collect {
-            exported: _,
-            kind: _,
-            query: _,
-            lines: _,
-        } => not_built(world, line, here),
-        Action::Relate {
-            left: _,
-            right: _,
-            signal: _,
-        } => not_built(world, line, here),
-    }
-}
-
-fn not_built(world: &World<'_>, line: u32, here: Here) -> Result<(), Stop>
-    ensures { Gives nothing (worlds.not_built here line world.now) result world.now }
-{
-    Err(Stop::Fault(world.fault(here, line, What::NotBuilt)?))
-}
-
-/// Each title of each body is declared, in order.
->>>>>>> types/main:crates/eval_resources/src/acting.rt
 #[tactic(auto, unfolding(crate::specs::Resources::declare_bodies))]
 pub fn declare_bodies<
     F: Fn(&mut World<'_>, Goal<'_>, Here, u32) -> Result<Evaluated, Stop>,

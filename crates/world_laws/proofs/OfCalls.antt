@@ -132,8 +132,7 @@ realized_grows f arguments line here = realized_by_grows (references_asked argum
 data_grows : (f : List ℕ) (arguments : List Datum) (line : ℕ) (here : Here) → Grows (data_rule f arguments line here)
 unfolding data_rule
 data_grows f arguments line here =
-    either (bytes_eq f (codes "lookup")) (lookup_grows f arguments line here)
-    (either (bytes_eq f (codes "realize")) (realized_grows f arguments line here) (fault_grows _))
+    either (bytes_eq f (codes "lookup")) (lookup_grows f arguments line here) (realized_grows f arguments line here)
 
 -- ---- a call of a lambda
 

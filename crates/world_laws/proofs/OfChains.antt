@@ -18,7 +18,9 @@ use Rattle.eval_world.specs.Inner.{Inner}
 use Rattle.eval_world.specs.declared.here.Here.{Here}
 use Rattle.world_laws.specs.Growing.{Grows, GrowsInner}
 use Rattle.world_laws.proofs.OfClasses.{one_line}
-use Rattle.world_laws.proofs.OfResources.{all_bodies_grow, collector_grows, declare_bodies_grow}
+use Rattle.world_laws.proofs.OfCollectors.{collector_grows}
+use Rattle.world_laws.proofs.OfOverrides.{override_grows, defaults_grow}
+use Rattle.world_laws.proofs.OfResources.{all_bodies_grow, declare_bodies_grow}
 use Rattle.world_laws.proofs.Steps.{and_then, pure_grows, answer_grows, fault_grows}
 use Rattle.world_laws.proofs.Worlds.{relations_grow, same_world}
 
@@ -53,8 +55,8 @@ module _ (inner : Inner) (g : GrowsInner inner) where
   related_by_grows (Operand-F.Collector c) line here = and_then (collector_grows inner g c here) (λ u. record {
     reaches = same_world;
   })
-  related_by_grows (Operand-F.Override o) line here = fault_grows _
-  related_by_grows (Operand-F.Defaults o) line here = fault_grows _
+  related_by_grows (Operand-F.Override o) line here = and_then (override_grows inner g o here) (λ u. pure_grows)
+  related_by_grows (Operand-F.Defaults o) line here = and_then (defaults_grow inner g o here) (λ u. pure_grows)
 
   related_grows : (o : tree.Operand) (line : ℕ) (here : Here) → Grows (related_rule inner o line here)
   unfolding related_rule

@@ -3,11 +3,11 @@ use Rattle.std.proofs.Common.{◌≡◌, ℕ, true, false, List, [], ◌∷◌, 
 use Rattle.std.specs.Fmt.{digits}
 use Rattle.pp_tree.specs.Building.{collector, query, conjunction as tests_of, comparison, setting}
 use Rattle.pp_tree.specs.Names.{normal, without_front_colons}
-use Rattle.pp_tree.specs.declared.collector.Collector as tree
 use Rattle.pp_tree.specs.declared.collector.Collector.{out-roll-Collector}
-use Rattle.pp_tree.specs.declared.collector.Conjunction.{Conjunction, out-roll-Conjunction}
+use Rattle.pp_tree.specs.declared.collector.Conjunction.{Conjunction}
 use Rattle.pp_tree.specs.declared.collector.Query.{Query, out-roll-Query}
 use Rattle.pp_tree.specs.declared.collector.Test.{Test, out-Test}
+use Rattle.pp_tree.specs.declared.collector.Test.TheBlock.{shown-the_row-Form-0}
 use Rattle.pp_tree.specs.declared.collector.Test.TheVariants as test
 use Rattle.pp_tree.specs.declared.expr.Expr.{Expr}
 use Rattle.pp_tree.specs.declared.expr.Form.{out-Form}
@@ -24,13 +24,12 @@ use Rattle.res_book.specs.declared.collector.Collector.{Collector}
 use Rattle.res_core.specs.Criteria.{Criterion, all, by_title, by_tag, by_attribute, negation, conjunction, disjunction, criteria_of}
 use Rattle.res_core.specs.Lines.{Line}
 use Rattle.attribute_lines.specs.Reading.{line, lines_from, attribute_rule, setting_rule, splat_rule, splatted}
-use Rattle.attribute_lines.proofs.Samples.{text, nested, told, word, undef, a_hash, a_list, fails, sample, sets, adds}
+use Rattle.attribute_lines.proofs.Samples.{text, nested, told, undef, a_hash, a_list, fails, sample, sets, adds}
 use Rattle.attribute_lines.proofs.Samples.{here, place, said, texts, Tells, Refuses}
 use Rattle.eval_world.specs.Environment.{Environment}
-use Rattle.eval_world.specs.Outcomes.{Outcome, Step, ◌>>=◌, ◌>>◌}
+use Rattle.eval_world.specs.Outcomes.{Outcome, Step, ◌>>◌}
 use Rattle.eval_world.specs.Owners.{owner_at}
 use Rattle.eval_world.specs.Worlds.{empty, write_log}
-use Rattle.eval_world.specs.declared.here.Here.{Here}
 use Rattle.eval_collectors.specs.Collectors.{register, kind_rule, register_kind, collector_rule, register_reference}
 use Rattle.eval_collectors.specs.Collectors.{realize_rule}
 use Rattle.eval_collectors.specs.Queries.{compare_rule, test_rule, tests_from, conjunctions_from, query_within}
@@ -68,26 +67,26 @@ abbrev asked_for : Query → Step Criterion
 asked_for q = query_within 200 sample 7 q here
 
 by_title_alone : Tells (asked_for (both (is (codes "title") (told a) ∷ []))) (by_title (text a)) (a ∷ [])
-unfolding query_within test_rule compare_rule write_log out-Test out-Form denote.Hole.Carrier.out
-by_title_alone environment = simp (out-roll-Query, out-roll-Conjunction) refl
+unfolding query_within test_rule compare_rule write_log out-Test out-Form shown-the_row-Form-0 denote.Hole.Carrier.out denote.Hole.Carrier.shown denote.Hole.Carrier.hidden
+by_title_alone environment = simp out-roll-Query refl
 
 by_tag_alone : Tells (asked_for (both (tagged a ∷ []))) (by_tag (text a)) (a ∷ [])
-unfolding query_within test_rule compare_rule write_log out-Test out-Form denote.Hole.Carrier.out
-by_tag_alone environment = simp (out-roll-Query, out-roll-Conjunction) refl
+unfolding query_within test_rule compare_rule write_log out-Test out-Form shown-the_row-Form-0 denote.Hole.Carrier.out denote.Hole.Carrier.shown denote.Hole.Carrier.hidden
+by_tag_alone environment = simp out-roll-Query refl
 
 -- any other word names an attribute, and its value may be of any kind
 by_word : Tells (asked_for (both (is (codes "mode") a_list ∷ []))) (by_attribute (codes "mode") nested) []
-unfolding query_within test_rule compare_rule out-Test out-Form denote.Hole.Carrier.out
-by_word environment = simp (out-roll-Query, out-roll-Conjunction) refl
+unfolding query_within test_rule compare_rule out-Test out-Form shown-the_row-Form-0 denote.Hole.Carrier.out denote.Hole.Carrier.shown denote.Hole.Carrier.hidden
+by_word environment = simp out-roll-Query refl
 
 -- `!=` is the negation
 unlike_tag : Tells (asked_for (both (is_not (codes "tag") (told a) ∷ []))) (negation (by_tag (text a))) (a ∷ [])
-unfolding query_within test_rule compare_rule write_log out-Test out-Form denote.Hole.Carrier.out
-unlike_tag environment = simp (out-roll-Query, out-roll-Conjunction) refl
+unfolding query_within test_rule compare_rule write_log out-Test out-Form shown-the_row-Form-0 denote.Hole.Carrier.out denote.Hole.Carrier.shown denote.Hole.Carrier.hidden
+unlike_tag environment = simp out-roll-Query refl
 
 is_set : Tells (asked_for (both (is_not (codes "owner") undef ∷ []))) (negation (by_attribute (codes "owner") d.undef)) []
-unfolding query_within test_rule compare_rule out-Test out-Form denote.Hole.Carrier.out
-is_set environment = simp (out-roll-Query, out-roll-Conjunction) refl
+unfolding query_within test_rule compare_rule out-Test out-Form shown-the_row-Form-0 denote.Hole.Carrier.out denote.Hole.Carrier.shown denote.Hole.Carrier.hidden
+is_set environment = simp out-roll-Query refl
 
 -- values are evaluated in the order in which they are written
 in_order : Tells
@@ -95,16 +94,16 @@ in_order : Tells
     (conjunction (criteria_of
     (by_tag (text a) ∷ negation (by_title (text b)) ∷ by_attribute (codes "mode") (text c) ∷ [])))
     (a ∷ b ∷ c ∷ [])
-unfolding query_within tests_from test_rule compare_rule write_log out-Test out-Form denote.Hole.Carrier.out
-in_order environment = simp (out-roll-Query, out-roll-Conjunction) refl
+unfolding query_within tests_from test_rule compare_rule write_log out-Test out-Form shown-the_row-Form-0 denote.Hole.Carrier.out denote.Hole.Carrier.shown denote.Hole.Carrier.hidden
+in_order environment = simp out-roll-Query refl
 
 -- `tag == 'a' or tag == 'b' and tag == 'c'`: `and` binds tighter
 or_of_and : Tells (asked_for (query (alone (tagged a) ∷ tests_of (tagged b ∷ tagged c ∷ []) ∷ [])))
     (disjunction (criteria_of
     (by_tag (text a) ∷ conjunction (criteria_of (by_tag (text b) ∷ by_tag (text c) ∷ [])) ∷ [])))
     (a ∷ b ∷ c ∷ [])
-unfolding query_within conjunctions_from tests_from test_rule compare_rule write_log out-Test out-Form denote.Hole.Carrier.out
-or_of_and environment = simp (out-roll-Query, out-roll-Conjunction) refl
+unfolding query_within conjunctions_from tests_from test_rule compare_rule write_log out-Test out-Form shown-the_row-Form-0 denote.Hole.Carrier.out denote.Hole.Carrier.shown denote.Hole.Carrier.hidden
+or_of_and environment = simp out-roll-Query refl
 
 -- `(tag == 'a' or tag == 'b') and tag == 'c'`
 and_of_or : Tells
@@ -112,26 +111,26 @@ and_of_or : Tells
     (conjunction (criteria_of
     (disjunction (criteria_of (by_tag (text a) ∷ by_tag (text b) ∷ [])) ∷ by_tag (text c) ∷ [])))
     (a ∷ b ∷ c ∷ [])
-unfolding query_within conjunctions_from tests_from test_rule compare_rule write_log out-Test out-Form denote.Hole.Carrier.out
-and_of_or environment = simp (out-roll-Query, out-roll-Conjunction) refl
+unfolding query_within conjunctions_from tests_from test_rule compare_rule write_log out-Test out-Form shown-the_row-Form-0 denote.Hole.Carrier.out denote.Hole.Carrier.shown denote.Hole.Carrier.hidden
+and_of_or environment = simp out-roll-Query refl
 
 -- `((tag == 'a'))` is `tag == 'a'`
 in_parentheses : Tells
     (asked_for (both (test.Query (both (test.Query (both (tagged a ∷ [])) ∷ [])) ∷ [])))
     (by_tag (text a)) (a ∷ [])
-unfolding query_within test_rule compare_rule write_log out-Test out-Form denote.Hole.Carrier.out
-in_parentheses environment = simp (out-roll-Query, out-roll-Conjunction) refl
+unfolding query_within test_rule compare_rule write_log out-Test out-Form shown-the_row-Form-0 denote.Hole.Carrier.out denote.Hole.Carrier.shown denote.Hole.Carrier.hidden
+in_parentheses environment = simp out-roll-Query refl
 
 -- the first value that fails is told, at its place
 first_fault : Refuses (asked_for (both (tagged a ∷ is (codes "tag") (fails 3) ∷ is (codes "tag") (fails 4) ∷ [])))
     3 (what.UnknownVariable (codes "x"))
-unfolding query_within tests_from test_rule compare_rule write_log out-Test out-Form denote.Hole.Carrier.out owner_at
-first_fault environment = simp (out-roll-Query, out-roll-Conjunction) refl
+unfolding query_within tests_from test_rule compare_rule write_log out-Test out-Form shown-the_row-Form-0 denote.Hole.Carrier.out denote.Hole.Carrier.shown denote.Hole.Carrier.hidden owner_at
+first_fault environment = simp out-roll-Query refl
 
 -- no level is left for the query in parentheses: F29 at the line of the collector
 no_level : Refuses (query_within 1 sample 7 (both (test.Query (both (tagged a ∷ [])) ∷ [])) here) 7 what.DepthLimit
 unfolding query_within test_rule out-Test denote.Hole.Carrier.out owner_at
-no_level environment = simp (out-roll-Query, out-roll-Conjunction) refl
+no_level environment = simp out-roll-Query refl
 
 -- ---- what is registered
 
@@ -179,8 +178,8 @@ with_block : Registers
     (said b b 8 ∷ line c true (text c) (place 9) ∷ said (codes "owner") (codes "root") 9 ∷ said (codes "3") c 9 ∷ [])
     ∷ [])
     (a ∷ b ∷ c ∷ [])
-unfolding collector_rule query_within test_rule compare_rule lines_from attribute_rule setting_rule splat_rule splatted kind_rule normal without_front_colons register_kind register write_log out-Test out-Form denote.Hole.Carrier.out owner_at digits
-with_block environment = simp (out-roll-Collector, out-roll-Query, out-roll-Conjunction) refl
+unfolding collector_rule query_within test_rule compare_rule lines_from attribute_rule setting_rule splat_rule splatted kind_rule normal without_front_colons register_kind register write_log out-Test out-Form shown-the_row-Form-0 denote.Hole.Carrier.out denote.Hole.Carrier.shown denote.Hole.Carrier.hidden owner_at digits
+with_block environment = simp (out-roll-Collector, out-roll-Query) refl
 
 -- one behind the other
 two : Registers

@@ -15,7 +15,7 @@ use std::alloc::Global;
 /// What a query asks for that stands in a collector of this line, with its values evaluated. So many queries may stand
 /// within one another.
 #[cycle(asking)]
-#[tactic(auto, unfolding(crate::specs::Queries::query_within))]
+#[tactic(auto, unfolding(crate::specs::Queries::query_within), using(crate::proofs::Levels::level_left))]
 pub fn query<F: Fn(&mut World<'_>, Goal<'_>, Here, u32) -> Result<Evaluated, Stop>, M: Meaning>(
     forms: &Forms<F, M>,
     world: &mut World<'_>,

@@ -143,7 +143,7 @@ takes_xy = takes (plain x 7 ∷ plain y 8 ∷ [])
 
 -- a call at line 3 of these arguments
 abbrev calls : Datum → (ℕ → Here → Step Datum) → List ℕ → List Expr → Option Opened → Step Datum
-calls of block f arguments l = invoked (inner of block) f arguments l 3 top
+calls value block f arguments l = invoked (inner value block) f arguments l 3 top
 
 -- ---- arguments
 
@@ -379,7 +379,7 @@ twice m = refl
 
 -- one call of a lambda whose parameter has this type, at line 5
 abbrev typed_by : Datum → Param Expr → List Datum → Step Datum
-typed_by kind p arguments = lambda_rule (inner kind notice_x) (takes (p ∷ [])) arguments 3 top
+typed_by value p arguments = lambda_rule (inner value notice_x) (takes (p ∷ [])) arguments 3 top
 
 abbrev typed_x : Param Expr
 typed_x = tree.param (Some given) x None 7

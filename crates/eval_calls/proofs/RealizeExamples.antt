@@ -1,5 +1,5 @@
 -- The function `realize` at worked examples. Each line holds by computing.
-use Rattle.std.proofs.Common.{◌≡◌, false, pos, List, [], ◌∷◌, Some, map, Result, Ok, Err, refl, codes}
+use Rattle.std.proofs.Common.{◌≡◌, pos, List, [], ◌∷◌, Option, Some, map, Result, Ok, Err, refl, codes}
 use Rattle.pp_values.specs.Datum as d
 use Rattle.pp_values.specs.Datum.{Datum, data_of}
 use Rattle.pp_values.specs.Faults as faults
@@ -9,8 +9,6 @@ use Rattle.pp_values.specs.declared.fault.What.{What}
 use Rattle.pp_values.specs.declared.fault.What.TheVariants as what
 use Rattle.pp_values.specs.declared.place.Place.{Place}
 use Rattle.pp_values.specs.declared.reference.Reference.{Reference}
-use Rattle.res_book.specs.declared.collector.Collector.{Collector}
-use Rattle.res_core.specs.Criteria.{all}
 use Rattle.eval_world.specs.Environment.{Environment}
 use Rattle.eval_world.specs.Outcomes.{Outcome}
 use Rattle.eval_world.specs.Owners.{owner_at}
@@ -40,27 +38,16 @@ list ds = d.list (data_of ds)
 abbrev place : Place
 place = record { file = codes "manifests/site.pp"; line = 3 }
 
-abbrev collector_of : Reference → Collector
-collector_of r = record {
-  kind = r.kind;
-  query = all;
-  at = place;
-  owner = 0;
-  exported = false;
-  lines = [];
-  realized = Some r;
-}
-
-abbrev left_by : Outcome Datum → Result (Datum × List Collector) Fault
-left_by (Ok p) = Ok (p.0, p.1.relations.collectors)
+abbrev left_by : Outcome Datum → Result (Datum × List (Option Reference)) Fault
+left_by (Ok p) = Ok (p.0, map (λ c. c.realized) p.1.relations.collectors)
 left_by (Err f) = Err f
 
-abbrev call : List Datum → Environment → Result (Datum × List Collector) Fault
+abbrev call : List Datum → Environment → Result (Datum × List (Option Reference)) Fault
 call arguments environment = left_by (realized (codes "realize") arguments 3 top (empty environment))
 
--- it is Undef, and registers a collector for each of these references
+-- it is Undef, and registers a collector of each of these references
 abbrev Registers : List Datum → List Reference → Type 0
-Registers arguments rs = (environment : Environment) → call arguments environment ≡ Ok (d.undef, map collector_of rs)
+Registers arguments rs = (environment : Environment) → call arguments environment ≡ Ok (d.undef, map Some rs)
 
 abbrev Fails : List Datum → What → Type 0
 Fails arguments details = (environment : Environment) → call arguments environment ≡ Err (faults.fault place details)

@@ -93,7 +93,7 @@ fitting_grows false value line here = fault_grows _
 
 of_type_grows : (kind : Option Datum) (value : Datum) (line : ℕ) (here : Here) → Grows (of_type kind value line here)
 of_type_grows None value line here = pure_grows
-of_type_grows (Some kind) value line here = and_then (answer_grows _) (λ fits. fitting_grows fits value line here)
+of_type_grows (Some wanted) value line here = and_then (answer_grows _) (λ fits. fitting_grows fits value line here)
 
 found_grows : (r : Request) (line : ℕ) (here : Here) → Grows (found_rule r line here)
 unfolding found_rule

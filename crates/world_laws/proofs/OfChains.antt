@@ -34,7 +34,7 @@ relate_grows : (left : Option (List Operand)) (a : Arrow) (right : Option (List 
     Grows (relate_by left a right line here)
 relate_grows None a right line here = fault_grows _
 relate_grows (Some left) a None line here = fault_grows _
-relate_grows (Some left) a (Some right) line here = and_then (put_grows a left right line here) (λ u. pure_grows)
+relate_grows (Some left) a (Some right) line here = and_then (put_grows a left right line here) (λ u. pure_grows {a = right})
 
 relates_grow : (left : Option (List Operand)) (ends : List End) (line : ℕ) (here : Here) →
     Grows (relate_from left ends line here)

@@ -33,7 +33,7 @@ use Rattle.world_laws.specs.Growing.{Reaches, Grows, GrowsInner}
 use Rattle.world_laws.proofs.Entries.{found_still}
 use Rattle.world_laws.proofs.Lists.{goes_on, stays}
 use Rattle.world_laws.proofs.OfForms.{accessed_grows, type_grows}
-use Rattle.world_laws.proofs.OfResources.{lines_grow}
+use Rattle.world_laws.proofs.OfLines.{lines_grow}
 use Rattle.world_laws.proofs.Steps.{and_then, pure_grows, fault_grows}
 use Rattle.world_laws.proofs.Worlds.{overrides_grow}
 

@@ -47,10 +47,6 @@ place_at w here line = record { file = (owner_at here.owner w.owners).file; line
 abbrev pub fault : {A : Type 0} → Here → ℕ → What → Step A
 fault here line details = λ w. Err (faults.fault (place_at w here line) details)
 
--- a form that is read and not evaluated yet
-abbrev pub not_built : {A : Type 0} → Here → ℕ → Step A
-not_built here line = fault here line what.NotBuilt
-
 -- the function of this name does not take what it is given
 abbrev pub wrong : {A : Type 0} → List ℕ → ℕ → Here → Step A
 wrong f line here = fault here line (what.WrongArguments f)

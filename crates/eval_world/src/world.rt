@@ -124,13 +124,6 @@ impl<'a> World<'a> {
         Fault::new(self.heap.alloc(), at, what.into_inner())
     }
 
-    /// A form of the language that is read and not evaluated yet.
-    pub fn not_built(&self, here: Here, line: u32) -> Result<Evaluated, Stop>
-        ensures { Gives same (spec.not_built here line self.now) result self.now }
-    {
-        Err(Stop::Fault(self.fault(here, line, What::NotBuilt)?))
-    }
-
     /// The value of a variable, by its name as it is written after `$`.
     #[tactic(auto, unfolding(crate::specs::Worlds::read, scope_core::specs::Scopes::read))]
     pub fn read(&self, here: Here, name: &Text, line: u32) -> Result<Evaluated, Stop>

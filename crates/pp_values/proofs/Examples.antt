@@ -23,7 +23,7 @@ use Rattle.pp_values.specs.Faults.{fault}
 use Rattle.pp_values.specs.Answers.{Answers, in_turn}
 use Rattle.pp_values.specs.declared.fault.Fault.{Fault}
 use Rattle.pp_values.specs.declared.fault.Stop.TheVariants as stop
-use Rattle.pp_values.specs.declared.fault.What.TheVariants.{Syntax, NotBuilt}
+use Rattle.pp_values.specs.declared.fault.What.TheVariants.{Syntax}
 use Rattle.pp_values.specs.declared.place.TheConstants.{MAIN_MANIFEST}
 
 abbrev a : Datum
@@ -249,9 +249,6 @@ main_manifest = refl
 -- answers
 abbrev syntax : Fault
 syntax = fault (record { file = MAIN_MANIFEST.now; line = 3 }) Syntax
-
-abbrev not_built : Fault
-not_built = fault (record { file = MAIN_MANIFEST.now; line = 3 }) NotBuilt
 
 meant_number : Result ℕ Fault
 meant_number = Ok 2

@@ -143,9 +143,6 @@ pub enum What {
         later: Reference,
         earlier: Reference,
     },
-
-    /// A statement or expression that this compiler reads and does not evaluate yet.
-    NotBuilt,
 }
 
 /// What a fault is about: one resource, or a kind of resource.

@@ -82,7 +82,6 @@ impl What {
                 let earlier = earlier.copy(alloc)?;
                 Ok(What::SameNamevar { later, earlier })
             }
-            What::NotBuilt => Ok(What::NotBuilt),
         }
     }
 }

@@ -1,7 +1,6 @@
 //! Resources, their tags and the catalogs that hold them.
 #![tactic(auto)]
 
-pub mod action;
 pub mod attribute;
 pub mod attribute_checks;
 pub mod attributes;
@@ -38,7 +37,6 @@ pub mod resource;
 pub mod tagging;
 pub mod tags;
 
-pub use action::Action;
 pub use attribute::Attribute;
 pub use attribute_checks::{check_attribute, check_known, is_known};
 pub use attributes::Attributes;

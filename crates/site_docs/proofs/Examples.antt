@@ -37,8 +37,7 @@ names : map (λ name. name.now) FAULT_NAMES ≡
     codes "BadOperand" ∷ codes "NumberRange" ∷ codes "ZeroDivisor" ∷ codes "Duplicate" ∷ codes "AlreadySet" ∷
     codes "NoOverrideTarget" ∷ codes "NoRelationTarget" ∷ codes "Cycle" ∷ codes "NoNode" ∷ codes "LookupMissing" ∷
     codes "LookupLoop" ∷ codes "MergeMismatch" ∷ codes "BadData" ∷ codes "BadInterpolation" ∷ codes "Failed" ∷
-    codes "ClassVirtual" ∷ codes "RoundLimit" ∷ codes "ResourceLimit" ∷ codes "DepthLimit" ∷ codes "SameNamevar" ∷
-    codes "NotBuilt" ∷ []
+    codes "ClassVirtual" ∷ codes "RoundLimit" ∷ codes "ResourceLimit" ∷ codes "DepthLimit" ∷ codes "SameNamevar" ∷ []
 names = refl
 
 -- details that are none, or empty; a line feed within; a cycle; an earlier place

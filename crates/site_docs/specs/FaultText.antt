@@ -2,7 +2,7 @@
 use Rattle.std.specs.Prelude.{ℕ, ◌==◌, if◌then◌else◌, List, [], ◌∷◌, ◌++◌, ◌-◌, map, slice_index_or, codes, decimal}
 use Rattle.pp_values.specs.declared.fault.Fault.{Fault}
 use Rattle.pp_values.specs.declared.fault.What.{What}
-use Rattle.pp_values.specs.declared.fault.What.TheVariants.{Syntax, UnknownVariable, Reassigned, UnknownClass, UnknownType, UnknownFunction, WrongArguments, TypeMismatch, MissingParameter, UnknownParameter, BadOperand, NumberRange, ZeroDivisor, Duplicate, AlreadySet, NoOverrideTarget, NoRelationTarget, Cycle, NoNode, LookupMissing, LookupLoop, MergeMismatch, BadData, BadInterpolation, Failed, ClassVirtual, RoundLimit, ResourceLimit, DepthLimit, SameNamevar, NotBuilt}
+use Rattle.pp_values.specs.declared.fault.What.TheVariants.{Syntax, UnknownVariable, Reassigned, UnknownClass, UnknownType, UnknownFunction, WrongArguments, TypeMismatch, MissingParameter, UnknownParameter, BadOperand, NumberRange, ZeroDivisor, Duplicate, AlreadySet, NoOverrideTarget, NoRelationTarget, Cycle, NoNode, LookupMissing, LookupLoop, MergeMismatch, BadData, BadInterpolation, Failed, ClassVirtual, RoundLimit, ResourceLimit, DepthLimit, SameNamevar}
 use Rattle.pp_values.specs.declared.fault.Subject.{Subject}
 use Rattle.pp_values.specs.declared.fault.Subject.TheVariants as subject
 use Rattle.pp_values.specs.declared.place.Place.{Place}
@@ -42,7 +42,6 @@ fault_number RoundLimit = 27
 fault_number ResourceLimit = 28
 fault_number DepthLimit = 29
 fault_number (SameNamevar later earlier) = 30
-fault_number NotBuilt = 31
 
 -- each number has its name
 abbrev pub fault_name : What → List ℕ
@@ -98,7 +97,6 @@ details RoundLimit = []
 details ResourceLimit = []
 details DepthLimit = []
 details (SameNamevar later earlier) = reference_text later ++ (codes " " ++ reference_text earlier)
-details NotBuilt = []
 
 -- the text behind a space, if it is not empty
 abbrev pub spaced : List ℕ → List ℕ

@@ -1,5 +1,5 @@
 /// The names of the faults of the language, in the order of their numbers, which begin at 1.
-pub const FAULT_NAMES: [&str; 31] = [
+pub const FAULT_NAMES: [&str; 30] = [
     "Syntax",
     "UnknownVariable",
     "Reassigned",
@@ -30,5 +30,4 @@ pub const FAULT_NAMES: [&str; 31] = [
     "ResourceLimit",
     "DepthLimit",
     "SameNamevar",
-    "NotBuilt",
 ];

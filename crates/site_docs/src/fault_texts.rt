@@ -98,7 +98,6 @@ fn fault_number(what: &What) -> u32
         What::ResourceLimit => 28,
         What::DepthLimit => 29,
         What::SameNamevar { .. } => 30,
-        What::NotBuilt => 31,
     }
 }
 
@@ -112,8 +111,7 @@ fn write_details(out: &mut String, what: &What) -> Result<(), Memory>
     ensures { OnOk result (string_bytes out.new ≡ string_bytes out.old ++ details what.now) }
 {
     match what {
-        What::Syntax | What::RoundLimit | What::ResourceLimit | What::DepthLimit | What::NotBuilt =>
-            Ok(()),
+        What::Syntax | What::RoundLimit | What::ResourceLimit | What::DepthLimit => Ok(()),
         What::UnknownVariable(text)
         | What::Reassigned(text)
         | What::UnknownClass(text)

@@ -1,7 +1,9 @@
 mod Binding
 mod Examples
+mod LambdaExamples
 mod LookUpExamples
 mod Members
 mod OneVariable
 mod RealizeExamples
+mod Samples
 mod Turned

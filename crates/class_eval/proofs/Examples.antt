@@ -12,7 +12,6 @@ use Rattle.pp_tree.specs.declared.resource.Reference.{Reference}
 use Rattle.pp_tree.specs.declared.table.DefinitionName.TheVariants as name
 use Rattle.pp_types.specs.Names.{data_type_named}
 use Rattle.pp_values.specs.Datum as d
-use Rattle.pp_values.specs.Datum.{Datum}
 use Rattle.pp_values.specs.Faults.{fault}
 use Rattle.pp_values.specs.declared.fault.What.TheVariants as what
 use Rattle.attribute_lines.specs.Reading.{lines_from}

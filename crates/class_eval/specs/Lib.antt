@@ -1,5 +1,5 @@
--- What the clauses of `site_main` rest on, and a reader has to believe: Chains, Evaluating, Facts, Meaning, Postfixes,
--- Starting, Statements, TypeNames
+-- What the clauses of `site_main` rest on, and a reader has to believe: Chains, Evaluating, Facts, Meaning,
+-- Postfixes, Starting, Statements, TypeNames
 -- What functions promise one another, what types keep, and what proofs read: EvaluatorCodes, Evaluators, LeafLaw,
 -- Single, Running
 pub mod Chains

@@ -1,6 +1,6 @@
--- What the clauses of `site_main` rest on, and a reader has to believe: Attributes, Bodies, Definitions, Entering,
--- Included, Listing, OwnNames, ParameterTypes, Parameters, Stacks
--- What functions promise one another, what types keep, and what proofs read: Above, Answers, AttributeSets
+-- What the clauses of `site_main` rest on, and a reader has to believe: Above, Attributes, Bodies, Definitions,
+-- Entering, Included, Listing, OwnNames, ParameterTypes, Parameters, Stacks
+-- What functions promise one another, what types keep, and what proofs read: Answers, AttributeSets
 pub mod Above
 pub mod Answers
 pub mod AttributeSets

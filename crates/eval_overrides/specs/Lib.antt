@@ -1,4 +1,5 @@
--- What the clauses of `site_main` rest on, and a reader has to believe: DefaultStatements, OverrideStatements, Putting
+-- What the clauses of `site_main` rest on, and a reader has to believe: DefaultStatements, OverrideStatements,
+-- Putting
 pub mod DefaultStatements
 pub mod OverrideStatements
 pub mod Putting

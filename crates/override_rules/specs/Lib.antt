@@ -1,7 +1,7 @@
--- What the clauses of `site_main` rest on, and a reader has to believe: Lines, Changes, Fold, Defaults, Rights,
+-- What the clauses of `site_main` rest on, and a reader has to believe: Lines, Changes, Fold, Keys, Defaults, Rights,
 -- SetLines, Meaning, Names
--- What functions promise one another, what types keep, and what proofs read: Targets, Numbers, Keys, Counts, Codes,
--- Inside, Ways
+-- What functions promise one another, what types keep, and what proofs read: Targets, Numbers, Counts, Codes, Inside,
+-- Ways
 pub mod Targets
 pub mod Lines
 pub mod Numbers

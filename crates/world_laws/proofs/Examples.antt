@@ -9,7 +9,7 @@ use Rattle.scope_core.specs.declared.owner.Owner.TheVariants as o
 use Rattle.eval_world.specs.Environment.{Environment}
 use Rattle.eval_world.specs.Worlds.{empty, leave, top}
 use Rattle.eval_world.specs.declared.world.World.{World}
-use Rattle.world_laws.specs.Extends.{GoesOn, IsKept, AreKept, Extends}
+use Rattle.world_laws.specs.Extends.{GoesOn, IsKept, AreKept}
 use Rattle.world_laws.specs.Growing.{Grows}
 
 -- ---- lists

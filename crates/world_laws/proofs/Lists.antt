@@ -3,12 +3,11 @@ use Rattle.std.proofs.Common.{◌≡◌, ℕ, zero, suc, ◌≤◌, List, [], �
 use Rattle.std.proofs.Common.{Option, None, Some, refl, sym, ap, ◌∙◌, arith}
 use Rattle.std.proofs.lemmas.List.{append-nil, append_assoc}
 use Rattle.std.specs.Cmp.Lexicographic.{nat_list_cmp_total}
-use Rattle.std.specs.Prelude.{slice_get, slice_set, option_and_then}
+use Rattle.std.specs.Prelude.{slice_get, option_and_then}
 use Rattle.pp_values.specs.Datum.{Datum}
 use Rattle.pp_values.specs.Rising.{text_cmp}
 use Rattle.scope_core.specs.Names.{Name, value_of, with_value}
-use Rattle.scope_core.specs.Scopes.{Scope, scope_of, ended, scopes_after, set_in}
-use Rattle.scope_core.specs.declared.owner.Owner.{Owner}
+use Rattle.scope_core.specs.Scopes.{Scope, scopes_after, set_in}
 use Rattle.world_laws.specs.Extends.{GoesOn, IsKept, AreKept}
 use Rattle.world_laws.proofs.Entries.{found_still as entry_still}
 

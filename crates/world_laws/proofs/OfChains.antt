@@ -21,7 +21,7 @@ use Rattle.world_laws.proofs.OfClasses.{one_line}
 use Rattle.world_laws.proofs.OfCollectors.{collector_grows}
 use Rattle.world_laws.proofs.OfOverrides.{override_grows, defaults_grow}
 use Rattle.world_laws.proofs.OfResources.{all_bodies_grow, declare_bodies_grow}
-use Rattle.world_laws.proofs.Steps.{and_then, pure_grows, answer_grows, fault_grows}
+use Rattle.world_laws.proofs.Steps.{and_then, pure_grows, fault_grows}
 use Rattle.world_laws.proofs.Worlds.{relations_grow, same_world}
 
 put_grows : (a : Arrow) (left right : List Operand) (line : ℕ) (here : Here) →

@@ -48,7 +48,7 @@ use Rattle.world_laws.specs.Extends.{RelationsGoOn}
 use Rattle.world_laws.specs.Growing.{Grows, GrowsInner}
 use Rattle.world_laws.proofs.Lists.{goes_on, stays}
 use Rattle.world_laws.proofs.OfWorld.{assign_grows, look_up_grows, put_grows}
-use Rattle.world_laws.proofs.Steps.{and_then, pure_grows, answer_grows, fault_grows, either, told}
+use Rattle.world_laws.proofs.Steps.{and_then, pure_grows, answer_grows, fault_grows, told}
 use Rattle.world_laws.proofs.Worlds.{extends_on, scope_entered, book_grows, relations_grow, owner_added}
 
 -- ---- tables

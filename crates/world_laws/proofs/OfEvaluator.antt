@@ -1,8 +1,7 @@
 -- What stands in a manifest, within any number of levels, and the calls of an evaluator.
-use Rattle.std.proofs.Common.{◌≡◌, ℕ, zero, suc, ◌+◌, ◌-◌, Bool, true, false, List, [], ◌∷◌, Option, None, Some, Result, Ok, Err}
+use Rattle.std.proofs.Common.{ℕ, zero, suc, ◌-◌, Bool, true, false, List, [], ◌∷◌, Option, None, Some}
 use Rattle.pp_tree.specs.Building.{form_of, line_of}
 use Rattle.pp_tree.specs.Layers.{FormLayer, OperandLayer, StatementLayer}
-use Rattle.pp_tree.specs.Names.{normal}
 use Rattle.pp_tree.specs.Tables.{Entries}
 use Rattle.pp_tree.specs.declared.collector.Test.TheOpen.{Form-F, Operand-F, Postfix-F, Statement-F}
 use Rattle.pp_tree.specs.declared.definition.Class.{Class}
@@ -34,7 +33,7 @@ use Rattle.class_eval.specs.Postfixes.{PostfixLayer, postfix_by, postfix_rule, p
 use Rattle.class_eval.specs.Statements.{valued, unvalued, operand_by, operand_rule, chained_by, chain_rule, statement_by}
 use Rattle.class_eval.specs.Statements.{statement_rule, or_before, statements_from}
 use Rattle.class_eval.specs.TypeNames.{there_by, named_by, type_named_rule}
-use Rattle.world_laws.specs.Growing.{Reaches, Grows, GrowsInner}
+use Rattle.world_laws.specs.Growing.{Grows, GrowsInner}
 use Rattle.world_laws.proofs.OfCalls.{call_grows, method_grows, words_grow}
 use Rattle.world_laws.proofs.OfChains.{links_grow}
 use Rattle.world_laws.proofs.OfClasses.{class_declared_grows, once_grows, class_grows, instance_grows, run_grows}
@@ -45,7 +44,7 @@ use Rattle.world_laws.proofs.OfCollectors.{collector_grows}
 use Rattle.world_laws.proofs.OfOverrides.{override_grows, defaults_grow, target_grows}
 use Rattle.world_laws.proofs.OfResources.{resource_grows}
 use Rattle.world_laws.proofs.OfWorld.{read_grows}
-use Rattle.world_laws.proofs.Steps.{and_then, pure_grows, answer_grows, fault_grows, told}
+use Rattle.world_laws.proofs.Steps.{and_then, pure_grows, answer_grows, fault_grows}
 use Rattle.world_laws.proofs.Worlds.{same_world}
 
 -- ---- names of types

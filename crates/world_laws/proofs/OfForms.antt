@@ -3,12 +3,11 @@ use Rattle.std.proofs.Common.{ℕ, Bool, true, false, List, [], ◌∷◌, Optio
 use Rattle.std.specs.Prelude.{not}
 use Rattle.expr_eval.specs.Truth.{is_true}
 use Rattle.pp_ops.specs.declared.op.Op.{Op}
-use Rattle.pp_ops.specs.declared.op.Op.TheVariants as op
 use Rattle.pp_tree.specs.declared.conditions.Case.{Case, out-Case}
-use Rattle.pp_tree.specs.declared.conditions.CaseOption.{CaseOption, out-CaseOption}
-use Rattle.pp_tree.specs.declared.conditions.Elsif.{Elsif, out-Elsif}
-use Rattle.pp_tree.specs.declared.conditions.If.{If, out-If}
-use Rattle.pp_tree.specs.declared.conditions.Unless.{Unless, out-Unless}
+use Rattle.pp_tree.specs.declared.conditions.CaseOption.{CaseOption}
+use Rattle.pp_tree.specs.declared.conditions.Elsif.{Elsif}
+use Rattle.pp_tree.specs.declared.conditions.If.{If}
+use Rattle.pp_tree.specs.declared.conditions.Unless.{Unless}
 use Rattle.pp_tree.specs.declared.expr.Expr.{Expr}
 use Rattle.pp_tree.specs.declared.expr.Operation.{Operation}
 use Rattle.pp_tree.specs.declared.expr.Pair as tree

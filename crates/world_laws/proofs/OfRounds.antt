@@ -4,8 +4,8 @@ use Rattle.export_store.specs.ExportQueries.{Placed}
 use Rattle.export_store.specs.Sets.{Sets}
 use Rattle.eval_world.specs.Outcomes.{Step}
 use Rattle.eval_collecting.specs.Importing.{imports}
-use Rattle.defined_types.specs.Rounds.{take_from, take_locals, take_imports, import_kind, import_all}
-use Rattle.defined_types.specs.Rounds.{collector_turn, turns_from, all_turns, pending, run_instances, round, again}
+use Rattle.defined_types.specs.Rounds.{take_from, take_imports, import_kind}
+use Rattle.defined_types.specs.Rounds.{collector_turn, turns_from, pending, run_instances, round, again}
 use Rattle.defined_types.specs.Rounds.{rounds_left, rounds, limit}
 use Rattle.world_laws.specs.Growing.{Grows}
 use Rattle.world_laws.proofs.OfCollecting.{local_match_grows, import_match_grows}

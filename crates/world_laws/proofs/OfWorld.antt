@@ -1,7 +1,6 @@
 -- The steps over one table of the world, and arguments.
-use Rattle.std.proofs.Common.{◌≡◌, ℕ, Bool, true, false, cond, List, [], ◌∷◌, ◌++◌, Option, None, Some, Result, Ok, Err}
-use Rattle.std.proofs.Common.{refl, sym, ap, subst, ◌∙◌, ◌||◌, ◌&&◌, is_some}
-use Rattle.std.specs.Prelude.{if◌then◌else◌}
+use Rattle.std.proofs.Common.{◌≡◌, ℕ, Bool, true, false, cond, List, [], ◌∷◌, Option, None, Some, Result, Ok, Err}
+use Rattle.std.proofs.Common.{refl, ◌||◌, ◌&&◌, is_some}
 use Rattle.hiera_merge.specs.declared.merge.Merge.{Merge}
 use Rattle.pp_tree.specs.declared.expr.Expr.{Expr}
 use Rattle.pp_values.specs.Datum.{Datum}
@@ -16,11 +15,10 @@ use Rattle.res_book.specs.declared.row.Row.{Row}
 use Rattle.res_core.specs.declared.declared.Declared.{Declared}
 use Rattle.scope_core.specs.Names.{Name}
 use Rattle.scope_core.specs.Scopes as scopes
-use Rattle.scope_core.specs.Scopes.{Scopes, own, is_set, is_kept, with_name}
+use Rattle.scope_core.specs.Scopes.{own, is_set, is_kept, with_name}
 use Rattle.eval_world.specs.Arguments.{argument_rule, values_from}
 use Rattle.eval_world.specs.Data.{look_up}
 use Rattle.eval_world.specs.Inner.{Inner}
-use Rattle.eval_world.specs.Outcomes.{Outcome}
 use Rattle.eval_world.specs.Worlds.{read, with_scopes, assign, write_log, place_at, with_book, put}
 use Rattle.eval_world.specs.declared.here.Here.{Here}
 use Rattle.eval_world.specs.declared.world.World.{World}

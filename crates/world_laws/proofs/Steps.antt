@@ -1,5 +1,5 @@
 -- Steps that grow, and what is made of them.
-use Rattle.std.proofs.Common.{ℕ, Bool, true, false, Result, Ok, Err}
+use Rattle.std.proofs.Common.{Bool, true, false, Result, Ok, Err}
 use Rattle.std.specs.Prelude.{if◌then◌else◌}
 use Rattle.pp_values.specs.declared.fault.Fault.{Fault}
 use Rattle.eval_world.specs.Outcomes.{Outcome, Step, go_on, ◌>>=◌, ◌>>◌, pure, answered}

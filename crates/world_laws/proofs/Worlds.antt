@@ -1,14 +1,13 @@
 -- Worlds that extend each other: one table changes, and the others stay.
-use Rattle.std.proofs.Common.{◌≡◌, ℕ, ◌≤◌, List, [], ◌∷◌, ◌++◌, length, Option, None, Some, refl, sym, ap, subst, ◌∙◌}
+use Rattle.std.proofs.Common.{ℕ, ◌≤◌, List, [], ◌∷◌, ◌++◌, length, Option, refl, ◌∙◌}
 use Rattle.std.specs.Prelude.{slice_get}
-use Rattle.pp_values.specs.Datum.{Datum}
 use Rattle.override_rules.specs.Meaning.{State, scope_opened}
 use Rattle.res_book.proofs.Growth.{grows-not, grows-on}
 use Rattle.res_book.specs.Growth as rows
 use Rattle.res_book.specs.Relations.{Related}
 use Rattle.res_book.specs.declared.row.Row.{Row}
 use Rattle.res_core.specs.declared.log_line.LogLine.{LogLine}
-use Rattle.scope_core.specs.Scopes.{Scopes, Scope, entered, scopes_after, left}
+use Rattle.scope_core.specs.Scopes.{Scopes, entered, left}
 use Rattle.scope_core.specs.declared.scope_kind.ScopeKind.{ScopeKind}
 use Rattle.eval_world.specs.Owners.{Owners, with_owner}
 use Rattle.eval_world.specs.declared.owner.Owner.{Owner}

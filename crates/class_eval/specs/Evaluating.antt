@@ -144,8 +144,8 @@ class_number c = λ w. Ok (number_in c w, w)
 abbrev pub given_checked : Class → List Setting → Place → Result ⊤ Fault
 given_checked c given at = settings_known (class_reference (class_name c)) (param_names c.params) at given
 
--- A class is declared at a depth, where some code stands: as by `include`, or with what is given as by `class { }`,
--- where it must not be declared already.
+-- A class is declared whose body stands at the depth of what is inside: as by `include`, or with what is given as by
+-- `class { }`, where it must not be declared already.
 abbrev pub class_given : Inner → Class → Option (List Setting) → Place → Here → Step (Unit {0})
 class_given inner c None at here = declared_once inner c at here.owner
 class_given inner c (Some given) at here = do

@@ -1,4 +1,4 @@
--- What the clauses of `site_main` rest on, and a reader has to believe: Chains, Evaluating, Facts, Meaning,
+-- What the clauses of `site_main` rest on, and a reader has to believe: Chains, Evaluating, TopNames, Meaning,
 -- Postfixes, Starting, Statements, TypeNames
 -- What functions promise one another, what types keep, and what proofs read: EvaluatorCodes, Evaluators, LeafLaw,
 -- Single, Running
@@ -6,7 +6,7 @@ pub mod Chains
 pub mod Evaluating
 pub mod EvaluatorCodes
 pub mod Evaluators
-pub mod Facts
+pub mod TopNames
 pub mod LeafLaw
 pub mod Meaning
 pub mod Postfixes

@@ -9,7 +9,7 @@ use Rattle.res_book.specs.declared.row.Row.{Row}
 use Rattle.res_core.specs.TagNames.{tags}
 use Rattle.res_core.specs.declared.declared.Declared.{Declared}
 use Rattle.scope_core.specs.Names.{Name}
-use Rattle.class_eval.specs.Facts.{with_top_names}
+use Rattle.class_eval.specs.TopNames.{with_top_names}
 use Rattle.eval_world.specs.Worlds.{empty}
 use Rattle.eval_world.specs.Environment.{Environment}
 use Rattle.eval_world.specs.declared.owners.TheConstants.{MAIN_SOURCE}

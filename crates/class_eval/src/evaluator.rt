@@ -136,8 +136,8 @@ impl<'a> Evaluator<'a> {
         run_file(&mut self.world, main, &self.node)
     }
 
-    /// Declares the class of a name, as the code that stands here does at this depth: as by `include`, or with what is
-    /// given as by `class { }`. The answer is its number.
+    /// Declares the class of a name, whose body then stands at this depth: as by `include`, or with what is given as by
+    /// `class { }`. The answer is its number.
     pub fn declare_class(
         &mut self,
         name: &Text,

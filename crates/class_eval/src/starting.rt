@@ -1,7 +1,7 @@
 //! The world before any statement is evaluated.
 ghost use Rattle.std.specs.Prelude.{◌≡◌, [], ◌∷◌, IfOk, OnOk};
 ghost use Rattle.pp_values.specs.Views.{view};
-ghost use Rattle.class_eval.specs.Facts.{with_top_names};
+ghost use Rattle.class_eval.specs.TopNames.{with_top_names};
 ghost use Rattle.class_eval.specs.Starting as spec;
 ghost use Rattle.scope_core.specs.Scopes.{top_alone};
 

@@ -5,7 +5,7 @@ ghost use Rattle.pp_values.specs.Datum as d;
 ghost use Rattle.pp_values.specs.Keys.{with_pair};
 ghost use Rattle.pp_values.specs.Views.{view, pair_views};
 ghost use Rattle.scope_core.specs.Scopes.{assign};
-ghost use Rattle.class_eval.specs.Facts as spec;
+ghost use Rattle.class_eval.specs.TopNames as spec;
 
 use pp_values::{Memory, Pairs, Place, Stop, Text, Value, copy};
 use scope_core::{ScopeId, Scopes};

@@ -1,6 +1,6 @@
 -- What the data of a site have for a key, asked from outside of any manifest.
 use Rattle.std.specs.Prelude.{ℕ, List, Option, Some, None, Result, Ok, Err, codes}
-use Rattle.class_eval.specs.Facts.{with_top_names}
+use Rattle.class_eval.specs.TopNames.{with_top_names}
 use Rattle.eval_world.specs.Data.{placed}
 use Rattle.hiera_config.specs.Meant.{Meant}
 use Rattle.hiera_config.specs.Variables.{in_scope}

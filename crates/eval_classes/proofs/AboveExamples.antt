@@ -30,8 +30,8 @@ no_parent : sources_above family (owner (codes "class a") 1) ≡ []
 unfolding sources_above sources_from parent_of comes_to definition_of segments normal without_front_colons
 no_parent = refl
 
--- `class main` is the source of the main manifest, and that of a class `main` too, whose parents do not count
-above_main : sources_above family main_owner ≡ []
+-- `class main` is the source of the main manifest, and that of a class `main` too, whose parents count for both
+above_main : sources_above family main_owner ≡ codes "class a" ∷ []
 unfolding sources_above sources_from parent_of comes_to definition_of segments normal without_front_colons
 above_main = refl
 

@@ -1,6 +1,6 @@
 -- The sources from which a source inherits: those of the parents of a class. A line that changes what is set has to come
 -- from a source that inherits from the resource's.
-use Rattle.std.specs.Prelude.{ℕ, zero, suc, ◌==◌, if◌then◌else◌, List, [], ◌∷◌, drop, length, nat_eq}
+use Rattle.std.specs.Prelude.{ℕ, zero, suc, if◌then◌else◌, List, [], ◌∷◌, drop, length, nat_eq}
 use Rattle.std.specs.Prelude.{Option, None, Some, option_and_then, codes}
 use Rattle.std.specs.List.{starts_with}
 use Rattle.override_rules.specs.declared.override_line.Right.{Right}
@@ -29,10 +29,10 @@ abbrev pub above_class : Environment → Option (List ℕ) → List (List ℕ)
 above_class m None = []
 above_class m (Some name) = sources_from longest_way m (parent_named m name)
 
--- Those above the source of an owner: none but for a class. What declaration 0 contains, which is `Class[main]`, stands
--- in the main manifest or in a node: the source `class main` of the main manifest is that of no class of the site.
+-- Those above the source of an owner: none but for a class. What stands outside of classes, defines and nodes has the
+-- source `class main`, so the parents of a class `main` of the site are above it too.
 unfoldable pub sources_above : Environment → Owner → List (List ℕ)
-sources_above m o = if o.resource == 0 then [] else above_class m (class_in o.source)
+sources_above m o = above_class m (class_in o.source)
 
 -- what a line of an override may do that stands in the code of this owner
 abbrev pub right_of : Environment → Owner → Right

@@ -1,6 +1,6 @@
 -- Declaring a class. It is listed, then its parents are, from the nearest on; then they are evaluated, from the last
 -- parent on.
-use Rattle.std.specs.Prelude.{ℕ, zero, suc, ◌+◌, ◌==◌, Bool, false, if◌then◌else◌, List, [], ◌∷◌, ◌++◌, length}
+use Rattle.std.specs.Prelude.{ℕ, zero, suc, ◌+◌, ◌==◌, Bool, false, if◌then◌else◌, List, [], ◌∷◌, length}
 use Rattle.std.specs.Prelude.{Option, None, Some, is_some, Ok, codes}
 use Rattle.pp_tree.specs.declared.definition.Class.{Class}
 use Rattle.pp_values.specs.Settings.{Setting}

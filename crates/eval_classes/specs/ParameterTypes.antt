@@ -1,5 +1,5 @@
 -- The type that a parameter has: what it is, and whether a value is of it.
-use Rattle.std.specs.Prelude.{ℕ, Bool, true, false, List, Option, None, Some, Result, Ok, Err}
+use Rattle.std.specs.Prelude.{ℕ, Bool, true, false, List, Result, Ok, Err}
 use Rattle.expr_eval.specs.Testing.{is_of}
 use Rattle.pp_tree.specs.Building.{line_of}
 use Rattle.pp_tree.specs.declared.expr.Expr.{Expr}

@@ -33,9 +33,6 @@ pub fn sources_above(
 ) -> Result<Texts, Memory>
     ensures { IfOk result (λ ts. ts ≡ spec.sources_above environment.now owner.now) }
 {
-    if owner.resource == 0 {
-        return Ok(Texts::new(alloc));
-    }
     match class_in_source(owner.source.as_str()) {
         Some(name) => above_class(alloc, environment, name),
         None => Ok(Texts::new(alloc)),

@@ -11,7 +11,7 @@ use Rattle.res_book.specs.declared.mode.Mode.TheVariants as mode
 use Rattle.res_book.specs.declared.row.Row.{Row}
 use Rattle.res_core.specs.declared.declared.Declared.{Declared}
 use Rattle.res_core.specs.declared.exported.Exported.{Exported}
-use Rattle.eval_collecting.specs.Blocks.{said_at, lines_added, with_overrides, put_lines, mark_applied, apply_block, is_due, apply_if}
+use Rattle.eval_collecting.specs.Blocks.{said_at, lines_added, put_lines, mark_applied, apply_block, is_due, apply_if}
 use Rattle.eval_collecting.specs.Blocks.{block_applied}
 use Rattle.eval_collecting.specs.Importing.{item_of, tested, declare_rule, import_rule, import_of, import_once, owner_for}
 use Rattle.eval_collecting.specs.Importing.{import_for, import_match}
@@ -19,7 +19,7 @@ use Rattle.eval_collecting.specs.Matching.{takes_at, mark, take, take_if, local_
 use Rattle.eval_resources.specs.declared.known_kind.KnownKind.{KnownKind}
 use Rattle.eval_world.specs.Outcomes.{Outcome, Step, go_on, ◌>>=◌, ◌>>◌, pure, answered}
 use Rattle.eval_world.specs.Owners.{owner_at}
-use Rattle.eval_world.specs.Worlds.{with_book}
+use Rattle.eval_world.specs.Worlds.{with_book, with_overrides}
 use Rattle.eval_world.specs.declared.world.World.{World}
 
 -- where a world came out, this holds of it

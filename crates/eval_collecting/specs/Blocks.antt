@@ -14,6 +14,7 @@ use Rattle.res_book.specs.declared.collector.Collector.{Collector}
 use Rattle.res_book.specs.declared.row.Row.{Row}
 use Rattle.res_core.specs.Lines.{Line}
 use Rattle.eval_world.specs.Outcomes.{Step, ◌>>=◌, ◌>>◌, pure}
+use Rattle.eval_world.specs.Worlds.{with_overrides}
 use Rattle.eval_world.specs.declared.world.World.{World}
 
 -- ---- what a block says of a declaration
@@ -52,10 +53,6 @@ lines_added book (l ∷ ls) s = and_then (line_added book l s) (λ p. lines_adde
 abbrev pub Puts : Result (Unit {0} × State) Fault → Result (Unit {0}) Stop → State → Type 0
 Puts meant (Ok u) new = meant ≡ Ok (tt, new)
 Puts meant (Err e) new = IsRefused (fault_told e) meant
-
-abbrev pub with_overrides : Result (Unit {0} × State) Fault → Step (Unit {0})
-with_overrides (Ok p) = λ w. Ok (tt, record w { overrides = p.1 })
-with_overrides (Err f) = λ w. Err f
 
 abbrev pub put_lines : List over.Line → Step (Unit {0})
 put_lines ls = λ w. with_overrides (lines_added w.book ls w.overrides) w

@@ -9,11 +9,10 @@ use Rattle.pp_values.specs.declared.fault.What.TheVariants as what
 use Rattle.override_rules.specs.Meaning.{default_added}
 use Rattle.res_core.specs.Lines.{Line}
 use Rattle.attribute_lines.specs.Reading.{lines_from}
-use Rattle.eval_overrides.specs.Putting.{with_overrides}
 use Rattle.eval_world.specs.Inner.{Inner}
 use Rattle.eval_world.specs.Outcomes.{Step, ◌>>=◌, ◌>>◌, pure}
 use Rattle.eval_world.specs.Owners.{owner_at}
-use Rattle.eval_world.specs.Worlds.{fault}
+use Rattle.eval_world.specs.Worlds.{fault, with_overrides}
 use Rattle.eval_world.specs.declared.here.Here.{Here}
 
 -- A default of the scope of the owner whose code this is: that of a lambda counts as the one that the lambda is within.

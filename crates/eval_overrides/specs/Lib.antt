@@ -1,5 +1,3 @@
--- What the clauses of `site_main` rest on, and a reader has to believe: DefaultStatements, OverrideStatements,
--- Putting
+-- What the clauses of `site_main` rest on, and a reader has to believe: DefaultStatements, OverrideStatements
 pub mod DefaultStatements
 pub mod OverrideStatements
-pub mod Putting

@@ -15,11 +15,10 @@ use Rattle.attribute_lines.specs.Reading.{lines_from}
 use Rattle.eval_classes.specs.Above.{right_of}
 use Rattle.eval_forms.specs.Accesses.{accessed_rule}
 use Rattle.eval_forms.specs.Types.{type_rule}
-use Rattle.eval_overrides.specs.Putting.{with_overrides}
 use Rattle.eval_world.specs.Inner.{Inner}
 use Rattle.eval_world.specs.Outcomes.{Step, ◌>>=◌, ◌>>◌, pure}
 use Rattle.eval_world.specs.Owners.{owner_at}
-use Rattle.eval_world.specs.Worlds.{fault}
+use Rattle.eval_world.specs.Worlds.{fault, with_overrides}
 use Rattle.eval_world.specs.declared.here.Here.{Here}
 
 -- ---- the target

@@ -1,31 +1,21 @@
 -- The bodies of a resource expression: those whose title is `default` first, and then each other one.
 use Rattle.std.specs.Prelude.{ℕ, ◌+◌, Bool, true, false, not, List, [], ◌∷◌, ◌++◌, drop, filter, map, take}
-use Rattle.pp_tree.specs.Building.{form_of}
-use Rattle.pp_tree.specs.Layers.{FormLayer}
-use Rattle.pp_tree.specs.declared.collector.Test.TheOpen.{Form-F}
 use Rattle.pp_tree.specs.declared.expr.Expr.{Expr}
-use Rattle.pp_tree.specs.declared.expr.Form.{out-Form}
 use Rattle.pp_tree.specs.declared.resource.Body as tree
 use Rattle.pp_funcs.specs.Lists.{flat}
 use Rattle.pp_values.specs.Rising.{has_text}
 use Rattle.eval_world.specs.Inner.{Inner}
 use Rattle.eval_world.specs.Outcomes.{Step, ◌>>=◌, ◌>>◌, pure}
+use Rattle.eval_world.specs.Shapes as shapes
 use Rattle.eval_world.specs.Worlds.{place_at}
 use Rattle.eval_world.specs.declared.here.Here.{Here}
 use Rattle.res_core.specs.Lines.{Line}
 use Rattle.res_core.specs.declared.body.Body.{Body}
 use Rattle.attribute_lines.specs.Reading.{lines_from}
 
-abbrev pub is_default_by : FormLayer → Bool
-is_default_by Form-F.Default = true
-is_default_by _ = false
-
-abbrev pub is_default_literal : Expr → Bool
-is_default_literal e = is_default_by (out-Form (form_of e))
-
 -- its title is the literal `default`
 abbrev pub is_default : tree.Body Expr → Bool
-is_default b = is_default_literal b.title
+is_default b = shapes.is_default b.title
 
 -- ---- the default bodies
 

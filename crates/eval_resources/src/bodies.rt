@@ -8,7 +8,6 @@ use crate::filling::filled;
 use attribute_lines::lines;
 use eval_classes::flat;
 use eval_world::{Evaluated, Forms, Goal, Here, Meaning, World};
-use pp_tree::expr::{Expr, Form};
 use pp_tree::resource::Body as Written;
 use pp_values::{Items, Memory, Stop};
 use res_core::{Bodies, Body, Lines};
@@ -93,16 +92,7 @@ fn with_last(mut done: Items<Lines>, lines: Lines) -> Result<Items<Lines>, Memor
 fn is_default(body: &Written) -> bool
     ensures { result ≡ spec.is_default body.now }
 {
-    is_default_literal(&body.title)
-}
-
-fn is_default_literal(title: &Expr) -> bool
-    ensures { result ≡ spec.is_default_literal title.now }
-{
-    match title.form.get() {
-        Form::Default => true,
-        _ => false,
-    }
+    eval_world::is_default(&body.title)
 }
 
 /// The bodies that are no default body.

@@ -6,6 +6,7 @@ use Rattle.pp_values.specs.declared.fault.Fault.{Fault}
 use Rattle.pp_values.specs.declared.fault.What.{What}
 use Rattle.pp_values.specs.declared.fault.What.TheVariants as what
 use Rattle.pp_values.specs.declared.place.Place.{Place}
+use Rattle.override_rules.specs.Meaning.{State}
 use Rattle.res_book.specs.Relations.{no_relations}
 use Rattle.res_book.specs.Rows as rows
 use Rattle.res_book.specs.declared.mode.Mode.{Mode}
@@ -96,3 +97,10 @@ with_book (Err f) = λ w. Err f
 -- a declaration is put into it: F14, F28; its number
 abbrev pub put : Declared → Mode → Step ℕ
 put item m = λ w. with_book (rows.declared item m w.book) w
+
+-- ---- overrides and defaults
+
+-- what the table of override lines and defaults answers, as a step
+abbrev pub with_overrides : Result (Unit {0} × State) Fault → Step (Unit {0})
+with_overrides (Ok p) = λ w. Ok (tt, record w { overrides = p.1 })
+with_overrides (Err f) = λ w. Err f

@@ -27,7 +27,7 @@ use Rattle.eval_overrides.specs.DefaultStatements as defaults
 use Rattle.eval_overrides.specs.DefaultStatements.{defaults_put, defaults_rule, kind_put}
 use Rattle.eval_overrides.specs.OverrideStatements as overrides
 use Rattle.eval_overrides.specs.OverrideStatements.{line_put, override_rule, put_on, target_rule}
-use Rattle.eval_overrides.specs.Putting.{with_overrides}
+use Rattle.eval_world.specs.Worlds.{with_overrides}
 use Rattle.world_laws.specs.Extends.{OverridesStay}
 use Rattle.world_laws.specs.Growing.{Reaches, Grows, GrowsInner}
 use Rattle.world_laws.proofs.Entries.{found_still}

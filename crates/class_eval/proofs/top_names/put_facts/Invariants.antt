@@ -1,7 +1,7 @@
 -- What is left decides.
 use Rattle.std.proofs.Common.{◌≡◌, length}
 use Rattle.pp_values.specs.Views.{pair_views}
-use Rattle.class_eval.specs.Facts.{with_facts}
+use Rattle.class_eval.specs.TopNames.{with_facts}
 use Rattle.class_eval.proofs.top_names.put_facts.Given as goal
 
 abbrev pub invariant-loop-fact : goal.invariant-loop-fact

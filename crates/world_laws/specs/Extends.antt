@@ -1,4 +1,5 @@
--- How the world of a compile grows: nothing that was put into it is replaced or taken out.
+-- How the world of a compile grows: nothing that was put into it is taken out, and nothing replaced but which parameters
+-- are kept of a declaration.
 use Rattle.std.specs.Prelude.{◌≡◌, ℕ, List, [], ◌∷◌, ◌++◌, Some, IsTrue}
 use Rattle.pp_values.specs.Datum.{Datum}
 use Rattle.override_rules.specs.Defaults.{default_in}

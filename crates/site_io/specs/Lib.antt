@@ -9,4 +9,6 @@ pub mod Adapter
 pub mod Sure
 pub mod Net
 pub mod ScriptedNet
+pub mod Folders
+pub mod ScriptedFolder
 pub mod Transfer

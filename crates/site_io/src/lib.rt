@@ -7,16 +7,21 @@
 //!
 //! A [`Connection`] is a stream that is read from and written to, and a [`Listener`] gives connections, as
 //! [`MemConn`], [`SureConn`] and [`MemListener`] in memory and [`TcpConnection`] and [`TcpPort`] over sockets.
+//!
+//! A [`Tree`] is a tree of files, as [`MemTree`] in memory and [`FolderTree`] over the system's folders.
 //! A [`Gate`] is no stream: it is called in the middle of a compile.
 #![tactic(auto)]
 
 mod bytes;
 mod connection;
+mod folder_tree;
 mod gate;
 mod mem_conn;
 mod mem_listener;
 mod mem_sink;
 mod mem_source;
+mod mem_tree;
+mod names;
 mod outside;
 mod reader_source;
 mod sure_conn;
@@ -24,15 +29,19 @@ mod sure_sink;
 mod sure_source;
 mod tcp;
 mod transfer;
+mod tree;
 mod writer_sink;
 
 pub use bytes::Bytes;
 pub use connection::{Accept, Bound, Connection, Listener};
+pub use folder_tree::FolderTree;
 pub use gate::{Gate, OpenGate};
 pub use mem_conn::MemConn;
 pub use mem_listener::MemListener;
 pub use mem_sink::MemSink;
 pub use mem_source::MemSource;
+pub use mem_tree::MemTree;
+pub use names::{ends_in_slash, folder_front};
 pub use outside::{Got, Outside, Sink, Source, Took};
 pub use reader_source::{ReaderSource, StandardInput};
 pub use sure_conn::SureConn;
@@ -40,4 +49,5 @@ pub use sure_sink::SureSink;
 pub use sure_source::SureSource;
 pub use tcp::{TcpConnection, TcpPort};
 pub use transfer::{ReadStop, WriteFault, read_all, write_all};
+pub use tree::{Content, Listed, Tree};
 pub use writer_sink::{StandardError, StandardOutput, WriterSink};

@@ -1,4 +1,9 @@
 pub mod Streams
 mod Sources
+mod Nets
+mod Fronts
+pub mod Trees
 mod Retries
 mod Examples
+mod NetExamples
+mod TreeExamples

@@ -1,9 +1,14 @@
 -- What the clauses of `site_main` rest on, and a reader has to believe: Stream, Transfer
--- What functions promise one another, what types keep, and what proofs read: Got, Took, Scripted, Adapter, Sure
+-- What functions promise one another, what types keep, and what proofs read: Got, Took, Scripted, Adapter, Sure, Net,
+-- ScriptedNet
 pub mod Stream
 pub mod Got
 pub mod Took
 pub mod Scripted
 pub mod Adapter
 pub mod Sure
+pub mod Net
+pub mod ScriptedNet
+pub mod Folders
+pub mod ScriptedFolder
 pub mod Transfer

@@ -1,5 +1,5 @@
 -- What contracts see of a form in memory that is told which of its calls are to fail.
-use Rattle.std.specs.Prelude.{◌≡◌, ℕ, Bool, if◌then◌else◌, nat_eq, nat_lt, ◌||◌, ◌&&◌, List, [], Some, None}
+use Rattle.std.specs.Prelude.{◌≡◌, ℕ, Bool, false, if◌then◌else◌, nat_eq, nat_lt, ◌||◌, ◌&&◌, List, [], Some, None}
 use Rattle.std.specs.List.{list_any}
 use Rattle.site_io.specs.Stream.{Stream, next_count}
 
@@ -20,6 +20,12 @@ pub record IsNextCall (failed : Bool) (before after : Scripted) : Type 0 where
   pub failing : after.failing ≡ before.failing
   pub faults : after.stream.faults ≡ (if failed then next_count before.stream.faults else before.stream.faults)
 
+-- No call was counted.
+pub record IsNoCall (before after : Scripted) : Type 0 where
+  pub calls : after.calls ≡ before.calls
+  pub failing : after.failing ≡ before.failing
+  pub faults : after.stream.faults ≡ before.stream.faults
+
 -- the stream of a source in memory, from which these bytes were read and those are left
 abbrev pub source_stream : ℕ → List ℕ → List ℕ → Stream
 source_stream faults read left = record { faults = faults; left = Some left; read = Some read; written = None; shut = None }
@@ -27,6 +33,11 @@ source_stream faults read left = record { faults = faults; left = Some left; rea
 -- the stream of a sink in memory, to which these bytes were written
 abbrev pub sink_stream : ℕ → List ℕ → Stream
 sink_stream faults bytes = record { faults = faults; left = None; read = None; written = Some bytes; shut = None }
+
+-- the stream of a connection in memory
+abbrev pub conn_stream : ℕ → List ℕ → List ℕ → List ℕ → Bool → Stream
+conn_stream faults read left written shut =
+    record { faults = faults; left = Some left; read = Some read; written = Some written; shut = Some shut }
 
 -- a sink that has room for so many bytes more
 pub record ScriptedSink : Type 0 where
@@ -43,3 +54,8 @@ new_source bytes failing = record { stream = source_stream 0 [] bytes; calls = 0
 
 abbrev pub new_sink : ℕ → List ℕ → ScriptedSink
 new_sink room failing = record { scripted = record { stream = sink_stream 0 []; calls = 0; failing = failing }; room = room }
+
+-- a connection with these bytes to be read and this room, before its first call
+abbrev pub new_conn : List ℕ → ℕ → List ℕ → ScriptedSink
+new_conn bytes room failing =
+    record { scripted = record { stream = conn_stream 0 [] bytes [] false; calls = 0; failing = failing }; room = room }

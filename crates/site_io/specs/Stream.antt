@@ -1,5 +1,5 @@
 -- What contracts see of an object of the outside, and what a call does to it.
-use Rattle.std.specs.Prelude.{◌≡◌, ℕ, ◌+◌, ◌-◌, ◌^◌, ◌≤◌, min, Bool, List, Option}
+use Rattle.std.specs.Prelude.{◌≡◌, ℕ, ◌+◌, ◌-◌, ◌^◌, ◌≤◌, min, Bool, true, List, Option, option_map}
 use Rattle.std.specs.Io.KnownBytes.{Consumes, append_known}
 
 -- A count of faults, and what the object tells of its bytes: `None` where it tells nothing.
@@ -46,4 +46,20 @@ pub record HasFailed (before after : Stream) : Type 0 where
   pub left : after.left ≡ before.left
   pub read : after.read ≡ before.read
   pub written : after.written ≡ before.written
+  pub shut : after.shut ≡ before.shut
+
+-- it was shut, and nothing else changed but, perhaps, the count
+pub record HasShut (before after : Stream) : Type 0 where
+  pub later : before.faults ≤ after.faults
+  pub left : after.left ≡ before.left
+  pub read : after.read ≡ before.read
+  pub written : after.written ≡ before.written
+  pub shut : after.shut ≡ option_map (λ _. true) before.shut
+
+-- these bytes were read and those were written, in turns, and nothing else changed but, perhaps, the count
+pub record HasTraded (bytes text : List ℕ) (before after : Stream) : Type 0 where
+  pub later : before.faults ≤ after.faults
+  pub left : Consumes before.left after.left bytes
+  pub read : after.read ≡ append_known before.read bytes
+  pub written : after.written ≡ append_known before.written text
   pub shut : after.shut ≡ before.shut

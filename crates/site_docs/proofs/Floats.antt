@@ -10,14 +10,16 @@ use Rattle.pp_values.specs.Datum.{Datum}
 use Rattle.res_core.specs.declared.exported.Exported.{Exported}
 use Rattle.agent_machine.specs.declared.report.Report.{Report}
 use Rattle.agent_machine.specs.declared.report_line.ReportLine.{ReportLine}
-use Rattle.site_core.specs.Events.{Event, opens, publishes, deactivates}
+use Rattle.site_core.specs.Events.{Event, opens, publishes, adds}
+use Rattle.site_core.specs.declared.plain.Plain.{Plain}
+use Rattle.site_core.specs.declared.plain.Plain.TheVariants as ask
 use Rattle.json_values.specs.ValueForm.{form, put_all}
 use Rattle.json_values.proofs.Floats.{either, form_no_float, settings_no_float, all_no_float}
 use Rattle.site_bundle.specs.SiteView.{SiteView, Filed}
 use Rattle.site_docs.specs.SiteText.{site_object, file_settings, site_data}
 use Rattle.site_docs.specs.ReportText.{fault_data, line_object, line_data, report_object, report_data}
-use Rattle.site_docs.specs.JournalText.{export_object, export_data, opening_object, publication_object, deactivation_object, count_object, entry_data}
-use Rattle.site_docs.specs.ReplyText.{refused_object, full_object, ahead_object, unknown_object, deactivated_object, memory_object}
+use Rattle.site_docs.specs.JournalText.{export_object, export_data, opening_object, publication_object, deactivation_object, deployment_object, filing_object, count_object, plain_data, entry_data}
+use Rattle.site_docs.specs.ReplyText.{refused_object, full_object, ahead_object, unknown_object, deactivated_object, deployed_object, reported_object, memory_object}
 
 or_first : (a b : Bool) → (a || b) ≡ false → a ≡ false
 or_first true b h = h
@@ -86,11 +88,27 @@ deactivation_no_float : (author call entry : ℕ) (node : List ℕ) →
 unfolding deactivation_object
 deactivation_no_float author call entry node = refl
 
+deployment_no_float : (author call entry : ℕ) (s : SiteView) →
+    has_float (deployment_object author call entry (site_data s)) ≡ false
+unfolding deployment_object
+deployment_no_float author call entry s = either _ _ (site_no_float s) refl
+
+filing_no_float : (author call entry : ℕ) (node : List ℕ) (r : Report) →
+    has_float (filing_object author call entry node (report_data r)) ≡ false
+unfolding filing_object
+filing_no_float author call entry node r = either _ _ (report_no_float r) refl
+
+plain_no_float : (author call entry : ℕ) (what : Plain SiteView) → has_float (plain_data author call entry what) ≡ false
+unfolding plain_data
+plain_no_float author call entry (ask.Deactivate node) = deactivation_no_float author call entry node
+plain_no_float author call entry (ask.Deploy site) = deployment_no_float author call entry site
+plain_no_float author call entry (ask.Report node report) = filing_no_float author call entry node report
+
 pub entry_no_float : (n : ℕ) (e : Event SiteView) → has_float (entry_data n e) ≡ false
 unfolding entry_data
 entry_no_float n (opens site) = opening_no_float n site
 entry_no_float n (publishes p) = publication_no_float p.author p.call n p.k p.facts p.node p.set.items
-entry_no_float n (deactivates d) = deactivation_no_float d.author d.call n d.node
+entry_no_float n (adds author call what) = plain_no_float author call n what
 
 pub count_no_float : (n : ℕ) → has_float (count_object n) ≡ false
 unfolding count_object
@@ -115,6 +133,14 @@ unknown_no_float reply k node = refl
 pub deactivated_no_float : (reply entry : ℕ) → has_float (deactivated_object reply entry) ≡ false
 unfolding deactivated_object
 deactivated_no_float reply entry = refl
+
+pub deployed_no_float : (reply entry : ℕ) → has_float (deployed_object reply entry) ≡ false
+unfolding deployed_object
+deployed_no_float reply entry = refl
+
+pub reported_no_float : (reply entry : ℕ) → has_float (reported_object reply entry) ≡ false
+unfolding reported_object
+reported_no_float reply entry = refl
 
 pub memory_no_float : (reply : ℕ) → has_float (memory_object reply) ≡ false
 unfolding memory_object

@@ -9,12 +9,14 @@ use Rattle.list_sums.proofs.Marks.{below_next, below_no}
 use Rattle.pp_values.specs.Datum.{Datum}
 use Rattle.res_core.specs.declared.export_set.ExportSet.{ExportSet}
 use Rattle.res_core.specs.Asked.{Wanted}
-use Rattle.site_core.specs.Asked.{Plain, deactivate, Asked, compile, plain, next_entry}
+use Rattle.site_core.specs.Asked.{Asked, compile, plain}
 use Rattle.site_core.specs.Meaning.{Meaning}
-use Rattle.site_core.specs.Events.{Event, opens, publication}
+use Rattle.site_core.specs.Events.{Event, opens, publication, next_entry}
 use Rattle.site_core.specs.Sets.{sets_at, site_at}
-use Rattle.site_core.specs.Fits.{Listed, facts_for, IsFresh, Means, Fits, had, named}
+use Rattle.site_core.specs.Fits.{Listed, facts_for, IsFresh, Means, IsAdded, Fits, had, named}
 use Rattle.site_core.specs.Runs.{picked, RiseFrom, Runs, all_named}
+use Rattle.site_core.specs.declared.plain.Plain.{Plain}
+use Rattle.site_core.specs.declared.plain.Plain.TheVariants as ask
 use Rattle.site_core.specs.declared.reply.ReplyOf.{ReplyOf}
 use Rattle.site_core.specs.declared.reply.ReplyOf.TheVariants as a
 use Rattle.site_core.proofs.Fitting.{means_grows, fits_grows}
@@ -178,15 +180,33 @@ module _ {S C F : Type 0} (meaning : Meaning S C F) (listed : Listed S) (limit :
   unless_ahead h s w false t may ahead is =
       site_turn h s w (site_at h (length h)) t may (ltb-false (length h) w.seen ahead) refl is
 
-  added_turn : (h : List (Event S)) (s : ℕ) (p : Plain S) → MayAsk h s → IsTurn h s (plain p) (turn_added limit h p)
-  added_turn h s (deactivate node) may =
-      let p : Plain S = deactivate node in
+  is_added : (h : List (Event S)) (p : Plain S) → IsAdded (h ++ next_entry h AUTHOR p ∷ []) AUTHOR p (length h)
+  is_added h p =
       let e = next_entry h AUTHOR p in let size = length-append h (e ∷ []) in
-      if_so (IsTurn h s (plain p)) (nat_lt (length h) limit) _ _
-      (λ room. adds_one h s (plain p) (a.Deactivated (length h)) e (ltb-true (length h) limit room)
-      (refl, may.had, record { inside = omega (arith, size); call = _; at = get_end h e [] }) refl refl)
+      record { inside = omega (arith, size); call = _; at = get_end h e [] }
+
+  added_or_full : (h : List (Event S)) (s : ℕ) (p : Plain S) (reply : ReplyOf C F) → MayAsk h s →
+      (length h < limit → IsTurn h s (plain p) (turn reply (h ++ next_entry h AUTHOR p ∷ []))) →
+      IsTurn h s (plain p) (if nat_lt (length h) limit then turn reply (h ++ next_entry h AUTHOR p ∷ [])
+      else turn (a.HistoryFull (length h)) h)
+  added_or_full h s p reply may one =
+      if_so (IsTurn h s (plain p)) (nat_lt (length h) limit) _ _ (λ room. one (ltb-true (length h) limit room))
       (λ past. let is = full h s may (ltb-false (length h) limit past) in
       silent h s (plain p) (a.HistoryFull (length h)) may.few (is, is) (omega arith) refl)
+
+  added_turn : (h : List (Event S)) (s : ℕ) (p : Plain S) → MayAsk h s → IsTurn h s (plain p) (turn_added limit h p)
+  added_turn h s (ask.Deactivate node) may =
+      let p : Plain S = ask.Deactivate node in
+      added_or_full h s p (a.Deactivated (length h)) may (λ room.
+      adds_one h s (plain p) (a.Deactivated (length h)) _ room (refl, may.had, is_added h p) refl refl)
+  added_turn h s (ask.Deploy site) may =
+      let p : Plain S = ask.Deploy site in
+      added_or_full h s p (a.Deployed (length h)) may (λ room.
+      adds_one h s (plain p) (a.Deployed (length h)) _ room (refl, may.had, is_added h p) refl refl)
+  added_turn h s (ask.Report node report) may =
+      let p : Plain S = ask.Report node report in
+      added_or_full h s p (a.Reported (length h)) may (λ room.
+      adds_one h s (plain p) (a.Reported (length h)) _ room (refl, may.had, is_added h p) refl refl)
 
   turn_is : (h : List (Event S)) (s : ℕ) (asked : Asked S) (t : Turn S C F) → MayAsk h s →
       turn_for meaning listed limit h asked ≡ Some t → IsTurn h s asked t
@@ -264,7 +284,7 @@ module _ {S C F : Type 0} (meaning : Meaning S C F) (listed : Listed S) (limit :
       let places = count_from 0 (length requests) in
       record {
         legal = legal;
-        opening = ap (λ l. slice_get l 0) turns.goes_on;
+        begins = (turns.more, sym turns.goes_on);
         few = turns.few;
         answered = turns.count_is;
         hands = record { author = AUTHOR; places = places } ∷ [];
@@ -283,6 +303,5 @@ module _ {S C F : Type 0} (meaning : Meaning S C F) (listed : Listed S) (limit :
               (picked_rest replies [] replies 0 refl refl))) turns.run),
           tt,
         );
-        once = λ entry. let all = turns.names entry in let next = below_next 0 entry in
-            let none = below_no 0 entry (omega arith) in omega (arith, all, next, none);
+        once = turns.names;
       }

@@ -8,19 +8,20 @@ use Rattle.list_sums.proofs.Marks.{same_yes, same_no, below_yes, below_no, below
 use Rattle.pp_values.specs.Datum.{Datum}
 use Rattle.res_core.specs.Asked.{Wanted}
 use Rattle.res_core.specs.declared.export_set.ExportSet.{ExportSet}
-use Rattle.site_core.specs.Asked.{Asked, compile, plain, deactivate, plain_entry}
-use Rattle.site_core.specs.Events.{Event, opens, publishes, deactivates}
-use Rattle.site_core.specs.Fits.{Listed, FitsSaid, Means, had, had_said, named, named_said}
+use Rattle.site_core.specs.Asked.{Asked, compile, plain}
+use Rattle.site_core.specs.Events.{Event, opens, publishes, adds}
+use Rattle.site_core.specs.Fits.{Listed, FitsSaid, IsAdded, Means, had, had_said, named, named_said}
 use Rattle.site_core.specs.Legal.{MayFollow, EachFollows, Legal}
 use Rattle.site_core.specs.Meaning.{Meaning}
 use Rattle.site_core.specs.Runs.{Hand, is_hand_of, times_in, picked, RiseFrom, Runs, EachRuns, all_named}
 use Rattle.site_core.specs.Said as t
-use Rattle.site_core.specs.Said.{Said, said}
+use Rattle.site_core.specs.Said.{Said, said, kind_of, plain_reply}
 use Rattle.site_core.specs.Sets.{site_at}
+use Rattle.site_core.specs.declared.plain.Plain.{Plain}
 use Rattle.site_core.specs.declared.reply.ReplyOf.{ReplyOf}
 use Rattle.site_core.specs.declared.reply.ReplyOf.TheVariants as a
 use Rattle.site_core.proofs.Sets.{sets_at-append, site_at-append}
-use Rattle.site_sequence.specs.Sequence.{Takes, AnsweredInTurn}
+use Rattle.site_sequence.specs.Sequence.{turn, Takes, AnsweredInTurn}
 use Rattle.site_sequence.specs.SequenceLaws.{WholeIsInTurn, OneResult}
 use Rattle.site_sequence.specs.declared.sequence.TheConstants.{AUTHOR}
 use Rattle.site_sequence.proofs.OneAuthor.{count_from, get_end, picked_rest}
@@ -98,7 +99,7 @@ module _ {S C F : Type 0} (meaning : Meaning S C F) where
   legal_at [] rest e some legal = absurd (omega (arith, some))
   legal_at (opens site ∷ front) rest e some legal = each_at (opens site ∷ []) front rest e legal
   legal_at (publishes p ∷ front) rest e some legal = absurd legal
-  legal_at (deactivates d ∷ front) rest e some legal = absurd legal
+  legal_at (adds author call what ∷ front) rest e some legal = absurd legal
 
 module _ {S C F : Type 0} (meaning : Meaning S C F) (listed : Listed S) (h : List (Event S)) (limit author : ℕ) where
   -- what a fitting reply tells of
@@ -319,16 +320,16 @@ module _ {S C F : Type 0} (meaning : Meaning S C F) (listed : Listed S) (limit :
             (ap (λ n. n ∷ []) at);
       }
 
-  removed : (h front rest : List (Event S)) (node : List ℕ) (entry : ℕ) (requests : List (Asked S))
-      (replies : List (ReplyOf C F)) →
-      IsLeft h front rest (plain (deactivate node) ∷ requests) (a.Deactivated entry ∷ replies) →
-      entry ≡ length front → IsStep h front (plain (deactivate node)) (a.Deactivated entry) requests replies
-  removed h front [] node entry requests replies left at =
-      let all = size h front [] left.is in let inside = left.run.0.2.inside in absurd (omega (arith, all, inside, at))
-  removed h front (e ∷ rest) node entry requests replies left at =
+  added : (h front rest : List (Event S)) (what : Plain S) (reply : ReplyOf C F) (entry : ℕ) (requests : List (Asked S))
+      (replies : List (ReplyOf C F)) → IsLeft h front rest (plain what ∷ requests) (reply ∷ replies) →
+      IsAdded h AUTHOR what entry → plain_reply (kind_of what) entry ≡ reply →
+      had (length front) reply ≡ entry + 1 → named reply ≡ entry ∷ [] → entry ≡ length front →
+      IsStep h front (plain what) reply requests replies
+  added h front [] what reply entry requests replies left is reply_is had_is named_is at =
+      let all = size h front [] left.is in let inside = is.inside in absurd (omega (arith, all, inside, at))
+  added h front (e ∷ rest) what reply entry requests replies left is reply_is had_is named_is at =
       let all = size h front (e ∷ rest) left.is in
-      let (kind, low, is) = left.run.0 in
-      let e_is : e ≡ plain_entry (deactivate node) AUTHOR is.call =
+      let e_is : e ≡ adds AUTHOR is.call what =
       some_is e _ (sym (get_end front e rest) ∙ ap (slice_get (front ++ e ∷ rest)) (sym at)
       ∙ ap (λ l. slice_get l entry) (sym left.is) ∙ is.at) in
       let may = subst (MayFollow meaning front) e_is
@@ -336,11 +337,12 @@ module _ {S C F : Type 0} (meaning : Meaning S C F) (listed : Listed S) (limit :
       record {
         next = front ++ e ∷ [];
         rest = rest;
-        takes = inl (turn_plain meaning listed limit front (front ++ e ∷ []) (deactivate node) entry
+        takes = inl (turn_plain meaning listed limit front (front ++ e ∷ []) what entry
             (let few = left.few in omega (arith, few, all)) at
-            (ap (λ x. front ++ x ∷ []) (e_is ∙ ap (plain_entry (deactivate node) AUTHOR) may)));
-        left = goes_on h front rest e (plain (deactivate node)) (a.Deactivated entry) requests replies left
-            (omega (arith, at)) (ap (λ n. n ∷ []) at);
+            (ap (λ x. front ++ x ∷ []) (e_is ∙ ap (λ call. adds AUTHOR call what) may))
+            ∙ ap (λ r. Some (turn r (front ++ e ∷ []))) reply_is);
+        left = goes_on h front rest e (plain what) reply requests replies left (omega (arith, had_is, at))
+            (named_is ∙ ap (λ n. n ∷ []) at);
       }
 
   module _ (h front rest : List (Event S)) (requests : List (Asked S)) (replies : List (ReplyOf C F)) where
@@ -413,6 +415,8 @@ module _ {S C F : Type 0} (meaning : Meaning S C F) (listed : Listed S) (limit :
         (inl (turn_unknown meaning listed limit front w is.site k (let told = fresh.told in omega (arith, told, at))
         site_is is.none at))
     step (compile w) (a.Deactivated entry) left = absurd left.run.0
+    step (compile w) (a.Deployed entry) left = absurd left.run.0
+    step (compile w) (a.Reported entry) left = absurd left.run.0
     step (compile w) a.Memory left =
         silent_step (compile w) a.Memory (length front) left refl refl refl (inr (refl, refl))
     step (plain p) (a.Served entry k catalog) left = absurd left.run.0
@@ -426,11 +430,24 @@ module _ {S C F : Type 0} (meaning : Meaning S C F) (listed : Listed S) (limit :
         (inl (turn_no_room meaning listed limit front p n (omega (arith, is, at)) at))
     step (plain p) (a.SeenAhead n) left = absurd left.run.0
     step (plain p) (a.UnknownNode k) left = absurd left.run.0
-    step (plain (deactivate node)) (a.Deactivated entry) left =
+    step (plain p) (a.Deactivated entry) left =
         let (kind, low, is) = left.run.0 in
-        removed h front rest node entry requests replies left
+        added h front rest p (a.Deactivated entry) entry requests replies left is
+        (ap (λ k. plain_reply k entry) (sym kind)) refl refl
         (first meaning listed h limit AUTHOR (length front) entry low
-        (next_here (plain (deactivate node)) (a.Deactivated entry) left).next)
+        (next_here (plain p) (a.Deactivated entry) left).next)
+    step (plain p) (a.Deployed entry) left =
+        let (kind, low, is) = left.run.0 in
+        added h front rest p (a.Deployed entry) entry requests replies left is
+        (ap (λ k. plain_reply k entry) (sym kind)) refl refl
+        (first meaning listed h limit AUTHOR (length front) entry low
+        (next_here (plain p) (a.Deployed entry) left).next)
+    step (plain p) (a.Reported entry) left =
+        let (kind, low, is) = left.run.0 in
+        added h front rest p (a.Reported entry) entry requests replies left is
+        (ap (λ k. plain_reply k entry) (sym kind)) refl refl
+        (first meaning listed h limit AUTHOR (length front) entry low
+        (next_here (plain p) (a.Reported entry) left).next)
     step (plain p) a.Memory left =
         silent_step (plain p) a.Memory (length front) left refl refl refl (inr (refl, refl))
 
@@ -443,15 +460,11 @@ module _ {S C F : Type 0} (meaning : Meaning S C F) (listed : Listed S) (limit :
   steps [] (reply ∷ replies) h front rest left = absurd left.run
   steps (asked ∷ requests) [] h front rest left = absurd left.run
 
-  opened_first : (h : List (Event S)) (site : S) → slice_get h 0 ≡ Some (opens site) →
-      (rest : List (Event S)) × (h ≡ opens site ∷ rest)
-  opened_first [] site at = absurd cc
-  opened_first (e ∷ rest) site at = (rest, ap (λ x. x ∷ rest) (some_is e (opens site) at))
-
   pub whole_in_turn : WholeIsInTurn meaning listed limit
   whole_in_turn site after requests replies w =
-      let (places, hands_are) = one_hand w.hands w.authors in
-      let run = subst (EachRuns meaning listed after limit requests replies) hands_are w.run in
+      let (places, hands_are) = one_hand w.hands (λ author. let all = w.authors author in
+      let none = below_no 0 author (omega arith) in omega (arith, all, none)) in
+      let run = subst (EachRuns meaning listed after limit 1 requests replies) hands_are w.run in
       let shares = subst (λ l. (k : ℕ) → total (times_in k) l ≡ below (length requests) k) hands_are w.shares in
       let places_are : places ≡ count_from 0 (length requests) =
       in_turn 0 (length requests) places run.0 (λ k. let all = shares k in let none = below_no 0 k (omega arith) in
@@ -462,16 +475,15 @@ module _ {S C F : Type 0} (meaning : Meaning S C F) (listed : Listed S) (limit :
       let replies_are : picked replies places ≡ replies =
       ap (picked replies) (places_are ∙ ap (count_from 0) (sym w.answered))
       ∙ picked_rest replies [] replies 0 refl refl in
-      let (rest, opened) = opened_first after site w.opening in
+      let (rest, opened) = w.begins in
       steps requests replies after (opens site ∷ []) rest (record {
         legal = w.legal;
         few = w.few;
-        is = opened;
+        is = sym opened;
         some = omega arith;
         run = subst (λ (x : List (Asked S) × List (ReplyOf C F)). Runs meaning listed after limit AUTHOR 1 x.0 x.1)
             (λ i. (asked_are i, replies_are i)) run.1;
-        names = λ entry. let all = w.once entry in let next = below_next 0 entry in
-            let none = below_no 0 entry (omega arith) in omega (arith, all, next, none);
+        names = w.once;
       })
 
   pub one_result : OneResult meaning listed limit

@@ -6,12 +6,14 @@ use Rattle.std.proofs.lemmas.Bool.{and_from, and_parts, or_parts, eq-eqb}
 use Rattle.std.proofs.lemmas.List.{length-append}
 use Rattle.pp_values.specs.Datum.{Datum}
 use Rattle.res_core.specs.declared.export_set.ExportSet.{ExportSet}
-use Rattle.site_core.specs.Asked.{Plain, deactivate, Asked, compile, plain}
+use Rattle.site_core.specs.Asked.{Asked, compile, plain}
 use Rattle.site_core.specs.Meaning.{Meaning}
 use Rattle.site_core.specs.Events.{Event}
 use Rattle.site_core.specs.Sets.{sets_at, site_at}
 use Rattle.site_core.specs.Fits.{facts_for, named}
 use Rattle.site_core.specs.Runs.{all_named}
+use Rattle.site_core.specs.declared.plain.Plain.{Plain}
+use Rattle.site_core.specs.declared.plain.Plain.TheVariants as ask
 use Rattle.site_core.specs.declared.reply.ReplyOf.{ReplyOf}
 use Rattle.site_core.specs.declared.reply.ReplyOf.TheVariants as a
 use Rattle.site_sequence.specs.Sequence.{Turn, turn, turn_meant, turn_added, turn_known, turn_for, Takes, AnsweredInTurn, Outcome, with_turn, outcome_of}
@@ -59,8 +61,14 @@ module _ {S C F : Type 0} where
       (stays h (a.HistoryFull (length h)) refl refl)
 
   comes_added : (limit : ℕ) (h : List (Event S)) (p : Plain S) → Comes h (turn_added {C = C} {F = F} limit h p)
-  comes_added limit h (deactivate node) =
+  comes_added limit h (ask.Deactivate node) =
       comes_if h (nat_lt (length h) limit) _ _ (adds h (a.Deactivated (length h)) _ refl refl refl)
+      (stays h (a.HistoryFull (length h)) refl refl)
+  comes_added limit h (ask.Deploy site) =
+      comes_if h (nat_lt (length h) limit) _ _ (adds h (a.Deployed (length h)) _ refl refl refl)
+      (stays h (a.HistoryFull (length h)) refl refl)
+  comes_added limit h (ask.Report node report) =
+      comes_if h (nat_lt (length h) limit) _ _ (adds h (a.Reported (length h)) _ refl refl refl)
       (stays h (a.HistoryFull (length h)) refl refl)
 
 module _ {S C F : Type 0} (meaning : Meaning S C F) (listed : S → List ℕ → Option Datum) (limit : ℕ) where

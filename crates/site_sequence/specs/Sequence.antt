@@ -3,12 +3,13 @@ use Rattle.std.specs.Prelude.{◌≡◌, ◌⊎◌, ℕ, nat_lt, if◌then◌els
 use Rattle.std.specs.Prelude.{Result, Ok, Err, option_map, option_and_then}
 use Rattle.pp_values.specs.Datum.{Datum}
 use Rattle.res_core.specs.declared.export_set.ExportSet.{ExportSet}
-use Rattle.site_core.specs.Asked.{Plain, Asked, compile, plain, next_entry}
+use Rattle.site_core.specs.Asked.{Asked, compile, plain}
 use Rattle.site_core.specs.Meaning.{Meaning}
-use Rattle.site_core.specs.Events.{Event, publication}
+use Rattle.site_core.specs.Events.{Event, publication, next_entry}
 use Rattle.site_core.specs.Sets.{sets_at, site_at}
 use Rattle.site_core.specs.Fits.{Listed, facts_for}
 use Rattle.site_core.specs.Said.{kind_of, plain_reply}
+use Rattle.site_core.specs.declared.plain.Plain.{Plain}
 use Rattle.site_core.specs.declared.reply.ReplyOf.{ReplyOf}
 use Rattle.site_core.specs.declared.reply.ReplyOf.TheVariants as a
 use Rattle.site_sequence.specs.declared.sequence.TheConstants.{AUTHOR}

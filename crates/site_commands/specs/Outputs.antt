@@ -60,6 +60,8 @@ is_refusal (r.HistoryFull length) = true
 is_refusal (r.SeenAhead length) = true
 is_refusal (r.UnknownNode k) = true
 is_refusal (r.Deactivated entry) = false
+is_refusal (r.Deployed entry) = false
+is_refusal (r.Reported entry) = false
 is_refusal r.Memory = false
 
 -- the output, and what its replies tell of: want of memory counts before a refusal

@@ -63,7 +63,7 @@ const EMPTY: &str =
 const BUNDLE: &str = r#"{"bundle": 1, "files": {"manifests/site.pp": ""}, "nodes": {"a": {}}}"#;
 
 const OPENED: &str =
-    r#"{"entry":0,"journal":1,"kind":"open","site":{"files":{"manifests/site.pp":""},"nodes":{"a":{}}}}
+    r#"{"entry":0,"journal":2,"kind":"open","site":{"files":{"manifests/site.pp":""},"nodes":{"a":{}}}}
 {"entries":1}
 "#;
 
@@ -72,7 +72,7 @@ const UNKNOWN: &str =
     r#"{"bundle": 1, "files": {"manifests/site.pp": ""}, "requests": [{"node": "z"}]}"#;
 
 const REFUSED: &str =
-    r#"{"entry":0,"journal":1,"kind":"open","site":{"files":{"manifests/site.pp":""},"nodes":{}}}
+    r#"{"entry":0,"journal":2,"kind":"open","site":{"files":{"manifests/site.pp":""},"nodes":{}}}
 {"entries":1}
 {"k":1,"reply":0,"unknown":"z"}
 "#;
@@ -82,7 +82,7 @@ const LOGGED: &str =
     r#"{"bundle": 1, "files": {"manifests/site.pp": "notice('a')"}, "nodes": {"a": {}}, "requests": [{"node": "a"}]}"#;
 
 const SERVED: &str =
-    r#"{"entry":0,"journal":1,"kind":"open","site":{"files":{"manifests/site.pp":"notice('a')"},"nodes":{"a":{}}}}
+    r#"{"entry":0,"journal":2,"kind":"open","site":{"files":{"manifests/site.pp":"notice('a')"},"nodes":{"a":{}}}}
 {"author":0,"call":0,"entry":1,"facts":{},"k":1,"kind":"publish","node":"a","set":[]}
 {"entries":2}
 {"catalog":{"catalog":1,"edges":[],"node":"a","resources":[{"attrs":{},"in":[],"tags":["class","main"],"title":"main","type":"Class"}]},"entry":1,"k":1,"reply":0}
@@ -232,7 +232,7 @@ const ANSWERS: [Run<'static>; 15] = [
         r#"{"bundle": 1, "files": {"manifests/site.pp": ""}, "nodes": {"a": {}}, "requests": [{"node": "a"}]}"#,
         NONE,
         0,
-        r#"{"entry":0,"journal":1,"kind":"open","site":{"files":{"manifests/site.pp":""},"nodes":{"a":{}}}}
+        r#"{"entry":0,"journal":2,"kind":"open","site":{"files":{"manifests/site.pp":""},"nodes":{"a":{}}}}
 {"author":0,"call":0,"entry":1,"facts":{},"k":1,"kind":"publish","node":"a","set":[]}
 {"entries":2}
 {"catalog":{"catalog":1,"edges":[],"node":"a","resources":[{"attrs":{},"in":[],"tags":["class","main"],"title":"main","type":"Class"}]},"entry":1,"k":1,"reply":0}
@@ -244,7 +244,7 @@ const ANSWERS: [Run<'static>; 15] = [
         r#"{"bundle": 1, "files": {"manifests/site.pp": "@@notify { 'me': }\nNotify <<| |>>"}, "nodes": {"a": {}}, "requests": [{"node": "a"}, {"node": "a"}]}"#,
         NONE,
         0,
-        r#"{"entry":0,"journal":1,"kind":"open","site":{"files":{"manifests/site.pp":"@@notify { 'me': }\nNotify <<| |>>"},"nodes":{"a":{}}}}
+        r#"{"entry":0,"journal":2,"kind":"open","site":{"files":{"manifests/site.pp":"@@notify { 'me': }\nNotify <<| |>>"},"nodes":{"a":{}}}}
 {"author":0,"call":0,"entry":1,"facts":{},"k":1,"kind":"publish","node":"a","set":[{"at":"manifests/site.pp:1","attrs":{},"tags":["class","main","me","notify"],"title":"me","type":"Notify"}]}
 {"author":0,"call":1,"entry":2,"facts":{},"k":2,"kind":"publish","node":"a","set":[{"at":"manifests/site.pp:1","attrs":{},"tags":["class","main","me","notify"],"title":"me","type":"Notify"}]}
 {"entries":3}
@@ -258,7 +258,7 @@ const ANSWERS: [Run<'static>; 15] = [
         r#"{"bundle": 1, "files": {"manifests/site.pp": "@@notify { 'me': }\nNotify <<| |>>"}, "nodes": {"a": {}, "b": {}}, "requests": [{"node": "a"}, {"node": "b"}]}"#,
         NONE,
         1,
-        r#"{"entry":0,"journal":1,"kind":"open","site":{"files":{"manifests/site.pp":"@@notify { 'me': }\nNotify <<| |>>"},"nodes":{"a":{},"b":{}}}}
+        r#"{"entry":0,"journal":2,"kind":"open","site":{"files":{"manifests/site.pp":"@@notify { 'me': }\nNotify <<| |>>"},"nodes":{"a":{},"b":{}}}}
 {"author":0,"call":0,"entry":1,"facts":{},"k":1,"kind":"publish","node":"a","set":[{"at":"manifests/site.pp:1","attrs":{},"tags":["class","main","me","notify"],"title":"me","type":"Notify"}]}
 {"entries":2}
 {"catalog":{"catalog":1,"edges":[],"node":"a","resources":[{"attrs":{},"in":[],"tags":["class","main"],"title":"main","type":"Class"},{"attrs":{},"in":[0],"tags":["class","main","me","notify"],"title":"me","type":"Notify"}]},"entry":1,"k":1,"reply":0}
@@ -271,7 +271,7 @@ const ANSWERS: [Run<'static>; 15] = [
         r#"{"bundle": 1, "files": {"manifests/site.pp": ""}, "nodes": {"a": {}}, "requests": [{"node": "z"}, {"node": "a", "seen": 2}]}"#,
         NONE,
         1,
-        r#"{"entry":0,"journal":1,"kind":"open","site":{"files":{"manifests/site.pp":""},"nodes":{"a":{}}}}
+        r#"{"entry":0,"journal":2,"kind":"open","site":{"files":{"manifests/site.pp":""},"nodes":{"a":{}}}}
 {"entries":1}
 {"k":1,"reply":0,"unknown":"z"}
 {"length":1,"reply":1,"seen":2}
@@ -283,7 +283,7 @@ const ANSWERS: [Run<'static>; 15] = [
         r#"{"bundle": 1, "files": {"manifests/site.pp": "notify { 'a'"}, "requests": [{"deactivate": "b"}, {"node": "b", "facts": {}}]}"#,
         NONE,
         1,
-        r#"{"entry":0,"journal":1,"kind":"open","site":{"files":{"manifests/site.pp":"notify { 'a'"},"nodes":{}}}
+        r#"{"entry":0,"journal":2,"kind":"open","site":{"files":{"manifests/site.pp":"notify { 'a'"},"nodes":{}}}
 {"author":0,"call":0,"entry":1,"kind":"deactivate","node":"b"}
 {"entries":2}
 {"entry":1,"reply":0}
@@ -297,7 +297,7 @@ const ANSWERS: [Run<'static>; 15] = [
         r#"{"bundle": 1, "files": {"manifests/site.pp": "@@notify { 'me': }\nNotify <<| |>>"}, "nodes": {"a": {}}, "requests": [{"node": "a"}, {"node": "a"}]}"#,
         NONE,
         0,
-        r#"{"entry":0,"journal":1,"kind":"open","site":{"files":{"manifests/site.pp":"@@notify { 'me': }\nNotify <<| |>>"},"nodes":{"a":{}}}}
+        r#"{"entry":0,"journal":2,"kind":"open","site":{"files":{"manifests/site.pp":"@@notify { 'me': }\nNotify <<| |>>"},"nodes":{"a":{}}}}
 {"author":0,"call":0,"entry":1,"facts":{},"k":1,"kind":"publish","node":"a","set":[{"at":"manifests/site.pp:1","attrs":{},"tags":["class","main","me","notify"],"title":"me","type":"Notify"}]}
 {"author":0,"call":1,"entry":2,"facts":{},"k":2,"kind":"publish","node":"a","set":[{"at":"manifests/site.pp:1","attrs":{},"tags":["class","main","me","notify"],"title":"me","type":"Notify"}]}
 {"entries":3}
@@ -311,7 +311,7 @@ const ANSWERS: [Run<'static>; 15] = [
         r#"{"bundle": 1, "files": {"manifests/site.pp": ""}, "nodes": {"a": {}}, "requests": [{"node": "z"}, {"node": "a", "seen": 2}]}"#,
         NONE,
         1,
-        r#"{"entry":0,"journal":1,"kind":"open","site":{"files":{"manifests/site.pp":""},"nodes":{"a":{}}}}
+        r#"{"entry":0,"journal":2,"kind":"open","site":{"files":{"manifests/site.pp":""},"nodes":{"a":{}}}}
 {"entries":1}
 {"k":1,"reply":0,"unknown":"z"}
 {"length":1,"reply":1,"seen":2}

@@ -89,7 +89,7 @@ const SERVED: &str =
 "#;
 
 /// Faulty words, and input that no command reads.
-const WORDS: [Run<'static>; 43] = [
+const WORDS: [Run<'static>; 49] = [
     // Faulty words.
     ("", "", NONE, 10, "", USAGE),
     ("manifest", "", NONE, 10, "", USAGE),
@@ -123,6 +123,12 @@ const WORDS: [Run<'static>; 43] = [
     ("lookup|n|k|--merge|", "", NONE, 10, "", "bad word \n"),
     ("manifest|a b", "", NONE, 10, "", "bad word a b\n"),
     ("manifest|é", "", NONE, 10, "", "bad word é\n"),
+    ("demo", "", NONE, 10, "", USAGE),
+    ("demo|1|1", "", NONE, 10, "", USAGE),
+    ("Demo|1", "", NONE, 10, "", USAGE),
+    ("demo|0", "", NONE, 10, "", "bad word 0\n"),
+    ("demo|4097", "", NONE, 10, "", "bad word 4097\n"),
+    ("demo|017", "", NONE, 10, "", "bad word 017\n"),
     // Input that no command reads.
     ("sequence", "", NONE, 11, "", "B1\n"),
     ("sequence", "{", NONE, 11, "", "B1\n"),
@@ -159,7 +165,7 @@ const WORDS: [Run<'static>; 43] = [
 ];
 
 /// Catalogs, faults and bundles.
-const ANSWERS: [Run<'static>; 15] = [
+const ANSWERS: [Run<'static>; 16] = [
     // Catalogs and faults of a node.
     (
         "manifest|web-1.example_0",
@@ -225,6 +231,15 @@ const ANSWERS: [Run<'static>; 15] = [
         1,
         "",
         "F1 manifests/site.pp:3 Syntax\n",
+    ),
+    // The demo.
+    (
+        "demo|17",
+        "",
+        NONE,
+        0,
+        "nodes 17\nserved 34\nresources 71\nentries 35\n",
+        "",
     ),
     // Bundles.
     (
@@ -321,7 +336,7 @@ const ANSWERS: [Run<'static>; 15] = [
 ];
 
 /// Streams that fail, refusals that are written, and logs.
-const STREAMS: [Run<'static>; 33] = [
+const STREAMS: [Run<'static>; 35] = [
     // Streams that fail.
     ("manifest|n", GOOD, (1, 0, 0), 12, "", "read fault\n"),
     ("manifest|n", GOOD, (2, 0, 0), 12, "", "read fault\n"),
@@ -397,6 +412,16 @@ const STREAMS: [Run<'static>; 33] = [
     // Logs of bundles are dropped.
     ("sequence", LOGGED, (0, 0, 1), 0, SERVED, ""),
     ("batch", LOGGED, (0, 0, 1), 0, SERVED, ""),
+    // A demo reads nothing, so no read of it fails.
+    (
+        "demo|1",
+        "{",
+        (1, 0, 1),
+        0,
+        "nodes 1\nserved 2\nresources 4\nentries 3\n",
+        "",
+    ),
+    ("demo|1", "", (0, 1, 0), 13, "", ""),
 ];
 
 #[test]

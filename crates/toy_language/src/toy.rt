@@ -12,6 +12,7 @@ use res_core::export_set::ExportSet;
 use res_core::exports::Exports;
 use site_core::compile_stop::CompileStop;
 use site_core::language::Language;
+use site_core::site_stop::SiteStop;
 use std::alloc::Global;
 
 /// Lists these facts for node `a`.
@@ -49,6 +50,8 @@ impl Language for Toy {
 
     ghost listed = { λ site node. if pointwise nat_eq node (codes "a") then Some (view site.facts) else None };
 
+    ghost said_site = { λ body. None };
+
     ghost site_form = { λ site. [] };
 
     ghost catalog_form = { λ catalog. if catalog then codes "some" else codes "none" };
@@ -79,6 +82,11 @@ impl Language for Toy {
         } else {
             None
         }
+    }
+
+    /// No bytes say a site.
+    fn site_of(&self, _alloc: Global, _body: &[u8]) -> Result<ToySite, SiteStop> {
+        Err(SiteStop::Bad)
     }
 
     fn site_text(&self, alloc: Global, _site: &ToySite) -> Result<Text, Memory> {

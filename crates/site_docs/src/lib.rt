@@ -20,5 +20,5 @@ pub use fault_texts::{fault_text, write_fault};
 pub use journals::write_journal;
 pub use log_texts::log_text;
 pub use replies::write_reply;
-pub use report_texts::write_report;
+pub use report_texts::{reports_are_told_apart, write_report};
 pub use site_texts::site_text;

@@ -3,6 +3,7 @@ ghost use Rattle.std.specs.Prelude.{◌≡◌, ◌∷◌, ◌++◌, [], map, IfO
 ghost use Rattle.std.specs.List.{count_by};
 ghost use Rattle.serde_json.specs.View.{view as json_view};
 ghost use Rattle.pp_values.specs.Words.{reference_text as text_of_reference};
+ghost use Rattle.site_docs.specs.DocumentLaws.{ReportsAreToldApart};
 ghost use Rattle.site_docs.specs.ReportText.{status_text, is_noop, is_failed, has_changed, has_failed, was_noop, fault_data, line_object as object_of_line, line_data, report_object as object_of_report, report_data, report_text};
 
 use crate::lines::ended;
@@ -24,6 +25,11 @@ pub fn write_report(alloc: Global, report: &Report) -> Result<Text, Memory>
     let form = report_form(alloc, report)?;
     ended(alloc, json_text(alloc, &form)?)
 }
+
+/// No two reports have one text.
+pub fn reports_are_told_apart()
+    ensures { ReportsAreToldApart }
+{}
 
 /// The report as JSON.
 #[tactic(auto, unfolding(crate::specs::ReportText::report_data))]

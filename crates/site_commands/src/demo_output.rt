@@ -10,10 +10,9 @@ use crate::output::Output;
 use compile_core::language::PuppetLanguage;
 use pp_values::memory::Memory;
 use pp_values::text::Text;
-use res_core::catalog::Catalog;
 use site_bundle::site::Site;
 use site_core::history::History;
-use site_core::reply::ReplyOf;
+use site_core::reply::{Reply, ReplyOf};
 use site_replies::Replies;
 use site_sequence::run_sequence;
 use std::alloc::Global;
@@ -57,13 +56,13 @@ fn summary_lines(
     Ok(Text::new(lines))
 }
 
-fn count_served<F>(replies: &[ReplyOf<Catalog, F>]) -> usize
+fn count_served(replies: &[Reply<PuppetLanguage>]) -> usize
     ensures { result ≡ count_by spec.is_served replies.now }
 {
     replies.iter().filter(|reply| is_served(reply)).count()
 }
 
-fn is_served<F>(reply: &ReplyOf<Catalog, F>) -> bool
+fn is_served(reply: &Reply<PuppetLanguage>) -> bool
     ensures { result ≡ spec.is_served reply.now }
 {
     match reply {
@@ -74,7 +73,7 @@ fn is_served<F>(reply: &ReplyOf<Catalog, F>) -> bool
 
 /// How many resources all catalogs have. More than can be counted would find no room, and count as want of memory.
 #[tactic(auto, unfolding(crate::specs::Demo::held_in_all))]
-fn count_held<F>(replies: &[ReplyOf<Catalog, F>]) -> Result<usize, Memory>
+fn count_held(replies: &[Reply<PuppetLanguage>]) -> Result<usize, Memory>
     ensures { IfOk result (λ count. count ≡ spec.held_in_all replies.now) }
 {
     let mut count: usize = 0;
@@ -89,7 +88,7 @@ fn count_held<F>(replies: &[ReplyOf<Catalog, F>]) -> Result<usize, Memory>
     Ok(count)
 }
 
-fn held_in<F>(reply: &ReplyOf<Catalog, F>) -> usize
+fn held_in(reply: &Reply<PuppetLanguage>) -> usize
     ensures { result ≡ spec.held_in reply.now }
 {
     match reply {

@@ -4,7 +4,7 @@ use Rattle.site_commands.specs.Demo.{held_in_all}
 use Rattle.site_commands.proofs.demo_output.count_held.Given as goal
 
 abbrev pub invariant-loop-left : goal.invariant-loop-left
-invariant-loop-left g l = l.count + held_in_all l.left ≡ held_in_all l.replies
+invariant-loop-left l = l.count + held_in_all l.left ≡ held_in_all l.replies
 
 abbrev pub decreases-loop-left : goal.decreases-loop-left
-decreases-loop-left g l = length l.left
+decreases-loop-left l = length l.left

@@ -1,6 +1,6 @@
 pub mod Shown
+pub mod Parted
 pub mod Turns
 pub mod Calls
-pub mod Entries
 pub mod Answered
 pub mod Sent

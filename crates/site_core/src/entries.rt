@@ -1,4 +1,4 @@
-ghost use Rattle.std.specs.Prelude.{◌≡◌, ◌<◌, ◌^◌, [], ◌∷◌, ◌++◌, length, is_ok, if◌then◌else◌, IfOk, IsTrue};
+ghost use Rattle.std.specs.Prelude.{◌≡◌, ◌<◌, ◌^◌, [], ◌∷◌, ◌++◌, length, max, is_ok, if◌then◌else◌, IfOk, IsTrue};
 ghost use Rattle.std.specs.Arc.{arc_value};
 ghost use Rattle.site_core.specs.Events.{opens, is_later, are_entries};
 ghost use Rattle.site_core.specs.EntryViews.{event_of, events_of};
@@ -79,13 +79,7 @@ impl<S> Entries<S> {
     pub fn greatest_author(&self) -> Option<u32>
         ensures { past_author result ≡ base_of self.now }
     {
-        let mut greatest = None;
-        let mut left = self.items.as_slice();
-        while let [entry, after @ ..] = left {
-            greatest = greater(greatest, entry.author());
-            left = after;
-        }
-        greatest
+        greatest_of(self.items.as_slice())
     }
 
     /// Appends an entry that opens no site. Where there is no memory, the list stays as it was.
@@ -98,6 +92,18 @@ impl<S> Entries<S> {
         self.items.push(entry)?;
         Ok(())
     }
+}
+
+fn greatest_of<S>(entries: &[Entry<S>]) -> Option<u32>
+    ensures { past_author result ≡ base_of (events_of entries.now) }
+{
+    let mut greatest = None;
+    let mut left = entries;
+    while let [entry, after @ ..] = left {
+        greatest = greater(greatest, entry.author());
+        left = after;
+    }
+    greatest
 }
 
 fn greater(first: Option<u32>, second: Option<u32>) -> Option<u32>

@@ -113,6 +113,8 @@ module _ {S C F : Type 0} (meaning : Meaning S C F) (listed : Listed S) where
       inl (turn_unknown meaning listed limit h w (arc_value s.site) k (omega (arith, is, seen)) (site_shown h s of is)
       none (k_is ∙ is))
   told limit h s w (a.Deactivated entry) of is why = absurd why
+  told limit h s w (a.Deployed entry) of is why = absurd why
+  told limit h s w (a.Reported entry) of is why = absurd why
   told limit h s w a.Memory of is why = inr (refl, refl)
 
   -- what came of the publication

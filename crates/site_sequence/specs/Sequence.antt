@@ -33,9 +33,9 @@ module _ {S C F : Type 0} where
 
   -- where a plain entry is asked for
   abbrev pub turn_added : ℕ → List (Event S) → Plain S → Turn S C F
-  turn_added limit h p =
+  turn_added limit h what =
       if nat_lt (length h) limit
-      then turn (plain_reply (kind_of p) (length h)) (h ++ next_entry h AUTHOR p ∷ [])
+      then turn (plain_reply (kind_of what) (length h)) (h ++ next_entry h AUTHOR what ∷ [])
       else turn (a.HistoryFull (length h)) h
 
 module _ {S C F : Type 0} (meaning : Meaning S C F) (listed : Listed S) (limit : ℕ) where
@@ -50,7 +50,7 @@ module _ {S C F : Type 0} (meaning : Meaning S C F) (listed : Listed S) (limit :
       if nat_lt (length h) w.seen
       then Some (turn (a.SeenAhead (length h)) h)
       else option_map (λ site. turn_known h site w.node (facts_for listed site w)) (site_at h (length h))
-  turn_for h (plain p) = Some (turn_added limit h p)
+  turn_for h (plain what) = Some (turn_added limit h what)
 
   -- The request is answered so, and this is the history after it. Want of memory may be the answer to any request, and
   -- leaves the history as it was.

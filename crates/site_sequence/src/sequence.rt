@@ -114,5 +114,8 @@ fn deactivate<L: Language>(alloc: Global, core: &mut CoreState<L>, node: &Text) 
     let Ok(node) = node.copy(alloc) else {
         return ReplyOf::Memory;
     };
-    added(PlainKind::Deactivation, core.deactivate(alloc, AUTHOR, node))
+    added(
+        PlainKind::Deactivation,
+        core.deactivate(alloc, AUTHOR, node),
+    )
 }

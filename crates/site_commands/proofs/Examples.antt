@@ -116,11 +116,11 @@ two_nodes : demo_site 2 ≡ record {
   nodes = (
     codes "n0",
     d.hash (d.entry (d.text (codes "group")) (d.int (pos 0))
-    (d.entry (d.text (codes "ip")) (d.text (codes "10.0.0.0")) d.no_entries)),
+        (d.entry (d.text (codes "ip")) (d.text (codes "10.0.0.0")) d.no_entries)),
   ) ∷ (
     codes "n1",
     d.hash (d.entry (d.text (codes "group")) (d.int (pos 1))
-    (d.entry (d.text (codes "ip")) (d.text (codes "10.0.0.1")) d.no_entries)),
+        (d.entry (d.text (codes "ip")) (d.text (codes "10.0.0.1")) d.no_entries)),
   ) ∷ [];
 }
 unfolding demo_nodes digits

@@ -52,7 +52,8 @@ fn summary_lines(
     ensures { IfOk result (λ text. text ≡ spec.summary_lines nodes served resources entries) }
 {
     let lines = format!(in alloc;
-        "nodes {nodes}\nserved {served}\nresources {resources}\nentries {entries}\n")?;
+        "nodes {nodes}\nserved {served}\nresources {resources}\nentries {entries}\n"
+    )?;
     Ok(Text::new(lines))
 }
 

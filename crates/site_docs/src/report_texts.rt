@@ -98,12 +98,7 @@ fn is_noop(status: Status) -> bool
 }
 
 #[tactic(auto, unfolding(crate::specs::ReportText::report_object))]
-fn report_object(
-    alloc: Global,
-    counts: Counts,
-    node: &str,
-    lines: Json,
-) -> Result<Json, AllocError>
+fn report_object(alloc: Global, counts: Counts, node: &str, lines: Json) -> Result<Json, AllocError>
     ensures { IfOk result (λ j. json_view j
         ≡ object_of_report counts.changed counts.failed node.now counts.noop (json_view lines)) }
 {
@@ -136,7 +131,14 @@ fn line_form(alloc: Global, line: &ReportLine) -> Result<Json, Memory>
     let changes = Json::Array(text_forms(alloc, line.changes.as_slice())?);
     let fault = fault_form(alloc, &line.fault)?;
     let reference = reference_text(alloc, &line.item)?;
-    Ok(line_object(alloc, changes, fault, reference.as_str(), line.refreshed, line.status)?)
+    Ok(line_object(
+        alloc,
+        changes,
+        fault,
+        reference.as_str(),
+        line.refreshed,
+        line.status,
+    )?)
 }
 
 fn fault_form(alloc: Global, fault: &Option<Text>) -> Result<Json, AllocError>

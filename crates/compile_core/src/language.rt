@@ -8,9 +8,12 @@ use pp_values::text::Text;
 use pp_values::value::Value;
 use res_core::catalog::Catalog;
 use res_core::export_set::ExportSet;
+use site_bundle::bundle_stop::BundleStop;
+use site_bundle::reading::read_site_text;
 use site_bundle::site::Site;
 use site_core::compile_stop::CompileStop;
 use site_core::language::Language;
+use site_core::site_stop::SiteStop;
 use site_docs::catalog_texts::catalog_text;
 use site_docs::fault_texts::fault_text;
 use site_docs::site_texts::site_text;
@@ -27,7 +30,7 @@ impl Language for PuppetLanguage {
 
     type Fault = Fault;
 
-    ghost use Rattle.compile_core.specs.Puppet.{puppet, listed};
+    ghost use Rattle.compile_core.specs.Puppet.{puppet, listed, said_site};
     ghost use Rattle.site_docs.specs.SiteText as sites;
     ghost use Rattle.site_docs.specs.CatalogText as catalogs;
     ghost use Rattle.site_docs.specs.FaultText as faults;
@@ -35,6 +38,8 @@ impl Language for PuppetLanguage {
     ghost meaning = { puppet };
 
     ghost listed = { listed };
+
+    ghost said_site = { said_site };
 
     ghost site_form = { sites.site_text };
 
@@ -59,6 +64,17 @@ impl Language for PuppetLanguage {
 
     fn facts_of<'a>(&self, site: &'a Site, node: &Text) -> Option<&'a Value> {
         site.facts_of(node)
+    }
+
+    /// A JSON object with `files` and, where there are any, `nodes`, as in a bundle.
+    fn site_of(&self, alloc: Global, body: &[u8]) -> Result<Site, SiteStop> {
+        match read_site_text(alloc, body) {
+            Ok(site) => Ok(site),
+            Err(BundleStop::NotJson) => Err(SiteStop::Bad),
+            Err(BundleStop::BadShape(_)) => Err(SiteStop::Bad),
+            Err(BundleStop::TooLarge(_)) => Err(SiteStop::Bad),
+            Err(BundleStop::Memory) => Err(SiteStop::Memory),
+        }
     }
 
     fn site_text(&self, alloc: Global, site: &Site) -> Result<Text, Memory> {

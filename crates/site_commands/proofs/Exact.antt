@@ -13,17 +13,20 @@ use Rattle.site_bundle.specs.declared.limits.TheConstants.{MOST_BUNDLE_BYTES, MO
 use Rattle.site_bundle.specs.Refusals.{Refusal, too_large, result_and_then}
 use Rattle.site_bundle.specs.declared.bundle.Bundle.{Bundle}
 use Rattle.site_io.specs.Stream.{Stream}
+use Rattle.site_io.specs.Transfer.{HasReadAll}
 use Rattle.site_commands.specs.declared.output.Output.{Output}
 use Rattle.site_commands.specs.declared.output.Output.TheVariants as a
 use Rattle.site_commands.specs.declared.ending.Ending.{Ending}
 use Rattle.site_commands.specs.declared.ending.Ending.TheVariants as e
-use Rattle.site_commands.specs.Outputs.{IsOutput, TellsOf, HasRun, HasShared, HasLookedUp, manifest_output, is_refusal, run_text}
-use Rattle.site_commands.specs.Endings.{Ends, IsComplaint, IsCommand, IsSettled, IsStatusFor, IsBatchStatus, output_status, outcome_status, bundle_status, lookup_status}
+use Rattle.site_commands.specs.Outputs.{IsOutput, TellsOf, HasRun, HasShared, HasLookedUp, HasDemonstrated, manifest_output, is_refusal, run_text}
+use Rattle.site_commands.specs.Endings.{Ends, HasInput, IsComplaint, IsReader, IsSettled, IsStatusFor, IsBatchStatus, output_status, outcome_status, bundle_status, lookup_status, demo_status}
+use Rattle.site_commands.specs.Demo.{demo_site, demo_requests, summary_text}
 use Rattle.site_commands.specs.Limits.{limit_of}
 use Rattle.compile_core.specs.Puppet.{puppet, listed}
+use Rattle.site_sequence.specs.Sequence.{outcome_of}
 use Rattle.site_sequence.specs.SequenceLaws.{is_memory}
 use Rattle.site_commands.specs.Status.{status_of}
-use Rattle.site_commands.specs.Words.{CommandLine, manifest, sequence, batch, lookup, usage, bad_word, asked_of}
+use Rattle.site_commands.specs.Words.{CommandLine, manifest, sequence, batch, lookup, demo, usage, bad_word, asked_of}
 use Rattle.site_commands.specs.Work.{WritesOr, WritesLogged, WritesShort, Delivers, Serves}
 use Rattle.site_commands.specs.World.{World}
 use Rattle.site_commands.proofs.Told.{read_is_left, left_is_longer, leb-false}
@@ -35,6 +38,7 @@ status-complaint (manifest node) input h = absurd h
 status-complaint sequence input h = absurd h
 status-complaint (batch workers) input h = absurd h
 status-complaint (lookup node key merge) input h = absurd h
+status-complaint (demo nodes) input h = absurd h
 status-complaint usage input h = refl
 status-complaint (bad_word word) input h = refl
 
@@ -45,7 +49,7 @@ bundle_of-long input long =
     (leb-false (length input) MOST_BUNDLE_BYTES long)
 
 -- where the input is too long it is 11
-status-long : (asked : CommandLine) (input : List ℕ) → IsCommand asked → limit_of asked < length input →
+status-long : (asked : CommandLine) (input : List ℕ) → IsReader asked → limit_of asked < length input →
     IsStatusFor 11 asked input
 status-long (manifest node) input asked long =
     sym (ap (λ b. if b then output_status (manifest_output node input) else 11)
@@ -53,6 +57,7 @@ status-long (manifest node) input asked long =
 status-long sequence input asked long = sym (ap bundle_status (bundle_of-long input long))
 status-long (batch workers) input asked long = subst (IsBatchStatus 11) (sym (bundle_of-long input long)) refl
 status-long (lookup node key merge) input asked long = sym (ap (lookup_status node key merge) (bundle_of-long input long))
+status-long (demo nodes) input asked long = absurd asked
 status-long usage input asked long = absurd asked
 status-long (bad_word word) input asked long = absurd asked
 
@@ -105,6 +110,23 @@ status_of-lookup : (node key : List ℕ) (merge : Option Merge) (output : Output
 status_of-lookup node key merge output (Ok bundle) is = ap output_status is
 status_of-lookup node key merge output (Err refusal) is = ap output_status is
 
+-- what came of a demo too
+status_of-demo : (nodes : ℕ) (output : Output) → HasDemonstrated nodes output →
+    (output_status output ≡ demo_status nodes (outcome_of puppet listed MOST_ENTRIES (opens (demo_site nodes) ∷ [])
+    (all_asks (demo_requests nodes)))) ⊎ (output_status output ≡ 16)
+status_of-demo nodes output run =
+    elim (list_any is_memory run.replies) as (λ b. list_any is_memory run.replies ≡ b →
+    (output_status output ≡ demo_status nodes (outcome_of puppet listed MOST_ENTRIES (opens (demo_site nodes) ∷ [])
+    (all_asks (demo_requests nodes)))) ⊎ (output_status output ≡ 16)) [
+      | true ↦ λ is. inr (ap output_status run.is
+          ∙ ap (λ b. output_status (if b then a.Short (summary_text nodes run.replies run.history) else
+          if list_any is_refusal run.replies then a.Refused (summary_text nodes run.replies run.history)
+          else a.Done (summary_text nodes run.replies run.history))) is)
+      | false ↦ λ is. inl (ap output_status run.is
+          ∙ sym (ap (demo_status nodes) (meant puppet listed MOST_ENTRIES (opens (demo_site nodes) ∷ [])
+          run.history (all_asks (demo_requests nodes)) run.replies run.in_turn is)))
+    ] refl
+
 status_of-output : (asked : CommandLine) (output : Output) (input : List ℕ) → IsOutput asked output input →
     length input ≤ limit_of asked →
     IsStatusFor (output_status output) asked input ⊎ (output_status output ≡ 16)
@@ -116,6 +138,7 @@ status_of-output sequence output input is fits = status_of-bundle output (bundle
 status_of-output (batch workers) output input is fits = status_of-batch workers output (bundle_of input) is
 status_of-output (lookup node key merge) output input is fits =
     inl (status_of-lookup node key merge output (bundle_of input) is)
+status_of-output (demo nodes) output input is fits = status_of-demo nodes output is
 status_of-output usage output input is fits = absurd is
 status_of-output (bad_word word) output input is fits = absurd is
 
@@ -166,32 +189,47 @@ settled_by status output asked input (inl is) (inl means) =
 settled_by status output asked input (inl is) (inr short) = inr (inr (inr (is ∙ short)))
 settled_by status output asked input (inr fault) means = inr (inr (inl fault))
 
-settled_serves : (ending : Ending) (asked : CommandLine) (input bytes : List ℕ) (out out' err err' : Stream) →
-    Serves ending asked bytes out out' err err' →
-    length bytes ≤ limit_of asked → bytes ≡ input → IsSettled (status_of ending) asked input
-settled_serves ending asked input bytes out out' err err' serves fits same =
-    subst (IsSettled (status_of ending) asked) same
+settled_read : (ending : Ending) (asked : CommandLine) (input bytes : List ℕ) (s s' out out' err err' : Stream) →
+    Serves ending asked bytes out out' err err' → HasReadAll bytes (limit_of asked) s s' → s.left ≡ Some input →
+    IsSettled (status_of ending) asked input
+settled_read ending asked input bytes s s' out out' err err' serves read told =
+    subst (IsSettled (status_of ending) asked) (read_is_left _ _ input bytes told read.ended read.read.left)
     (settled_by (status_of ending) serves.output asked bytes
     (status_of-delivered ending serves.output out out' err err' serves.written)
-    (status_of-output asked serves.output bytes serves.is fits))
+    (status_of-output asked serves.output bytes serves.is read.fits))
+
+settled_serves : (ending : Ending) (asked : CommandLine) (input bytes : List ℕ) (s s' out out' err err' : Stream) →
+    Serves ending asked bytes out out' err err' → HasInput asked bytes s s' → s.left ≡ Some input →
+    IsSettled (status_of ending) asked input
+settled_serves ending (manifest node) input bytes s s' out out' err err' serves had told =
+    settled_read ending (manifest node) input bytes s s' out out' err err' serves had told
+settled_serves ending sequence input bytes s s' out out' err err' serves had told =
+    settled_read ending sequence input bytes s s' out out' err err' serves had told
+settled_serves ending (batch workers) input bytes s s' out out' err err' serves had told =
+    settled_read ending (batch workers) input bytes s s' out out' err err' serves had told
+settled_serves ending (lookup node key merge) input bytes s s' out out' err err' serves had told =
+    settled_read ending (lookup node key merge) input bytes s s' out out' err err' serves had told
+settled_serves ending (demo nodes) input bytes s s' out out' err err' serves had told =
+    settled_by (status_of ending) serves.output (demo nodes) input
+    (status_of-delivered ending serves.output out out' err err' serves.written)
+    (status_of-demo nodes serves.output serves.is)
+settled_serves ending usage input bytes s s' out out' err err' serves had told = absurd serves.is
+settled_serves ending (bad_word word) input bytes s s' out out' err err' serves had told = absurd serves.is
 
 pub ends_settled : (ending : Ending) (words : List (List ℕ)) (before after : World) (input : List ℕ)
     → Ends ending words before after → before.source.left ≡ Some input →
     IsSettled (status_of ending) (asked_of words) input
 ends_settled e.Done words before after input run told =
-    settled_serves e.Done (asked_of words) input run.input before.out after.out before.err after.err run.work
-    run.source.fits
-    (read_is_left _ _ input run.input told run.source.ended run.source.read.left)
+    settled_serves e.Done (asked_of words) input run.input before.source after.source before.out after.out before.err
+    after.err run.work run.source told
 ends_settled e.Refused words before after input run told =
-    settled_serves e.Refused (asked_of words) input run.input before.out after.out before.err after.err run.work
-    run.source.fits
-    (read_is_left _ _ input run.input told run.source.ended run.source.read.left)
+    settled_serves e.Refused (asked_of words) input run.input before.source after.source before.out after.out before.err
+    after.err run.work run.source told
 ends_settled e.BadWords words before after input run told =
     inl (status-complaint (asked_of words) input run.unasked)
 ends_settled e.BadInput words before after input (inl run) told =
-    settled_serves e.BadInput (asked_of words) input run.input before.out after.out before.err after.err run.work
-    run.source.fits
-    (read_is_left _ _ input run.input told run.source.ended run.source.read.left)
+    settled_serves e.BadInput (asked_of words) input run.input before.source after.source before.out after.out before.err
+    after.err run.work run.source told
 ends_settled e.BadInput words before after input (inr run) told =
     let longer : length run.source.bytes ≤ length input =
     left_is_longer _ _ input run.source.bytes told run.source.read.left in

@@ -1,7 +1,7 @@
 -- From the parts of a run to how it ended.
 use Rattle.std.proofs.Common.{◌≡◌, ℕ, List, subst, sym, refl, inl, inr}
 use Rattle.site_io.specs.Stream.{Stream}
-use Rattle.site_io.specs.Transfer.{HasReadAll, StopsBy}
+use Rattle.site_io.specs.Transfer.{StopsBy}
 use Rattle.site_io.specs.declared.transfer.ReadStop.{ReadStop}
 use Rattle.site_io.specs.declared.transfer.ReadStop.TheVariants as r
 use Rattle.site_commands.specs.declared.output.Output.{Output}
@@ -11,7 +11,7 @@ use Rattle.site_commands.specs.declared.ending.Ending.TheVariants as e
 use Rattle.site_commands.specs.declared.words.Command.{Command}
 use Rattle.site_commands.specs.declared.words.Command.TheVariants as c
 use Rattle.site_commands.specs.Outputs.{IsOutput}
-use Rattle.site_commands.specs.Endings.{Ends, IsCommand}
+use Rattle.site_commands.specs.Endings.{Ends, HasInput, IsCommand, IsReader}
 use Rattle.site_commands.specs.Limits.{limit_of}
 use Rattle.site_commands.specs.Words.{CommandLine, asked_of, asked_by}
 use Rattle.site_commands.specs.Work.{Works, Delivers, GivesUp}
@@ -51,9 +51,10 @@ is_command (c.Manifest node) = tt
 is_command c.Sequence = tt
 is_command (c.Batch workers) = tt
 is_command (c.Lookup node key merge) = tt
+is_command (c.Demo nodes) = tt
 
 ends_read : (ending : Ending) (words : List (List ℕ)) (input : List ℕ) (s s' out out' err err' : Stream)
-    → IsCommand (asked_of words) → HasReadAll input (limit_of (asked_of words)) s s' →
+    → IsCommand (asked_of words) → HasInput (asked_of words) input s s' →
     Works ending (asked_of words) input out out' err err'
     → Ends ending words (world s out err) (world s' out' err')
 ends_read e.Done words input s s' out out' err err' asked read work =
@@ -69,19 +70,18 @@ ends_read e.Memory words input s s' out out' err err' asked read work =
 ends_read e.BadWords words input s s' out out' err err' asked read work = absurd work
 ends_read e.ReadFault words input s s' out out' err err' asked read work = absurd work
 
--- where the input was read, the work on it says how the run ended
-pub ends_worked : (ending : Ending) (words : List (List ℕ)) (command : Command) (input : List ℕ) (limit : ℕ)
+-- where the input was had, the work on it says how the run ended
+pub ends_worked : (ending : Ending) (words : List (List ℕ)) (command : Command) (input : List ℕ)
     (s s' out out' err err' : Stream)
-    → asked_of words ≡ asked_by command → limit ≡ limit_of (asked_by command) → HasReadAll input limit s s'
+    → asked_of words ≡ asked_by command → HasInput (asked_by command) input s s'
     → Works ending (asked_by command) input out out' err err' → Ends ending words (world s out err) (world s' out' err')
-ends_worked ending words command input limit s s' out out' err err' is limit_is read work =
+ends_worked ending words command input s s' out out' err err' is read work =
     ends_read ending words input s s' out out' err err' (subst IsCommand (sym is) (is_command command))
-    (subst (λ asked. HasReadAll input (limit_of asked) s s') (sym is)
-    (subst (λ n. HasReadAll input n s s') limit_is read))
+    (subst (λ asked. HasInput asked input s s') (sym is) read)
     (subst (λ asked. Works ending asked input out out' err err') (sym is) work)
 
 ends_unread : (stop : ReadStop) (ending : Ending) (words : List (List ℕ)) (s s' out err err' : Stream)
-    → IsCommand (asked_of words) → StopsBy stop (limit_of (asked_of words)) s s' →
+    → IsReader (asked_of words) → StopsBy stop (limit_of (asked_of words)) s s' →
     GivesUp (asked_of words) stop ending err err'
     → Ends ending words (world s out err) (world s' out err')
 ends_unread r.Fault ending words s s' out err err' asked read did =
@@ -95,12 +95,12 @@ ends_unread r.Memory ending words s s' out err err' asked read did =
     (inr (record { asked = asked; source = read; said = (did.1, refl) }))
 
 -- where it was not read, the stop says so
-pub ends_stopped : (stop : ReadStop) (ending : Ending) (words : List (List ℕ)) (command : Command) (limit : ℕ)
+pub ends_stopped : (stop : ReadStop) (ending : Ending) (words : List (List ℕ)) (command : Command)
     (s s' out err err' : Stream)
-    → asked_of words ≡ asked_by command → limit ≡ limit_of (asked_by command) → StopsBy stop limit s s' →
+    → asked_of words ≡ asked_by command → IsReader (asked_by command) → StopsBy stop (limit_of (asked_by command)) s s' →
     GivesUp (asked_by command) stop ending err err'
     → Ends ending words (world s out err) (world s' out err')
-ends_stopped stop ending words command limit s s' out err err' is limit_is read did =
-    ends_unread stop ending words s s' out err err' (subst IsCommand (sym is) (is_command command))
-    (subst (λ asked. StopsBy stop (limit_of asked) s s') (sym is) (subst (λ n. StopsBy stop n s s') limit_is read))
+ends_stopped stop ending words command s s' out err err' is reads read did =
+    ends_unread stop ending words s s' out err err' (subst IsReader (sym is) reads)
+    (subst (λ asked. StopsBy stop (limit_of asked) s s') (sym is) read)
     (subst (λ asked. GivesUp asked stop ending err err') (sym is) did)

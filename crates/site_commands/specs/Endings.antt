@@ -18,12 +18,13 @@ use Rattle.site_commands.specs.declared.ending.Ending.TheVariants as e
 use Rattle.site_commands.specs.Outputs.{output_of, manifest_output, looked_up_output, run_text}
 use Rattle.site_commands.specs.declared.output.Output.{Output}
 use Rattle.site_commands.specs.declared.output.Output.TheVariants as a
+use Rattle.site_commands.specs.Demo.{demo_site, demo_requests, summary_text}
 use Rattle.site_commands.specs.Limits.{limit_of}
 use Rattle.compile_core.specs.LookUp.{look_up}
 use Rattle.compile_core.specs.Puppet.{puppet, listed}
 use Rattle.hiera_merge.specs.declared.merge.Merge.{Merge}
 use Rattle.site_sequence.specs.Sequence.{Outcome, outcome_of}
-use Rattle.site_commands.specs.Words.{CommandLine, manifest, sequence, batch, lookup, usage, bad_word, asked_of}
+use Rattle.site_commands.specs.Words.{CommandLine, manifest, sequence, batch, lookup, demo, usage, bad_word, asked_of}
 use Rattle.site_commands.specs.Work.{Works, SaysOnly, too_long}
 use Rattle.site_commands.specs.World.{World, line}
 
@@ -33,6 +34,7 @@ complaint (manifest node) = []
 complaint sequence = []
 complaint (batch workers) = []
 complaint (lookup node key merge) = []
+complaint (demo nodes) = []
 complaint usage = line (codes "usage: manifest NODE")
 complaint (bad_word word) = codes "bad word " ++ line word
 
@@ -41,6 +43,7 @@ IsComplaint (manifest node) = ⊥
 IsComplaint sequence = ⊥
 IsComplaint (batch workers) = ⊥
 IsComplaint (lookup node key merge) = ⊥
+IsComplaint (demo nodes) = ⊥
 IsComplaint usage = Unit {0}
 IsComplaint (bad_word word) = Unit {0}
 
@@ -49,6 +52,7 @@ IsCommand (manifest node) = Unit {0}
 IsCommand sequence = Unit {0}
 IsCommand (batch workers) = Unit {0}
 IsCommand (lookup node key merge) = Unit {0}
+IsCommand (demo nodes) = Unit {0}
 IsCommand usage = ⊥
 IsCommand (bad_word word) = ⊥
 
@@ -58,17 +62,27 @@ pub record Complains (words : List (List ℕ)) (before after : World) : Type 0 w
   pub source : after.source ≡ before.source
   pub said : SaysOnly (complaint (asked_of words)) before.out after.out before.err after.err
 
--- the words name a command, the input was read to its end, and the work on it ended so
+-- a command that reads its input
+abbrev pub IsReader : CommandLine → Type 0
+IsReader (demo nodes) = ⊥
+IsReader asked = IsCommand asked
+
+-- a command's input was read to its end, within its limit; a demo has none, and the source was left alone
+abbrev pub HasInput : CommandLine → List ℕ → Stream → Stream → Type 0
+HasInput (demo nodes) input before after = (input ≡ []) × (after ≡ before)
+HasInput asked input before after = HasReadAll input (limit_of asked) before after
+
+-- the words name a command, its input was had, and the work on it ended so
 pub record HasWorked (ending : Ending) (words : List (List ℕ)) (before after : World) : Type 0 where
   pub asked : IsCommand (asked_of words)
   pub input : List ℕ
-  pub source : HasReadAll input (limit_of (asked_of words)) before.source after.source
+  pub source : HasInput (asked_of words) input before.source after.source
   pub work : Works ending (asked_of words) input before.out after.out before.err after.err
 
--- the words name a command, reading stopped before the end of input, and only this line was written
+-- the words name a command that reads, reading stopped before the end of input, and only this line was written
 pub record HasStopped (text : List ℕ) (Read : Stream → Stream → Type 0) (words : List (List ℕ))
     (before after : World) : Type 0 where
-  pub asked : IsCommand (asked_of words)
+  pub asked : IsReader (asked_of words)
   pub source : Read before.source after.source
   pub said : SaysOnly (line text) before.out after.out before.err after.err
 
@@ -118,17 +132,25 @@ abbrev pub lookup_status : List ℕ → List ℕ → Option Merge → Result Bun
 lookup_status node key merge (Ok bundle) = output_status (looked_up_output (look_up bundle.site node key merge))
 lookup_status node key merge (Err refusal) = 11
 
+-- what comes of a demo has the status that it means
+abbrev pub demo_status : ℕ → Option (Outcome SiteView Catalog Fault) → ℕ
+demo_status nodes (Some o) = output_status (output_of o.replies (summary_text nodes o.replies o.history))
+demo_status nodes None = 16
+
 -- The status of a command on this input, where nothing fails and memory is had. For `manifest`: 0 where its meaning is a
 -- catalog, 1 where it is a fault, 11 where the input is too long or no text. For `sequence`: 0 where no request is
 -- refused, 1 where one is, 11 where the input is no bundle. For `batch`: 0 or 1 where the input is a bundle, 11 where it
 -- is none. For `lookup`: 0 where the bundle's data have a value, 1 where they give a fault, 11 where the input is no
--- bundle. 10 where the words are faulty.
+-- bundle. For `demo`: 0 where no request of it is refused, whatever the input. 10 where the words are faulty.
 abbrev pub IsStatusFor : ℕ → CommandLine → List ℕ → Type 0
 IsStatusFor status (manifest node) input =
     status ≡ (if nat_le (length input) MOST_FILE_BYTES then output_status (manifest_output node input) else 11)
 IsStatusFor status sequence input = status ≡ bundle_status (bundle_of input)
 IsStatusFor status (batch workers) input = IsBatchStatus status (bundle_of input)
 IsStatusFor status (lookup node key merge) input = status ≡ lookup_status node key merge (bundle_of input)
+IsStatusFor status (demo nodes) input =
+    status ≡ demo_status nodes (outcome_of puppet listed MOST_ENTRIES (opens (demo_site nodes) ∷ [])
+    (all_asks (demo_requests nodes)))
 IsStatusFor status usage input = status ≡ 10
 IsStatusFor status (bad_word word) input = status ≡ 10
 

@@ -1,6 +1,7 @@
--- What the clauses of `site_main` rest on, and a reader has to believe: Outputs, Program, Endings, Limits, Numbers,
--- Status, Words, Work, World
+-- What the clauses of `site_main` rest on, and a reader has to believe: Demo, Outputs, Program, Endings, Limits,
+-- Numbers, Status, Words, Work, World
 -- What functions promise one another, what types keep, and what proofs read: Stops
+pub mod Demo
 pub mod Outputs
 pub mod Program
 pub mod Endings

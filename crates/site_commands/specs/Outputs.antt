@@ -32,7 +32,8 @@ use Rattle.compile_core.specs.Puppet.{puppet, listed, manifest_meaning}
 use Rattle.serde_json.specs.Written.{compact_text}
 use Rattle.site_sequence.specs.Sequence.{AnsweredInTurn}
 use Rattle.site_sequence.specs.SequenceLaws.{is_memory}
-use Rattle.site_commands.specs.Words.{CommandLine, manifest, sequence, batch, lookup, usage, bad_word}
+use Rattle.site_commands.specs.Words.{CommandLine, manifest, sequence, batch, lookup, demo, usage, bad_word}
+use Rattle.site_commands.specs.Demo.{demo_site, demo_requests, summary_text}
 use Rattle.site_commands.specs.World.{line}
 
 -- the line that tells why an input is not what a command reads
@@ -59,6 +60,8 @@ is_refusal (r.HistoryFull length) = true
 is_refusal (r.SeenAhead length) = true
 is_refusal (r.UnknownNode k) = true
 is_refusal (r.Deactivated entry) = false
+is_refusal (r.Deployed entry) = false
+is_refusal (r.Reported entry) = false
 is_refusal r.Memory = false
 
 -- the output, and what its replies tell of: want of memory counts before a refusal
@@ -104,6 +107,17 @@ looked_up_output (Err fault) = a.Fault (line (fault_text fault))
 abbrev pub HasLookedUp : List ℕ → List ℕ → Option Merge → Output → Bundle → Type 0
 HasLookedUp node key merge output bundle = output ≡ looked_up_output (look_up bundle.site node key merge)
 
+-- `demo`: the requests of the demo with so many nodes were answered so, one after another, over a history that begins
+-- with its site. The output is what they come to in numbers.
+pub record HasDemonstrated (nodes : ℕ) (output : Output) : Type 0 where
+  pub replies : List (ReplyOf Catalog Fault)
+  pub history : List (Event SiteView)
+  pub in_turn :
+      AnsweredInTurn puppet listed MOST_ENTRIES (opens (demo_site nodes) ∷ []) (all_asks (demo_requests nodes)) replies
+      history
+  pub whole : Whole puppet listed MOST_ENTRIES 1 (demo_site nodes) (all_asks (demo_requests nodes)) replies history
+  pub is : output ≡ output_of replies (summary_text nodes replies history)
+
 -- the output to an input: it is a bundle, of which this came; or it is none, and the output tells why
 abbrev pub TellsOf : (Output → Bundle → Type 0) → Output → Result Bundle Refusal → Type 0
 TellsOf Came output (Ok bundle) = Came output bundle
@@ -115,5 +129,6 @@ IsOutput (manifest node) output input = output ≡ manifest_output node input
 IsOutput sequence output input = TellsOf HasRun output (bundle_of input)
 IsOutput (batch workers) output input = TellsOf (HasShared workers) output (bundle_of input)
 IsOutput (lookup node key merge) output input = TellsOf (HasLookedUp node key merge) output (bundle_of input)
+IsOutput (demo nodes) output input = HasDemonstrated nodes output
 IsOutput usage output input = ⊥
 IsOutput (bad_word word) output input = ⊥

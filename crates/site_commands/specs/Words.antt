@@ -9,6 +9,7 @@ use Rattle.hiera_merge.specs.declared.merge.Merge.{Merge}
 use Rattle.site_batch.specs.declared.batch.TheConstants.{MOST_WORKERS}
 use Rattle.site_bundle.specs.NodeNames.{is_node_name}
 use Rattle.site_commands.specs.Numbers.{number_within}
+use Rattle.site_commands.specs.declared.demo_site.TheConstants.{MOST_DEMO_NODES}
 use Rattle.site_commands.specs.declared.words.Command.{Command}
 use Rattle.site_commands.specs.declared.words.Command.TheVariants as c
 use Rattle.site_commands.specs.declared.words.Complaint.{Complaint}
@@ -23,6 +24,8 @@ pub data CommandLine : Type 0 where
   batch : ℕ → CommandLine
   -- the value that the data of the bundle that comes in have for a node and a key, by this merge where one is given
   lookup : List ℕ → List ℕ → Option Merge → CommandLine
+  -- what a run of the demo site with this many nodes comes to; there is no input
+  demo : ℕ → CommandLine
   -- the words are those of no command
   usage : CommandLine
   -- this word breaks the rule of its place
@@ -38,6 +41,14 @@ workers_or word (Some workers) = batch workers
 
 abbrev pub batch_by : List ℕ → CommandLine
 batch_by word = workers_or word (number_within 1 MOST_WORKERS word)
+
+-- as many nodes as a number says, where there may be so many
+abbrev pub nodes_or : List ℕ → Option ℕ → CommandLine
+nodes_or word None = bad_word word
+nodes_or word (Some nodes) = demo nodes
+
+abbrev pub demo_by : List ℕ → CommandLine
+demo_by word = nodes_or word (number_within 1 MOST_DEMO_NODES word)
 
 -- by the merge of this name, where there is one
 abbrev pub merge_or : List ℕ → List ℕ → List ℕ → Option Merge → CommandLine
@@ -65,7 +76,9 @@ is_word = pointwise nat_eq
 abbrev pub asked_of : List (List ℕ) → CommandLine
 asked_of (command ∷ []) =
     if is_word command (codes "sequence") then sequence else if is_word command (codes "batch") then batch 1 else usage
-asked_of (command ∷ node ∷ []) = if is_word command (codes "manifest") then manifest_for node else usage
+asked_of (command ∷ second ∷ []) =
+    if is_word command (codes "manifest") then manifest_for second
+    else if is_word command (codes "demo") then demo_by second else usage
 asked_of (command ∷ second ∷ third ∷ []) =
     if is_word command (codes "batch") && is_word second (codes "--workers") then batch_by third
     else if is_word command (codes "lookup") then lookup_by second third None else usage
@@ -73,12 +86,13 @@ asked_of (command ∷ node ∷ key ∷ option ∷ merge ∷ []) =
     if is_word command (codes "lookup") && is_word option (codes "--merge") then lookup_by node key (Some merge) else usage
 asked_of words = usage
 
--- a batch has workers, and not too many
+-- a batch has workers, and a demo nodes, and neither too many
 abbrev pub IsWithin : CommandLine → Type 0
 IsWithin (manifest node) = Unit {0}
 IsWithin sequence = Unit {0}
 IsWithin (batch workers) = (1 ≤ workers) × (workers ≤ MOST_WORKERS)
 IsWithin (lookup node key merge) = Unit {0}
+IsWithin (demo nodes) = (1 ≤ nodes) × (nodes ≤ MOST_DEMO_NODES)
 IsWithin usage = Unit {0}
 IsWithin (bad_word word) = Unit {0}
 
@@ -88,6 +102,7 @@ IsPlain (manifest node) = Unit {0}
 IsPlain sequence = Unit {0}
 IsPlain (batch workers) = ⊥
 IsPlain (lookup node key merge) = Unit {0}
+IsPlain (demo nodes) = Unit {0}
 IsPlain usage = ⊥
 IsPlain (bad_word word) = ⊥
 
@@ -97,6 +112,7 @@ IsShared (manifest node) = ⊥
 IsShared sequence = ⊥
 IsShared (batch workers) = Unit {0}
 IsShared (lookup node key merge) = ⊥
+IsShared (demo nodes) = ⊥
 IsShared usage = ⊥
 IsShared (bad_word word) = ⊥
 
@@ -106,6 +122,7 @@ asked_by (c.Manifest node) = manifest node.now
 asked_by c.Sequence = sequence
 asked_by (c.Batch workers) = batch workers
 asked_by (c.Lookup node key merge) = lookup node.now key.now merge
+asked_by (c.Demo nodes) = demo nodes
 
 -- what a reading of the words says of them
 abbrev pub reading : Result Command Complaint → CommandLine

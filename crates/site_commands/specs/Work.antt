@@ -5,7 +5,7 @@ use Rattle.site_io.specs.Stream.{Stream, HasWritten}
 use Rattle.site_io.specs.declared.transfer.ReadStop.{ReadStop}
 use Rattle.site_io.specs.declared.transfer.ReadStop.TheVariants as r
 use Rattle.site_commands.specs.Outputs.{IsOutput}
-use Rattle.site_commands.specs.Words.{CommandLine, manifest, sequence, batch, lookup, usage, bad_word}
+use Rattle.site_commands.specs.Words.{CommandLine, manifest, sequence, batch, lookup, demo, usage, bad_word}
 use Rattle.site_commands.specs.World.{line, Says, FailsToSay}
 use Rattle.site_commands.specs.declared.output.Output.{Output}
 use Rattle.site_commands.specs.declared.output.Output.TheVariants as a
@@ -69,6 +69,7 @@ too_long (manifest node) = codes "B3 " ++ MAIN_MANIFEST.now
 too_long sequence = codes "B3 bundle"
 too_long (batch workers) = codes "B3 bundle"
 too_long (lookup node key merge) = codes "B3 bundle"
+too_long (demo nodes) = codes ""
 too_long usage = codes ""
 too_long (bad_word word) = codes ""
 

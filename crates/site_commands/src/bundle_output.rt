@@ -138,7 +138,9 @@ fn is_memory<C, F>(reply: &ReplyOf<C, F>) -> bool
         | ReplyOf::HistoryFull { .. }
         | ReplyOf::SeenAhead { .. }
         | ReplyOf::UnknownNode { .. }
-        | ReplyOf::Deactivated { .. } => false,
+        | ReplyOf::Deactivated { .. }
+        | ReplyOf::Deployed { .. }
+        | ReplyOf::Reported { .. } => false,
     }
 }
 
@@ -151,6 +153,10 @@ fn is_refusal<C, F>(reply: &ReplyOf<C, F>) -> bool
         | ReplyOf::HistoryFull { .. }
         | ReplyOf::SeenAhead { .. }
         | ReplyOf::UnknownNode { .. } => true,
-        ReplyOf::Served { .. } | ReplyOf::Deactivated { .. } | ReplyOf::Memory => false,
+        ReplyOf::Served { .. }
+        | ReplyOf::Deactivated { .. }
+        | ReplyOf::Deployed { .. }
+        | ReplyOf::Reported { .. }
+        | ReplyOf::Memory => false,
     }
 }

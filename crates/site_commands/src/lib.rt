@@ -3,6 +3,8 @@
 
 pub mod batch_output;
 pub mod bundle_output;
+pub mod demo_output;
+pub mod demo_site;
 pub mod ending;
 mod lines;
 pub mod lookup_output;

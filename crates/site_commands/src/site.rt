@@ -1,16 +1,18 @@
-ghost use Rattle.std.specs.Prelude.{◌≡◌, ◌↔◌, ◌⊎◌, ◌≤◌, List, ℕ, IfOk, OnOk, OnErr, length, Some};
+ghost use Rattle.std.specs.Prelude.{◌≡◌, ◌↔◌, ◌⊎◌, ◌≤◌, List, ℕ, IfOk, IfErr, OnOk, OnErr, length, Some};
 ghost use Rattle.site_commands.specs.Words.{asked_of, asked_by, texts_of, IsWithin, IsPlain, IsShared};
 ghost use Rattle.site_io.specs.Stream.{Rose};
+ghost use Rattle.site_io.specs.Transfer.{StopsBy};
 ghost use Rattle.site_commands.specs.World.{world, line, Says, FailsToSay};
 ghost use Rattle.site_commands.specs.Status.{IsStatus};
 ghost use Rattle.site_commands.specs.Outputs.{IsOutput};
 ghost use Rattle.site_commands.specs.Work.{Works, Delivers, HasLogged, WritesLogged, GivesUp, too_long};
 ghost use Rattle.site_commands.specs.Limits.{limit_of};
 ghost use Rattle.site_commands.specs.Program.{HasEnded};
-ghost use Rattle.site_commands.specs.Endings.{Ends, IsComplaint, IsSettled};
+ghost use Rattle.site_commands.specs.Endings.{Ends, HasInput, IsComplaint, IsReader, IsSettled};
 
 use crate::batch_output::batch_output;
 use crate::bundle_output::bundle_output;
+use crate::demo_output::demo_output;
 use crate::ending::Ending;
 use crate::lookup_output::lookup_output;
 use crate::manifest_output::manifest_output;
@@ -31,7 +33,7 @@ use std::thread::Threads;
 /// | Status | When | Error line |
 /// |-|-|-|
 /// | 0 | the catalog was written, or journal and replies were, none of which is a refusal | of `manifest` its log |
-/// | 0 | the value that was looked up was written | none |
+/// | 0 | the value that was looked up was written, or the numbers of the demo | none |
 /// | 1 | the manifest has no catalog, or the data have no value | the fault |
 /// | 1 | journal and replies were written, one of which is a refusal | none |
 /// | 10 | the words are faulty | `usage: manifest NODE` or `bad word WORD` |
@@ -133,9 +135,10 @@ fn run_command<S: Source, K: Sink, E: Sink, G: Gate + Sync, R: Threads + Wait + 
         (world (S.stream source.new) (K.stream out.new) (E.stream err.new)) }
 {
     match command {
-        Command::Manifest { .. } | Command::Sequence | Command::Lookup { .. } => {
-            plain_command(alloc, command, source, out, err)
-        }
+        Command::Manifest { .. }
+        | Command::Sequence
+        | Command::Lookup { .. }
+        | Command::Demo { .. } => plain_command(alloc, command, source, out, err),
         Command::Batch { .. } => shared_command(rt, alloc, command, source, out, err, gate),
     }
 }
@@ -153,7 +156,7 @@ pub fn plain_command<S: Source, K: Sink, E: Sink>(
         (world (S.stream source.old) (K.stream out.old) (E.stream err.old))
         (world (S.stream source.new) (K.stream out.new) (E.stream err.new)) }
 {
-    match read_all(alloc, source, limit_of(command)) {
+    match read_input(alloc, command, source) {
         Ok(input) => work(alloc, command, input, out, err),
         Err(stop) => give_up(command, stop, err),
     }
@@ -175,19 +178,31 @@ pub fn shared_command<S: Source, K: Sink, E: Sink, G: Gate + Sync, R: Threads + 
         (world (S.stream source.old) (K.stream out.old) (E.stream err.old))
         (world (S.stream source.new) (K.stream out.new) (E.stream err.new)) }
 {
-    match read_all(alloc, source, limit_of(command)) {
+    match read_input(alloc, command, source) {
         Ok(input) => share_work(rt, alloc, command, input, out, err, gate),
         Err(stop) => give_up(command, stop, err),
     }
 }
 
-/// The most bytes that a command reads.
-fn limit_of(command: Command<'_>) -> usize
-    ensures { result ≡ limit_of (asked_by command.entry) }
+/// Reads the input of a command, where it has one.
+fn read_input<S: Source>(
+    alloc: Global,
+    command: Command<'_>,
+    source: &mut S,
+) -> Result<Bytes, ReadStop>
+    ensures all { IfOk result (λ bytes.
+        HasInput (asked_by command.entry) bytes (S.stream source.old) (S.stream source.new)) }
+    ensures fits { IfOk result (λ bytes. length bytes ≤ limit_of (asked_by command.entry)) }
+    ensures reads { IfErr result (λ stop. IsReader (asked_by command.entry)) }
+    ensures stop { IfErr result (λ stop.
+        StopsBy stop (limit_of (asked_by command.entry)) (S.stream source.old) (S.stream source.new)) }
 {
     match command {
-        Command::Manifest { .. } => MOST_FILE_BYTES,
-        Command::Sequence | Command::Batch { .. } | Command::Lookup { .. } => MOST_BUNDLE_BYTES,
+        Command::Manifest { .. } => read_all(alloc, source, MOST_FILE_BYTES),
+        Command::Sequence => read_all(alloc, source, MOST_BUNDLE_BYTES),
+        Command::Batch { .. } => read_all(alloc, source, MOST_BUNDLE_BYTES),
+        Command::Lookup { .. } => read_all(alloc, source, MOST_BUNDLE_BYTES),
+        Command::Demo { .. } => Ok(Bytes::new(alloc)),
     }
 }
 
@@ -243,6 +258,7 @@ fn plain_output(alloc: Global, command: Command<'_>, input: Bytes) -> Result<Out
         Command::Lookup { node, key, merge } => {
             lookup_output(alloc, node, key, merge, input.as_slice())
         }
+        Command::Demo { nodes } => demo_output(alloc, nodes),
         Command::Batch { .. } => unreachable!(),
     }
 }
@@ -261,7 +277,10 @@ fn shared_output<G: Gate + Sync, R: Threads + Wait + Sync>(
 {
     match command {
         Command::Batch { workers } => batch_output(rt, alloc, input.as_slice(), workers, gate),
-        Command::Manifest { .. } | Command::Sequence | Command::Lookup { .. } => unreachable!(),
+        Command::Manifest { .. }
+        | Command::Sequence
+        | Command::Lookup { .. }
+        | Command::Demo { .. } => unreachable!(),
     }
 }
 
@@ -285,6 +304,8 @@ fn refuse_long<E: Sink>(command: Command<'_>, err: &mut E) -> Ending
         Command::Sequence | Command::Batch { .. } | Command::Lookup { .. } => {
             say_word(err, "B3 ", "bundle")
         }
+        // It reads nothing.
+        Command::Demo { .. } => say(err, "\n"),
     }
     Ending::BadInput
 }

@@ -1,6 +1,7 @@
 ghost use Rattle.std.specs.Prelude.{◌≡◌, IfOk, option_map};
-ghost use Rattle.site_commands.specs.Words.{asked_by, asked_of, batch_by, lookup_by, merged_by, reading, texts_of, IsWithin};
+ghost use Rattle.site_commands.specs.Words.{asked_by, asked_of, batch_by, demo_by, lookup_by, merged_by, reading, texts_of, IsWithin};
 
+use crate::demo_site::MOST_DEMO_NODES;
 use crate::numbers::number_within;
 use hiera_merge::Merge;
 use site_batch::MOST_WORKERS;
@@ -27,6 +28,11 @@ pub enum Command<'a> {
         node: &'a str,
         key: &'a str,
         merge: Option<Merge>,
+    },
+
+    /// What a run of the demo site with this many nodes comes to. There is no input.
+    Demo {
+        nodes: u32,
     },
 }
 
@@ -66,7 +72,19 @@ pub fn read_words(words: &[String]) -> Result<Command<'_>, Complaint<'_>>
                 Err(Complaint::BadWord(node.as_str()))
             }
         }
+        [command, count] if command.as_str() == "demo" => read_demo(count.as_str()),
         _ => Err(Complaint::Usage),
+    }
+}
+
+/// A demo of as many nodes as the word says.
+fn read_demo(word: &str) -> Result<Command<'_>, Complaint<'_>>
+    ensures words { reading result ≡ demo_by word.now }
+    ensures within { IfOk result (λ command. IsWithin (asked_by command)) }
+{
+    match number_within(word, 1, MOST_DEMO_NODES) {
+        Some(nodes) => Ok(Command::Demo { nodes }),
+        None => Err(Complaint::BadWord(word)),
     }
 }
 

@@ -1,8 +1,9 @@
 -- What the clauses of `site_main` rest on, and a reader has to believe: Meaning, Events, Sets, Legal, Asked, Said,
 -- Fits, Runs
--- What functions promise one another, what types keep, and what proofs read: EntryViews, Core, Answers, Snapshots,
--- Counts, Steps, Additions, Compiling, Each
+-- What functions promise one another, what types keep, and what proofs read: SitesRead, EntryViews, Core, Answers,
+-- Snapshots, Counts, Steps, Additions, Compiling, Each, Resuming, Changes
 pub mod Meaning
+pub mod SitesRead
 pub mod Events
 pub mod EntryViews
 pub mod Sets
@@ -19,3 +20,5 @@ pub mod Compiling
 pub mod Fits
 pub mod Runs
 pub mod Each
+pub mod Resuming
+pub mod Changes

@@ -1,70 +1,26 @@
 -- Catalogs of one text are the same.
-use Rattle.std.proofs.Common.{◌≡◌, ℕ, zero, suc, Bool, true, false, ◌&&◌, IsTrue, List, [], ◌∷◌, ◌++◌, map, codes, refl, sym, ap, ap₂, ◌∙◌}
+use Rattle.std.proofs.Common.{◌≡◌, ℕ, zero, suc, true, false, IsTrue, List, [], ◌∷◌, ◌++◌, map, codes, refl, sym, ap, ap₂, ◌∙◌}
 use Rattle.std.specs.Cmp.{first_so, second_so}
 use Rattle.std.specs.List.{list_all}
-use Rattle.serde_json.specs.Data.{Num, unsigned, negative, float, Data, null, boolean, number, string, array, object, Items, no_items, item, Members, no_members, member}
-use Rattle.serde_json.specs.View.{items_of}
-use Rattle.json_values.specs.ValueForm.{setting_members}
+use Rattle.serde_json.specs.Data.{Data, null, string, array, object, Items, no_items, item}
 use Rattle.pp_values.specs.Kinds.{is_kind}
 use Rattle.pp_values.specs.Settings.{Setting}
 use Rattle.pp_values.specs.Words.{kind_text}
 use Rattle.pp_values.proofs.Printed.{printed_apart}
-use Rattle.res_core.specs.Catalogs.{Catalog, IsCatalog, has_form}
-use Rattle.res_core.specs.PlainAttributes.{are_plain}
+use Rattle.res_core.specs.Catalogs.{Catalog, has_form}
 use Rattle.res_core.specs.declared.edge.Edge.{Edge}
 use Rattle.res_core.specs.declared.held.Held.{Held}
 use Rattle.site_docs.specs.CatalogText.{index_data, held_object, held_data, edge_data, catalog_object, catalog_data}
 use Rattle.site_docs.specs.DocumentLaws.{CatalogsAreToldApart}
+use Rattle.site_docs.proofs.DocumentParts.{part, text_said, index_said, flag_said, list_said, items_back, all_back}
 use Rattle.site_docs.proofs.ReadBack.{one_value}
 use Rattle.site_docs.proofs.ValuesBack.{settings_said, settings_back}
 
--- ---- parts of documents
-
-abbrev nth : ℕ → Members → Data
-nth n no_members = null
-nth zero (member k d ms) = d
-nth (suc n) (member k d ms) = nth n ms
-
-abbrev part : ℕ → Data → Data
-part n (object ms) = nth n ms
-part n d = null
-
-abbrev text_said : Data → List ℕ
-text_said (string s) = s
-text_said d = []
-
-abbrev index_said : Data → ℕ
-index_said (number (unsigned n)) = n
-index_said d = 0
-
-abbrev flag_said : Data → Bool
-flag_said (boolean b) = b
-flag_said d = false
+-- ---- attributes
 
 abbrev attributes_said : Data → List Setting
 attributes_said (object ms) = settings_said ms
 attributes_said d = []
-
-abbrev items_said : {A : Type 0} → (Data → A) → Items → List A
-items_said read no_items = []
-items_said read (item d ds) = read d ∷ items_said read ds
-
-abbrev list_said : {A : Type 0} → (Data → A) → Data → List A
-list_said read (array ds) = items_said read ds
-list_said read d = []
-
-items_back : {A B : Type 0} (read : Data → B) (form : A → Data) (shown : A → B) (fits : A → Bool) →
-    ((x : A) → fits x ≡ true → read (form x) ≡ shown x) → (xs : List A) → list_all fits xs ≡ true →
-    items_said read (items_of (map form xs)) ≡ map shown xs
-items_back read form shown fits back [] h = refl
-items_back read form shown fits back (x ∷ xs) h =
-    ap₂ (λ y ys. y ∷ ys) (back x (first_so (fits x) _ h))
-    (items_back read form shown fits back xs (second_so (fits x) _ h))
-
-all_back : {A : Type 0} (read : Data → A) (form : A → Data) → ((x : A) → read (form x) ≡ x) → (xs : List A) →
-    items_said read (items_of (map form xs)) ≡ xs
-all_back read form back [] = refl
-all_back read form back (x ∷ xs) = ap₂ (λ y ys. y ∷ ys) (back x) (all_back read form back xs)
 
 -- ---- edges
 

@@ -1,5 +1,5 @@
 -- Documents, and their texts.
-use Rattle.std.proofs.Common.{◌≡◌, ℕ, true, List, [], ◌∷◌, ◌++◌, None, map, refl, codes}
+use Rattle.std.proofs.Common.{◌≡◌, ℕ, Bool, true, false, List, [], ◌∷◌, ◌++◌, Option, Some, None, map, refl, codes}
 use Rattle.std.specs.Fmt.{digits}
 use Rattle.serde_json.proofs.OnLiterals.{serde_json_on_literals}
 use Rattle.pp_values.specs.Datum as d
@@ -8,23 +8,29 @@ use Rattle.pp_values.specs.declared.fault.What.{What}
 use Rattle.pp_values.specs.declared.fault.What.TheVariants.{Syntax, Failed, Cycle, AlreadySet, Duplicate}
 use Rattle.pp_values.specs.declared.fault.Subject.TheVariants as subject
 use Rattle.pp_values.specs.declared.place.TheConstants.{MAIN_MANIFEST}
+use Rattle.pp_values.specs.declared.reference.Reference.{Reference}
 use Rattle.pp_values.specs.Settings.{Setting}
 use Rattle.res_core.specs.declared.held.Held.{Held}
 use Rattle.res_core.specs.declared.catalog.Catalog.{Catalog}
 use Rattle.res_core.specs.declared.log_line.LogLine.{LogLine}
 use Rattle.res_core.specs.declared.exported.Exported.{Exported}
 use Rattle.res_core.specs.Asked.{Asked, compile, deactivate}
-use Rattle.site_core.specs.Events.{Event, opens, publishes, deactivates}
+use Rattle.agent_machine.specs.declared.status.Status.{Status}
+use Rattle.agent_machine.specs.declared.status.Status.TheVariants as status
+use Rattle.agent_machine.specs.declared.report_line.ReportLine.{ReportLine}
+use Rattle.site_core.specs.Events.{Event, opens, publishes, adds}
+use Rattle.site_core.specs.declared.plain.Plain.TheVariants as ask
 use Rattle.site_core.specs.declared.reply.ReplyOf.{ReplyOf}
-use Rattle.site_core.specs.declared.reply.ReplyOf.TheVariants.{Served, Refused, HistoryFull, SeenAhead, UnknownNode, Deactivated, Memory}
+use Rattle.site_core.specs.declared.reply.ReplyOf.TheVariants.{Served, Refused, HistoryFull, SeenAhead, UnknownNode, Deactivated, Deployed, Reported, Memory}
 use Rattle.site_bundle.specs.SiteView.{SiteView}
 use Rattle.site_docs.specs.CatalogText.{held_object, held_data, edge_data, catalog_object, catalog_data, catalog_text}
 use Rattle.site_docs.specs.FaultText.{plain_line, fault_text}
 use Rattle.site_docs.specs.LogText.{log_text}
 use Rattle.site_docs.specs.declared.fault_names.TheConstants.{FAULT_NAMES}
 use Rattle.site_docs.specs.SiteText.{site_object, site_data, site_text}
-use Rattle.site_docs.specs.JournalText.{export_object, export_data, opening_object, publication_object, deactivation_object, count_object, entry_data, entry_lines, journal_text}
-use Rattle.site_docs.specs.ReplyText.{served_text, refused_object, full_object, ahead_object, unknown_object, deactivated_object, memory_object, reply_text, reply_line}
+use Rattle.site_docs.specs.ReportText.{has_changed, has_failed, was_noop, line_object, line_data, report_object, report_data, report_text}
+use Rattle.site_docs.specs.JournalText.{export_object, export_data, opening_object, publication_object, deactivation_object, deployment_object, filing_object, count_object, plain_data, entry_data, entry_lines, journal_text}
+use Rattle.site_docs.specs.ReplyText.{served_text, refused_object, full_object, ahead_object, unknown_object, deactivated_object, deployed_object, reported_object, memory_object, reply_text, reply_line}
 
 abbrev fault : What → Fault
 fault what = record { at = record { file = codes "m.pp"; line = 7 }; what = what }
@@ -167,7 +173,7 @@ me = record {
 
 -- an empty manifest, compiled once
 once : journal_text (opens (listing [] (codes "a" ∷ [])) ∷ published 0 1 [] ∷ [])
-    ≡ codes "{\"entry\":0,\"journal\":1,\"kind\":\"open\",\"site\":{\"files\":{\"manifests/site.pp\":\"\"},\"nodes\":{\"a\":{}}}}" ++ 10 ∷
+    ≡ codes "{\"entry\":0,\"journal\":2,\"kind\":\"open\",\"site\":{\"files\":{\"manifests/site.pp\":\"\"},\"nodes\":{\"a\":{}}}}" ++ 10 ∷
     codes "{\"author\":0,\"call\":0,\"entry\":1,\"facts\":{},\"k\":1,\"kind\":\"publish\",\"node\":\"a\",\"set\":[]}" ++ 10 ∷
     codes "{\"entries\":2}" ++ 10 ∷ []
 unfolding site_object site_data opening_object publication_object count_object entry_data entry_lines digits
@@ -177,7 +183,7 @@ once = refl
 -- a node that exports a resource, compiled twice
 again : journal_text (opens (listing (codes "@@notify { 'me': }" ++ 10 ∷ codes "Notify <<| |>>") (codes "a" ∷ [])) ∷
     published 0 1 (me ∷ []) ∷ published 1 2 (me ∷ []) ∷ [])
-    ≡ codes "{\"entry\":0,\"journal\":1,\"kind\":\"open\",\"site\":{\"files\":{\"manifests/site.pp\":\"@@notify { 'me': }\\nNotify <<| |>>\"},\"nodes\":{\"a\":{}}}}" ++ 10 ∷
+    ≡ codes "{\"entry\":0,\"journal\":2,\"kind\":\"open\",\"site\":{\"files\":{\"manifests/site.pp\":\"@@notify { 'me': }\\nNotify <<| |>>\"},\"nodes\":{\"a\":{}}}}" ++ 10 ∷
     codes "{\"author\":0,\"call\":0,\"entry\":1,\"facts\":{},\"k\":1,\"kind\":\"publish\",\"node\":\"a\",\"set\":[{\"at\":\"manifests/site.pp:1\",\"attrs\":{},\"tags\":[\"class\",\"main\",\"me\",\"notify\"],\"title\":\"me\",\"type\":\"Notify\"}]}" ++ 10 ∷
     codes "{\"author\":0,\"call\":1,\"entry\":2,\"facts\":{},\"k\":2,\"kind\":\"publish\",\"node\":\"a\",\"set\":[{\"at\":\"manifests/site.pp:1\",\"attrs\":{},\"tags\":[\"class\",\"main\",\"me\",\"notify\"],\"title\":\"me\",\"type\":\"Notify\"}]}" ++ 10 ∷
     codes "{\"entries\":3}" ++ 10 ∷ []
@@ -186,13 +192,31 @@ unfolding site_object site_data export_object export_data opening_object publica
 again = refl
 
 -- a node is gone
-gone : journal_text (opens (listing [] []) ∷ deactivates (record { author = 3; call = 7; node = codes "b" }) ∷ [])
-    ≡ codes "{\"entry\":0,\"journal\":1,\"kind\":\"open\",\"site\":{\"files\":{\"manifests/site.pp\":\"\"},\"nodes\":{}}}" ++ 10 ∷
+gone : journal_text (opens (listing [] []) ∷ adds 3 7 (ask.Deactivate (codes "b")) ∷ [])
+    ≡ codes "{\"entry\":0,\"journal\":2,\"kind\":\"open\",\"site\":{\"files\":{\"manifests/site.pp\":\"\"},\"nodes\":{}}}" ++ 10 ∷
     codes "{\"author\":3,\"call\":7,\"entry\":1,\"kind\":\"deactivate\",\"node\":\"b\"}" ++ 10 ∷
     codes "{\"entries\":2}" ++ 10 ∷ []
-unfolding site_object site_data opening_object deactivation_object count_object entry_data entry_lines digits
+unfolding site_object site_data opening_object deactivation_object count_object plain_data entry_data entry_lines digits
     serde_json_on_literals
 gone = refl
+
+-- another manifest, and no nodes any more
+deployed : journal_text (opens (listing [] (codes "a" ∷ [])) ∷ adds 0 0 (ask.Deploy (listing (codes "notify { 'hi': }") [])) ∷ [])
+    ≡ codes "{\"entry\":0,\"journal\":2,\"kind\":\"open\",\"site\":{\"files\":{\"manifests/site.pp\":\"\"},\"nodes\":{\"a\":{}}}}" ++ 10 ∷
+    codes "{\"author\":0,\"call\":0,\"entry\":1,\"kind\":\"deploy\",\"site\":{\"files\":{\"manifests/site.pp\":\"notify { 'hi': }\"},\"nodes\":{}}}" ++ 10 ∷
+    codes "{\"entries\":2}" ++ 10 ∷ []
+unfolding site_object site_data opening_object deployment_object count_object plain_data entry_data entry_lines digits
+    serde_json_on_literals
+deployed = refl
+
+-- the report of a run in which no resource had a turn
+filed : journal_text (opens (listing [] []) ∷ adds 0 0 (ask.Report (codes "n") (record { node = codes "n"; lines = [] })) ∷ [])
+    ≡ codes "{\"entry\":0,\"journal\":2,\"kind\":\"open\",\"site\":{\"files\":{\"manifests/site.pp\":\"\"},\"nodes\":{}}}" ++ 10 ∷
+    codes "{\"author\":0,\"call\":0,\"entry\":1,\"kind\":\"report\",\"node\":\"n\",\"report\":{\"changed\":0,\"failed\":0,\"node\":\"n\",\"noop\":0,\"report\":2,\"resources\":[]}}" ++ 10 ∷
+    codes "{\"entries\":2}" ++ 10 ∷ []
+unfolding site_object site_data opening_object filing_object report_data report_object count_object plain_data entry_data
+    entry_lines digits serde_json_on_literals
+filed = refl
 
 abbrev asks : List ℕ → ℕ → Asked
 asks node seen = compile (record { node = node; facts = None; seen = seen })
@@ -221,7 +245,56 @@ others : (replies 0 (asks (codes "z") 0) (UnknownNode 1) ≡ codes "{\"k\":1,\"r
     × (replies 1 (asks (codes "a") 2) (SeenAhead 1) ≡ codes "{\"length\":1,\"reply\":1,\"seen\":2}" ++ 10 ∷ [])
     × (replies 2 (asks (codes "a") 0) (HistoryFull 10) ≡ codes "{\"full\":10,\"reply\":2}" ++ 10 ∷ [])
     × (replies 3 (deactivate (codes "a")) (Deactivated 4) ≡ codes "{\"entry\":4,\"reply\":3}" ++ 10 ∷ [])
+    × (replies 4 (deactivate (codes "a")) (Deployed 5) ≡ codes "{\"deployed\":5,\"reply\":4}" ++ 10 ∷ [])
+    × (replies 5 (deactivate (codes "a")) (Reported 6) ≡ codes "{\"reply\":5,\"reported\":6}" ++ 10 ∷ [])
     × (replies 12 (deactivate (codes "a")) Memory ≡ codes "{\"memory\":true,\"reply\":12}" ++ 10 ∷ [])
-unfolding reply_text full_object ahead_object unknown_object deactivated_object memory_object digits
-    serde_json_on_literals
-others = (refl, refl, refl, refl, refl)
+unfolding reply_text full_object ahead_object unknown_object deactivated_object deployed_object reported_object memory_object
+    digits serde_json_on_literals
+others = (refl, refl, refl, refl, refl, refl, refl)
+
+-- ---- reports
+
+abbrev about : List ℕ → List ℕ → Reference
+about kind title = record { kind = kind; title = title }
+
+abbrev told : Reference → Status → List (List ℕ) → Bool → Option (List ℕ) → ReportLine
+told item status changes refreshed fault = record {
+  item = item;
+  status = status;
+  changes = changes;
+  refreshed = refreshed;
+  fault = fault;
+}
+
+abbrev reports : List ReportLine → List ℕ
+reports lines = report_text (record { node = codes "n"; lines = lines })
+
+nothing_done : reports [] ≡ codes "{\"changed\":0,\"failed\":0,\"node\":\"n\",\"noop\":0,\"report\":2,\"resources\":[]}"
+unfolding report_data report_object digits serde_json_on_literals
+nothing_done = refl
+
+-- what a file would have been changed in, and a service that was not changed
+looked_at : reports (told (about (codes "file") (codes "/a")) status.Noop (codes "content" ∷ []) false None ∷
+    told (about (codes "service") (codes "s")) status.Unchanged [] false None ∷ [])
+    ≡ codes "{\"changed\":0,\"failed\":0,\"node\":\"n\",\"noop\":1,\"report\":2,\"resources\":[{\"changes\":[\"content\"],\"fault\":null,\"ref\":\"File[/a]\",\"refreshed\":false,\"status\":\"noop\"},{\"changes\":[],\"fault\":null,\"ref\":\"Service[s]\",\"refreshed\":false,\"status\":\"unchanged\"}]}"
+unfolding report_data report_object line_data line_object digits serde_json_on_literals
+looked_at = refl
+
+-- a call that failed, a resource behind it, and one that was run
+failed_first : reports (told (about (codes "package") (codes "p")) status.Failed [] false (Some (codes "write ensure")) ∷
+    told (about (codes "service") (codes "s")) status.Skipped [] false None ∷
+    told (about (codes "notify") (codes "n")) status.Changed (codes "run" ∷ []) false None ∷ [])
+    ≡ codes "{\"changed\":1,\"failed\":1,\"node\":\"n\",\"noop\":0,\"report\":2,\"resources\":[{\"changes\":[],\"fault\":\"write ensure\",\"ref\":\"Package[p]\",\"refreshed\":false,\"status\":\"failed\"},{\"changes\":[],\"fault\":null,\"ref\":\"Service[s]\",\"refreshed\":false,\"status\":\"skipped\"},{\"changes\":[\"run\"],\"fault\":null,\"ref\":\"Notify[n]\",\"refreshed\":false,\"status\":\"changed\"}]}"
+unfolding report_data report_object line_data line_object digits serde_json_on_literals
+failed_first = refl
+
+-- what counts as changed: a refresh alone, and changes before a call that failed; not what was only looked at
+counted : (has_changed (told (about [] []) status.Unchanged [] true None) ≡ true)
+    × (has_changed (told (about [] []) status.Unchanged [] false None) ≡ false)
+    × (has_changed (told (about [] []) status.Failed (codes "mode" ∷ []) false (Some (codes "write owner"))) ≡ true)
+    × (has_changed (told (about [] []) status.Noop (codes "mode" ∷ []) true None) ≡ false)
+    × (was_noop (told (about [] []) status.Noop (codes "mode" ∷ []) false None) ≡ true)
+    × (was_noop (told (about [] []) status.Unchanged [] false None) ≡ false)
+    × (has_failed (told (about [] []) status.Failed [] false (Some (codes "refresh"))) ≡ true)
+    × (has_failed (told (about [] []) status.Skipped [] false None) ≡ false)
+counted = (refl, refl, refl, refl, refl, refl, refl, refl)

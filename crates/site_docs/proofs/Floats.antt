@@ -1,5 +1,5 @@
 -- No document that is made as a tree has a float, so that its text is exact.
-use Rattle.std.proofs.Common.{◌≡◌, ℕ, Bool, true, false, ◌||◌, List, [], ◌∷◌, map, refl}
+use Rattle.std.proofs.Common.{◌≡◌, ℕ, Bool, true, false, ◌||◌, List, [], ◌∷◌, Option, Some, None, map, refl}
 use Rattle.std.specs.declared.cmp.Ordering.TheVariants.{Less, Equal, Greater}
 use Rattle.std.specs.Cmp.Lexicographic.{slice_cmp}
 use Rattle.std.specs.Ordering.{nat_cmp, match_ordering}
@@ -8,13 +8,18 @@ use Rattle.serde_json.specs.View.{items_of}
 use Rattle.serde_json.specs.Written.{has_float, members_have_float}
 use Rattle.pp_values.specs.Datum.{Datum}
 use Rattle.res_core.specs.declared.exported.Exported.{Exported}
-use Rattle.site_core.specs.Events.{Event, opens, publishes, deactivates}
+use Rattle.agent_machine.specs.declared.report.Report.{Report}
+use Rattle.agent_machine.specs.declared.report_line.ReportLine.{ReportLine}
+use Rattle.site_core.specs.Events.{Event, opens, publishes, adds}
+use Rattle.site_core.specs.declared.plain.Plain.{Plain}
+use Rattle.site_core.specs.declared.plain.Plain.TheVariants as ask
 use Rattle.json_values.specs.ValueForm.{form, put_all}
 use Rattle.json_values.proofs.Floats.{either, form_no_float, settings_no_float, all_no_float}
 use Rattle.site_bundle.specs.SiteView.{SiteView, Filed}
 use Rattle.site_docs.specs.SiteText.{site_object, file_settings, site_data}
-use Rattle.site_docs.specs.JournalText.{export_object, export_data, opening_object, publication_object, deactivation_object, count_object, entry_data}
-use Rattle.site_docs.specs.ReplyText.{refused_object, full_object, ahead_object, unknown_object, deactivated_object, memory_object}
+use Rattle.site_docs.specs.ReportText.{fault_data, line_object, line_data, report_object, report_data}
+use Rattle.site_docs.specs.JournalText.{export_object, export_data, opening_object, publication_object, deactivation_object, deployment_object, filing_object, count_object, plain_data, entry_data}
+use Rattle.site_docs.specs.ReplyText.{refused_object, full_object, ahead_object, unknown_object, deactivated_object, deployed_object, reported_object, memory_object}
 
 or_first : (a b : Bool) → (a || b) ≡ false → a ≡ false
 or_first true b h = h
@@ -50,6 +55,18 @@ site_no_float s =
     (files_no_float s.manifests no_members refl))
     (either _ _ (settings_no_float s.nodes) refl)
 
+fault_no_float : (fault : Option (List ℕ)) → has_float (fault_data fault) ≡ false
+fault_no_float None = refl
+fault_no_float (Some text) = refl
+
+line_no_float : (l : ReportLine) → has_float (line_data l) ≡ false
+unfolding line_data line_object
+line_no_float l = either _ _ (all_no_float string (λ t. refl) l.changes) (either _ _ (fault_no_float l.fault) refl)
+
+pub report_no_float : (r : Report) → has_float (report_data r) ≡ false
+unfolding report_data report_object
+report_no_float r = either _ _ (all_no_float line_data line_no_float r.lines) refl
+
 export_no_float : (e : Exported) → has_float (export_data e) ≡ false
 unfolding export_data export_object
 export_no_float e = either _ _ (settings_no_float e.item.attributes)
@@ -71,11 +88,27 @@ deactivation_no_float : (author call entry : ℕ) (node : List ℕ) →
 unfolding deactivation_object
 deactivation_no_float author call entry node = refl
 
+deployment_no_float : (author call entry : ℕ) (s : SiteView) →
+    has_float (deployment_object author call entry (site_data s)) ≡ false
+unfolding deployment_object
+deployment_no_float author call entry s = either _ _ (site_no_float s) refl
+
+filing_no_float : (author call entry : ℕ) (node : List ℕ) (r : Report) →
+    has_float (filing_object author call entry node (report_data r)) ≡ false
+unfolding filing_object
+filing_no_float author call entry node r = either _ _ (report_no_float r) refl
+
+plain_no_float : (author call entry : ℕ) (what : Plain SiteView) → has_float (plain_data author call entry what) ≡ false
+unfolding plain_data
+plain_no_float author call entry (ask.Deactivate node) = deactivation_no_float author call entry node
+plain_no_float author call entry (ask.Deploy site) = deployment_no_float author call entry site
+plain_no_float author call entry (ask.Report node report) = filing_no_float author call entry node report
+
 pub entry_no_float : (n : ℕ) (e : Event SiteView) → has_float (entry_data n e) ≡ false
 unfolding entry_data
 entry_no_float n (opens site) = opening_no_float n site
 entry_no_float n (publishes p) = publication_no_float p.author p.call n p.k p.facts p.node p.set.items
-entry_no_float n (deactivates d) = deactivation_no_float d.author d.call n d.node
+entry_no_float n (adds author call what) = plain_no_float author call n what
 
 pub count_no_float : (n : ℕ) → has_float (count_object n) ≡ false
 unfolding count_object
@@ -100,6 +133,14 @@ unknown_no_float reply k node = refl
 pub deactivated_no_float : (reply entry : ℕ) → has_float (deactivated_object reply entry) ≡ false
 unfolding deactivated_object
 deactivated_no_float reply entry = refl
+
+pub deployed_no_float : (reply entry : ℕ) → has_float (deployed_object reply entry) ≡ false
+unfolding deployed_object
+deployed_no_float reply entry = refl
+
+pub reported_no_float : (reply entry : ℕ) → has_float (reported_object reply entry) ≡ false
+unfolding reported_object
+reported_no_float reply entry = refl
 
 pub memory_no_float : (reply : ℕ) → has_float (memory_object reply) ≡ false
 unfolding memory_object

@@ -5,4 +5,6 @@ pub mod Outlines
 mod Examples
 pub mod ReadBack
 pub mod ValuesBack
+pub mod DocumentParts
 pub mod CatalogsBack
+pub mod ReportsBack

@@ -7,11 +7,14 @@ use Rattle.serde_json.specs.View.{items_of}
 use Rattle.serde_json.specs.Written.{compact_text}
 use Rattle.pp_values.specs.Words.{kind_text}
 use Rattle.res_core.specs.declared.exported.Exported.{Exported}
-use Rattle.site_core.specs.Events.{Event, opens, publishes, deactivates}
+use Rattle.site_core.specs.Events.{Event, opens, publishes, adds}
+use Rattle.site_core.specs.declared.plain.Plain.{Plain}
+use Rattle.site_core.specs.declared.plain.Plain.TheVariants as ask
 use Rattle.json_values.specs.ValueForm.{form, setting_members}
 use Rattle.site_bundle.specs.SiteView.{SiteView}
 use Rattle.site_docs.specs.CatalogText.{index_data}
 use Rattle.site_docs.specs.FaultText.{place_text}
+use Rattle.site_docs.specs.ReportText.{report_data}
 use Rattle.site_docs.specs.SiteText.{site_data}
 
 -- an exported resource, from the forms of its parts
@@ -29,11 +32,11 @@ export_data e =
     (array (items_of (map string e.item.tags)))
     e.item.title (kind_text e.item.kind)
 
--- an entry that opens a site; 1 is the version of this form
+-- an entry that opens a site; 2 is the version of this form
 unfoldable pub opening_object : ℕ → Data → Data
 opening_object entry site =
     object (member (codes "entry") (index_data entry)
-    (member (codes "journal") (index_data 1)
+    (member (codes "journal") (index_data 2)
     (member (codes "kind") (string (codes "open"))
     (member (codes "site") site no_members))))
 
@@ -57,15 +60,40 @@ deactivation_object author call entry node =
     (member (codes "kind") (string (codes "deactivate"))
     (member (codes "node") (string node) no_members)))))
 
+-- an entry by which another site took the place of the one in force
+unfoldable pub deployment_object : (author call entry : ℕ) → Data → Data
+deployment_object author call entry site =
+    object (member (codes "author") (index_data author)
+    (member (codes "call") (index_data call)
+    (member (codes "entry") (index_data entry)
+    (member (codes "kind") (string (codes "deploy"))
+    (member (codes "site") site no_members)))))
+
+-- an entry by which a report was filed
+unfoldable pub filing_object : (author call entry : ℕ) → List ℕ → Data → Data
+filing_object author call entry node report =
+    object (member (codes "author") (index_data author)
+    (member (codes "call") (index_data call)
+    (member (codes "entry") (index_data entry)
+    (member (codes "kind") (string (codes "report"))
+    (member (codes "node") (string node)
+    (member (codes "report") report no_members))))))
+
 unfoldable pub count_object : ℕ → Data
 count_object count = object (member (codes "entries") (index_data count) no_members)
+
+-- a plain entry
+unfoldable pub plain_data : (author call entry : ℕ) → Plain SiteView → Data
+plain_data author call n (ask.Deactivate node) = deactivation_object author call n node
+plain_data author call n (ask.Deploy site) = deployment_object author call n (site_data site)
+plain_data author call n (ask.Report node report) = filing_object author call n node (report_data report)
 
 -- entry n
 unfoldable pub entry_data : ℕ → Event SiteView → Data
 entry_data n (opens site) = opening_object n (site_data site)
 entry_data n (publishes p) = publication_object p.author p.call n (form p.facts) p.k p.node
     (array (items_of (map export_data p.set.items)))
-entry_data n (deactivates d) = deactivation_object d.author d.call n d.node
+entry_data n (adds author call what) = plain_data author call n what
 
 -- a document as a line
 abbrev pub line : Data → List ℕ

@@ -1,5 +1,5 @@
 -- What the clauses of `site_main` rest on, and a reader has to believe: FaultText, CatalogText, LogText, SiteText,
--- JournalText, ReplyText
+-- ReportText, JournalText, ReplyText
 -- What functions promise one another, what types keep, and what proofs read: Tokens, SmallNumbers, DocumentLaws
 pub mod FaultText
 pub mod CatalogText
@@ -8,5 +8,6 @@ pub mod SmallNumbers
 pub mod DocumentLaws
 pub mod LogText
 pub mod SiteText
+pub mod ReportText
 pub mod JournalText
 pub mod ReplyText

@@ -4,7 +4,7 @@ use Rattle.serde_json.specs.Data.{Data, boolean, string, object, no_members, mem
 use Rattle.serde_json.specs.Written.{compact_text}
 use Rattle.res_core.specs.Asked.{Asked, compile, deactivate}
 use Rattle.site_core.specs.declared.reply.ReplyOf.{ReplyOf}
-use Rattle.site_core.specs.declared.reply.ReplyOf.TheVariants.{Served, Refused, HistoryFull, SeenAhead, UnknownNode, Deactivated, Memory}
+use Rattle.site_core.specs.declared.reply.ReplyOf.TheVariants.{Served, Refused, HistoryFull, SeenAhead, UnknownNode, Deactivated, Deployed, Reported, Memory}
 use Rattle.site_docs.specs.CatalogText.{index_data}
 
 -- the node that is asked about
@@ -45,6 +45,14 @@ unfoldable pub deactivated_object : (reply entry : ℕ) → Data
 deactivated_object reply entry = object (member (codes "entry") (index_data entry)
     (member (codes "reply") (index_data reply) no_members))
 
+unfoldable pub deployed_object : (reply entry : ℕ) → Data
+deployed_object reply entry = object (member (codes "deployed") (index_data entry)
+    (member (codes "reply") (index_data reply) no_members))
+
+unfoldable pub reported_object : (reply entry : ℕ) → Data
+reported_object reply entry = object (member (codes "reply") (index_data reply)
+    (member (codes "reported") (index_data entry) no_members))
+
 unfoldable pub memory_object : (reply : ℕ) → Data
 memory_object reply = object (member (codes "memory") (boolean true)
     (member (codes "reply") (index_data reply) no_members))
@@ -58,6 +66,8 @@ module _ {C F : Type 0} (catalog_form : C → List ℕ) (fault_form : F → List
   reply_text reply asked (SeenAhead length) = compact_text (ahead_object reply length (seen_of asked))
   reply_text reply asked (UnknownNode k) = compact_text (unknown_object reply k (node_of asked))
   reply_text reply asked (Deactivated entry) = compact_text (deactivated_object reply entry)
+  reply_text reply asked (Deployed entry) = compact_text (deployed_object reply entry)
+  reply_text reply asked (Reported entry) = compact_text (reported_object reply entry)
   reply_text reply asked Memory = compact_text (memory_object reply)
 
   abbrev pub reply_line : ℕ → Asked → ReplyOf C F → List ℕ

@@ -1,20 +1,27 @@
 //! Histories as text.
 ghost use Rattle.std.specs.Prelude.{◌≡◌, ◌++◌, map, false, IfOk, OnOk, string_bytes};
-ghost use Rattle.serde_json.specs.View.{view as json_view};
+ghost use Rattle.json_values.specs.ValueForm.{form};
+ghost use Rattle.pp_values.specs.Views.{view};
+ghost use Rattle.serde_json.specs.Data.{array};
+ghost use Rattle.serde_json.specs.View.{view as json_view, items_of};
 ghost use Rattle.serde_json.specs.Written.{has_float};
 ghost use Rattle.site_core.specs.EntryViews.{event_of, events_of};
 ghost use Rattle.site_docs.specs.FaultText.{place_text as text_of_place};
+ghost use Rattle.site_docs.specs.ReportText.{report_data};
 ghost use Rattle.site_docs.specs.SiteText.{site_data};
-ghost use Rattle.site_docs.specs.JournalText.{export_object as object_of_export, export_data, opening_object as object_of_opening, publication_object as object_of_publication, deactivation_object as object_of_deactivation, count_object as object_of_count, entry_data, line, entry_lines, journal_text};
+ghost use Rattle.site_docs.specs.JournalText.{export_object as object_of_export, export_data, opening_object as object_of_opening, publication_object as object_of_publication, deactivation_object as object_of_deactivation, deployment_object as object_of_deployment, filing_object as object_of_filing, count_object as object_of_count, entry_data, line, entry_lines, journal_text};
 
 use crate::fault_texts::write_place;
+use crate::report_texts::report_form;
 use crate::resource_forms::{attributes_form, text_forms};
 use crate::site_texts::site_form;
+use agent_machine::Report;
 use json_values::value_forms::value_form;
 use pp_values::memory::Memory;
 use pp_values::place::Place;
 use pp_values::printing::kind_text;
 use pp_values::text::Text;
+use pp_values::value::Value;
 use res_core::export_set::ExportSet;
 use res_core::exported::Exported;
 use serde_json::{Value as Json, json};
@@ -71,7 +78,19 @@ struct Numbers {
     entry: usize,
 }
 
-#[tactic(auto, unfolding(crate::specs::JournalText::entry_data))]
+impl Numbers {
+    fn new(author: u32, call: u32, entry: usize) -> Numbers
+        ensures { result ≡ record { author = author; call = call; entry = entry } }
+    {
+        Numbers {
+            author,
+            call,
+            entry,
+        }
+    }
+}
+
+#[tactic(auto, unfolding(crate::specs::JournalText::entry_data, crate::specs::JournalText::plain_data))]
 fn entry_form(alloc: Global, number: usize, entry: &Entry<Site>) -> Result<Json, Memory>
     ensures { IfOk result (λ j. json_view j ≡ entry_data number (event_of entry.now)) }
 {
@@ -88,23 +107,28 @@ fn entry_form(alloc: Global, number: usize, entry: &Entry<Site>) -> Result<Json,
             k,
             set,
         } => {
-            let numbers = Numbers {
-                author: *author,
-                call: *call,
-                entry: number,
-            };
-            let facts = value_form(alloc, facts)?;
+            let numbers = Numbers::new(*author, *call, number);
             let set: &ExportSet = set;
-            let set = Json::Array(export_forms(alloc, set.items.as_slice())?);
-            Ok(publication_object(alloc, numbers, facts, *k, node.as_str(), set)?)
+            publication_form(alloc, numbers, node, facts, *k, set)
         }
         Entry::Deactivate { author, call, node } => {
-            let numbers = Numbers {
-                author: *author,
-                call: *call,
-                entry: number,
-            };
+            let numbers = Numbers::new(*author, *call, number);
             Ok(deactivation_object(alloc, numbers, node.as_str())?)
+        }
+        Entry::Deploy { author, call, site } => {
+            let numbers = Numbers::new(*author, *call, number);
+            let site: &Site = site;
+            deployment_form(alloc, numbers, site)
+        }
+        Entry::Report {
+            author,
+            call,
+            node,
+            report,
+        } => {
+            let numbers = Numbers::new(*author, *call, number);
+            let report: &Report = report;
+            filing_form(alloc, numbers, node, report)
         }
     }
 }
@@ -116,11 +140,49 @@ fn opening_form(alloc: Global, number: usize, site: &Site) -> Result<Json, Memor
     Ok(opening_object(alloc, number, site)?)
 }
 
+fn publication_form(
+    alloc: Global,
+    numbers: Numbers,
+    node: &Text,
+    facts: &Value,
+    k: u32,
+    set: &ExportSet,
+) -> Result<Json, Memory>
+    ensures { IfOk result (λ j. json_view j
+        ≡ object_of_publication numbers.author numbers.call numbers.entry (form (view facts.now)) k node.now
+        (array (items_of (map export_data set.now.items)))) }
+{
+    let facts = value_form(alloc, facts)?;
+    let set = Json::Array(export_forms(alloc, set.items.as_slice())?);
+    Ok(publication_object(alloc, numbers, facts, k, node.as_str(), set)?)
+}
+
+fn deployment_form(alloc: Global, numbers: Numbers, site: &Site) -> Result<Json, Memory>
+    ensures { IfOk result (λ j. json_view j
+        ≡ object_of_deployment numbers.author numbers.call numbers.entry (site_data site.now)) }
+{
+    let site = site_form(alloc, site)?;
+    Ok(deployment_object(alloc, numbers, site)?)
+}
+
+fn filing_form(
+    alloc: Global,
+    numbers: Numbers,
+    node: &Text,
+    report: &Report,
+) -> Result<Json, Memory>
+    ensures { IfOk result (λ j. json_view j
+        ≡ object_of_filing numbers.author numbers.call numbers.entry node.now (report_data report.now)) }
+{
+    let report = report_form(alloc, report)?;
+    Ok(filing_object(alloc, numbers, node.as_str(), report)?)
+}
+
 #[tactic(auto, unfolding(crate::specs::JournalText::opening_object))]
 fn opening_object(alloc: Global, number: usize, site: Json) -> Result<Json, AllocError>
     ensures { IfOk result (λ j. json_view j ≡ object_of_opening number (json_view site)) }
 {
-    json!(in alloc; {"entry": number, "journal": 1u32, "kind": "open", "site": site})
+    json!(in alloc; {"entry": number, "journal": 2u32, "kind": "open", "site": site})
 }
 
 #[tactic(auto, unfolding(crate::specs::JournalText::publication_object))]
@@ -159,6 +221,40 @@ fn deactivation_object(alloc: Global, numbers: Numbers, node: &str) -> Result<Js
         "entry": numbers.entry,
         "kind": "deactivate",
         "node": node
+    })
+}
+
+#[tactic(auto, unfolding(crate::specs::JournalText::deployment_object))]
+fn deployment_object(alloc: Global, numbers: Numbers, site: Json) -> Result<Json, AllocError>
+    ensures { IfOk result (λ j. json_view j
+        ≡ object_of_deployment numbers.author numbers.call numbers.entry (json_view site)) }
+{
+    json!(in alloc; {
+        "author": numbers.author,
+        "call": numbers.call,
+        "entry": numbers.entry,
+        "kind": "deploy",
+        "site": site
+    })
+}
+
+#[tactic(auto, unfolding(crate::specs::JournalText::filing_object))]
+fn filing_object(
+    alloc: Global,
+    numbers: Numbers,
+    node: &str,
+    report: Json,
+) -> Result<Json, AllocError>
+    ensures { IfOk result (λ j. json_view j
+        ≡ object_of_filing numbers.author numbers.call numbers.entry node.now (json_view report)) }
+{
+    json!(in alloc; {
+        "author": numbers.author,
+        "call": numbers.call,
+        "entry": numbers.entry,
+        "kind": "report",
+        "node": node,
+        "report": report
     })
 }
 

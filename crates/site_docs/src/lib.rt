@@ -1,4 +1,4 @@
-//! The texts of documents: catalogs, logs, faults, sites, journals and replies.
+//! The texts of documents: catalogs, logs, faults, sites, reports, journals and replies.
 #![tactic(auto)]
 
 pub mod catalog_texts;
@@ -9,6 +9,7 @@ mod json_output;
 mod lines;
 pub mod log_texts;
 pub mod replies;
+pub mod report_texts;
 mod resource_forms;
 pub mod site_texts;
 mod value_output;
@@ -19,4 +20,5 @@ pub use fault_texts::{fault_text, write_fault};
 pub use journals::write_journal;
 pub use log_texts::log_text;
 pub use replies::write_reply;
+pub use report_texts::{reports_are_told_apart, write_report};
 pub use site_texts::site_text;

@@ -3,7 +3,7 @@ ghost use Rattle.std.specs.Prelude.{◌≡◌, ◌∷◌, ◌++◌, [], false, I
 ghost use Rattle.serde_json.specs.View.{view as json_view};
 ghost use Rattle.serde_json.specs.Written.{compact_text, has_float};
 ghost use Rattle.res_core.specs.RequestViews.{asked};
-ghost use Rattle.site_docs.specs.ReplyText.{node_of, seen_of, served_text, refused_object as object_of_refused, full_object as object_of_full, ahead_object as object_of_ahead, unknown_object as object_of_unknown, deactivated_object as object_of_deactivated, memory_object as object_of_memory, reply_text, reply_line};
+ghost use Rattle.site_docs.specs.ReplyText.{node_of, seen_of, served_text, refused_object as object_of_refused, full_object as object_of_full, ahead_object as object_of_ahead, unknown_object as object_of_unknown, deactivated_object as object_of_deactivated, deployed_object as object_of_deployed, reported_object as object_of_reported, memory_object as object_of_memory, reply_text, reply_line};
 
 use crate::resource_forms::json_text;
 use pp_values::memory::Memory;
@@ -59,6 +59,8 @@ fn reply_text<L: Language>(
         ReplyOf::SeenAhead { length } => ahead(alloc, index, *length, seen_of(request)),
         ReplyOf::UnknownNode { k } => unknown(alloc, index, *k, node_of(request)),
         ReplyOf::Deactivated { entry } => deactivated(alloc, index, *entry),
+        ReplyOf::Deployed { entry } => deployed(alloc, index, *entry),
+        ReplyOf::Reported { entry } => reported(alloc, index, *entry),
         ReplyOf::Memory => memory(alloc, index),
     }
 }
@@ -166,6 +168,36 @@ fn deactivated_object(alloc: Global, index: u32, entry: u32) -> Result<Json, All
     ensures { IfOk result (λ j. json_view j ≡ object_of_deactivated index entry) }
 {
     json!(in alloc; {"entry": entry, "reply": index})
+}
+
+#[tactic(auto, using(crate::proofs::Floats::deployed_no_float))]
+fn deployed(alloc: Global, index: u32, entry: u32) -> Result<Text, Memory>
+    ensures { IfOk result (λ t. t ≡ compact_text (object_of_deployed index entry)) }
+{
+    let form = deployed_object(alloc, index, entry)?;
+    json_text(alloc, &form)
+}
+
+#[tactic(auto, unfolding(crate::specs::ReplyText::deployed_object))]
+fn deployed_object(alloc: Global, index: u32, entry: u32) -> Result<Json, AllocError>
+    ensures { IfOk result (λ j. json_view j ≡ object_of_deployed index entry) }
+{
+    json!(in alloc; {"deployed": entry, "reply": index})
+}
+
+#[tactic(auto, using(crate::proofs::Floats::reported_no_float))]
+fn reported(alloc: Global, index: u32, entry: u32) -> Result<Text, Memory>
+    ensures { IfOk result (λ t. t ≡ compact_text (object_of_reported index entry)) }
+{
+    let form = reported_object(alloc, index, entry)?;
+    json_text(alloc, &form)
+}
+
+#[tactic(auto, unfolding(crate::specs::ReplyText::reported_object))]
+fn reported_object(alloc: Global, index: u32, entry: u32) -> Result<Json, AllocError>
+    ensures { IfOk result (λ j. json_view j ≡ object_of_reported index entry) }
+{
+    json!(in alloc; {"reply": index, "reported": entry})
 }
 
 #[tactic(auto, using(crate::proofs::Floats::memory_no_float))]

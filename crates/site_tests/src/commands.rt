@@ -63,7 +63,7 @@ const EMPTY: &str =
 const BUNDLE: &str = r#"{"bundle": 1, "files": {"manifests/site.pp": ""}, "nodes": {"a": {}}}"#;
 
 const OPENED: &str =
-    r#"{"entry":0,"journal":1,"kind":"open","site":{"files":{"manifests/site.pp":""},"nodes":{"a":{}}}}
+    r#"{"entry":0,"journal":2,"kind":"open","site":{"files":{"manifests/site.pp":""},"nodes":{"a":{}}}}
 {"entries":1}
 "#;
 
@@ -72,7 +72,7 @@ const UNKNOWN: &str =
     r#"{"bundle": 1, "files": {"manifests/site.pp": ""}, "requests": [{"node": "z"}]}"#;
 
 const REFUSED: &str =
-    r#"{"entry":0,"journal":1,"kind":"open","site":{"files":{"manifests/site.pp":""},"nodes":{}}}
+    r#"{"entry":0,"journal":2,"kind":"open","site":{"files":{"manifests/site.pp":""},"nodes":{}}}
 {"entries":1}
 {"k":1,"reply":0,"unknown":"z"}
 "#;
@@ -82,14 +82,14 @@ const LOGGED: &str =
     r#"{"bundle": 1, "files": {"manifests/site.pp": "notice('a')"}, "nodes": {"a": {}}, "requests": [{"node": "a"}]}"#;
 
 const SERVED: &str =
-    r#"{"entry":0,"journal":1,"kind":"open","site":{"files":{"manifests/site.pp":"notice('a')"},"nodes":{"a":{}}}}
+    r#"{"entry":0,"journal":2,"kind":"open","site":{"files":{"manifests/site.pp":"notice('a')"},"nodes":{"a":{}}}}
 {"author":0,"call":0,"entry":1,"facts":{},"k":1,"kind":"publish","node":"a","set":[]}
 {"entries":2}
 {"catalog":{"catalog":1,"edges":[],"node":"a","resources":[{"attrs":{},"in":[],"tags":["class","main"],"title":"main","type":"Class"}]},"entry":1,"k":1,"reply":0}
 "#;
 
 /// Faulty words, and input that no command reads.
-const WORDS: [Run<'static>; 43] = [
+const WORDS: [Run<'static>; 49] = [
     // Faulty words.
     ("", "", NONE, 10, "", USAGE),
     ("manifest", "", NONE, 10, "", USAGE),
@@ -123,6 +123,12 @@ const WORDS: [Run<'static>; 43] = [
     ("lookup|n|k|--merge|", "", NONE, 10, "", "bad word \n"),
     ("manifest|a b", "", NONE, 10, "", "bad word a b\n"),
     ("manifest|é", "", NONE, 10, "", "bad word é\n"),
+    ("demo", "", NONE, 10, "", USAGE),
+    ("demo|1|1", "", NONE, 10, "", USAGE),
+    ("Demo|1", "", NONE, 10, "", USAGE),
+    ("demo|0", "", NONE, 10, "", "bad word 0\n"),
+    ("demo|4097", "", NONE, 10, "", "bad word 4097\n"),
+    ("demo|017", "", NONE, 10, "", "bad word 017\n"),
     // Input that no command reads.
     ("sequence", "", NONE, 11, "", "B1\n"),
     ("sequence", "{", NONE, 11, "", "B1\n"),
@@ -159,7 +165,7 @@ const WORDS: [Run<'static>; 43] = [
 ];
 
 /// Catalogs, faults and bundles.
-const ANSWERS: [Run<'static>; 15] = [
+const ANSWERS: [Run<'static>; 16] = [
     // Catalogs and faults of a node.
     (
         "manifest|web-1.example_0",
@@ -226,13 +232,22 @@ const ANSWERS: [Run<'static>; 15] = [
         "",
         "F1 manifests/site.pp:3 Syntax\n",
     ),
+    // The demo.
+    (
+        "demo|17",
+        "",
+        NONE,
+        0,
+        "nodes 17\nserved 34\nresources 71\nentries 35\n",
+        "",
+    ),
     // Bundles.
     (
         "sequence",
         r#"{"bundle": 1, "files": {"manifests/site.pp": ""}, "nodes": {"a": {}}, "requests": [{"node": "a"}]}"#,
         NONE,
         0,
-        r#"{"entry":0,"journal":1,"kind":"open","site":{"files":{"manifests/site.pp":""},"nodes":{"a":{}}}}
+        r#"{"entry":0,"journal":2,"kind":"open","site":{"files":{"manifests/site.pp":""},"nodes":{"a":{}}}}
 {"author":0,"call":0,"entry":1,"facts":{},"k":1,"kind":"publish","node":"a","set":[]}
 {"entries":2}
 {"catalog":{"catalog":1,"edges":[],"node":"a","resources":[{"attrs":{},"in":[],"tags":["class","main"],"title":"main","type":"Class"}]},"entry":1,"k":1,"reply":0}
@@ -244,7 +259,7 @@ const ANSWERS: [Run<'static>; 15] = [
         r#"{"bundle": 1, "files": {"manifests/site.pp": "@@notify { 'me': }\nNotify <<| |>>"}, "nodes": {"a": {}}, "requests": [{"node": "a"}, {"node": "a"}]}"#,
         NONE,
         0,
-        r#"{"entry":0,"journal":1,"kind":"open","site":{"files":{"manifests/site.pp":"@@notify { 'me': }\nNotify <<| |>>"},"nodes":{"a":{}}}}
+        r#"{"entry":0,"journal":2,"kind":"open","site":{"files":{"manifests/site.pp":"@@notify { 'me': }\nNotify <<| |>>"},"nodes":{"a":{}}}}
 {"author":0,"call":0,"entry":1,"facts":{},"k":1,"kind":"publish","node":"a","set":[{"at":"manifests/site.pp:1","attrs":{},"tags":["class","main","me","notify"],"title":"me","type":"Notify"}]}
 {"author":0,"call":1,"entry":2,"facts":{},"k":2,"kind":"publish","node":"a","set":[{"at":"manifests/site.pp:1","attrs":{},"tags":["class","main","me","notify"],"title":"me","type":"Notify"}]}
 {"entries":3}
@@ -258,7 +273,7 @@ const ANSWERS: [Run<'static>; 15] = [
         r#"{"bundle": 1, "files": {"manifests/site.pp": "@@notify { 'me': }\nNotify <<| |>>"}, "nodes": {"a": {}, "b": {}}, "requests": [{"node": "a"}, {"node": "b"}]}"#,
         NONE,
         1,
-        r#"{"entry":0,"journal":1,"kind":"open","site":{"files":{"manifests/site.pp":"@@notify { 'me': }\nNotify <<| |>>"},"nodes":{"a":{},"b":{}}}}
+        r#"{"entry":0,"journal":2,"kind":"open","site":{"files":{"manifests/site.pp":"@@notify { 'me': }\nNotify <<| |>>"},"nodes":{"a":{},"b":{}}}}
 {"author":0,"call":0,"entry":1,"facts":{},"k":1,"kind":"publish","node":"a","set":[{"at":"manifests/site.pp:1","attrs":{},"tags":["class","main","me","notify"],"title":"me","type":"Notify"}]}
 {"entries":2}
 {"catalog":{"catalog":1,"edges":[],"node":"a","resources":[{"attrs":{},"in":[],"tags":["class","main"],"title":"main","type":"Class"},{"attrs":{},"in":[0],"tags":["class","main","me","notify"],"title":"me","type":"Notify"}]},"entry":1,"k":1,"reply":0}
@@ -271,7 +286,7 @@ const ANSWERS: [Run<'static>; 15] = [
         r#"{"bundle": 1, "files": {"manifests/site.pp": ""}, "nodes": {"a": {}}, "requests": [{"node": "z"}, {"node": "a", "seen": 2}]}"#,
         NONE,
         1,
-        r#"{"entry":0,"journal":1,"kind":"open","site":{"files":{"manifests/site.pp":""},"nodes":{"a":{}}}}
+        r#"{"entry":0,"journal":2,"kind":"open","site":{"files":{"manifests/site.pp":""},"nodes":{"a":{}}}}
 {"entries":1}
 {"k":1,"reply":0,"unknown":"z"}
 {"length":1,"reply":1,"seen":2}
@@ -283,7 +298,7 @@ const ANSWERS: [Run<'static>; 15] = [
         r#"{"bundle": 1, "files": {"manifests/site.pp": "notify { 'a'"}, "requests": [{"deactivate": "b"}, {"node": "b", "facts": {}}]}"#,
         NONE,
         1,
-        r#"{"entry":0,"journal":1,"kind":"open","site":{"files":{"manifests/site.pp":"notify { 'a'"},"nodes":{}}}
+        r#"{"entry":0,"journal":2,"kind":"open","site":{"files":{"manifests/site.pp":"notify { 'a'"},"nodes":{}}}
 {"author":0,"call":0,"entry":1,"kind":"deactivate","node":"b"}
 {"entries":2}
 {"entry":1,"reply":0}
@@ -297,7 +312,7 @@ const ANSWERS: [Run<'static>; 15] = [
         r#"{"bundle": 1, "files": {"manifests/site.pp": "@@notify { 'me': }\nNotify <<| |>>"}, "nodes": {"a": {}}, "requests": [{"node": "a"}, {"node": "a"}]}"#,
         NONE,
         0,
-        r#"{"entry":0,"journal":1,"kind":"open","site":{"files":{"manifests/site.pp":"@@notify { 'me': }\nNotify <<| |>>"},"nodes":{"a":{}}}}
+        r#"{"entry":0,"journal":2,"kind":"open","site":{"files":{"manifests/site.pp":"@@notify { 'me': }\nNotify <<| |>>"},"nodes":{"a":{}}}}
 {"author":0,"call":0,"entry":1,"facts":{},"k":1,"kind":"publish","node":"a","set":[{"at":"manifests/site.pp:1","attrs":{},"tags":["class","main","me","notify"],"title":"me","type":"Notify"}]}
 {"author":0,"call":1,"entry":2,"facts":{},"k":2,"kind":"publish","node":"a","set":[{"at":"manifests/site.pp:1","attrs":{},"tags":["class","main","me","notify"],"title":"me","type":"Notify"}]}
 {"entries":3}
@@ -311,7 +326,7 @@ const ANSWERS: [Run<'static>; 15] = [
         r#"{"bundle": 1, "files": {"manifests/site.pp": ""}, "nodes": {"a": {}}, "requests": [{"node": "z"}, {"node": "a", "seen": 2}]}"#,
         NONE,
         1,
-        r#"{"entry":0,"journal":1,"kind":"open","site":{"files":{"manifests/site.pp":""},"nodes":{"a":{}}}}
+        r#"{"entry":0,"journal":2,"kind":"open","site":{"files":{"manifests/site.pp":""},"nodes":{"a":{}}}}
 {"entries":1}
 {"k":1,"reply":0,"unknown":"z"}
 {"length":1,"reply":1,"seen":2}
@@ -321,7 +336,7 @@ const ANSWERS: [Run<'static>; 15] = [
 ];
 
 /// Streams that fail, refusals that are written, and logs.
-const STREAMS: [Run<'static>; 33] = [
+const STREAMS: [Run<'static>; 35] = [
     // Streams that fail.
     ("manifest|n", GOOD, (1, 0, 0), 12, "", "read fault\n"),
     ("manifest|n", GOOD, (2, 0, 0), 12, "", "read fault\n"),
@@ -397,6 +412,16 @@ const STREAMS: [Run<'static>; 33] = [
     // Logs of bundles are dropped.
     ("sequence", LOGGED, (0, 0, 1), 0, SERVED, ""),
     ("batch", LOGGED, (0, 0, 1), 0, SERVED, ""),
+    // A demo reads nothing, so no read of it fails.
+    (
+        "demo|1",
+        "{",
+        (1, 0, 1),
+        0,
+        "nodes 1\nserved 2\nresources 4\nentries 3\n",
+        "",
+    ),
+    ("demo|1", "", (0, 1, 0), 13, "", ""),
 ];
 
 #[test]

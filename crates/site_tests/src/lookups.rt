@@ -161,7 +161,7 @@ const LOOKUPS: [Run<'static>; 34] = [
         r#"{"bundle": 1, "files": {"manifests/site.pp": "node default { @@host { $trusted['certname']: ip => $facts['networking']['ip'], tag => 'web' } }\nnode 'lb' { Host <<| tag == 'web' |>> }\n"}, "nodes": {"lb": {}, "web1": {"networking": {"ip": "10.0.0.1"}}}, "requests": [{"node": "lb"}, {"node": "web1"}, {"node": "lb"}, {"deactivate": "web1"}, {"node": "lb"}]}"#,
         NONE,
         0,
-        r#"{"entry":0,"journal":1,"kind":"open","site":{"files":{"manifests/site.pp":"node default { @@host { $trusted['certname']: ip => $facts['networking']['ip'], tag => 'web' } }\nnode 'lb' { Host <<| tag == 'web' |>> }\n"},"nodes":{"lb":{},"web1":{"networking":{"ip":"10.0.0.1"}}}}}
+        r#"{"entry":0,"journal":2,"kind":"open","site":{"files":{"manifests/site.pp":"node default { @@host { $trusted['certname']: ip => $facts['networking']['ip'], tag => 'web' } }\nnode 'lb' { Host <<| tag == 'web' |>> }\n"},"nodes":{"lb":{},"web1":{"networking":{"ip":"10.0.0.1"}}}}}
 {"author":0,"call":0,"entry":1,"facts":{},"k":1,"kind":"publish","node":"lb","set":[]}
 {"author":0,"call":1,"entry":2,"facts":{"networking":{"ip":"10.0.0.1"}},"k":2,"kind":"publish","node":"web1","set":[{"at":"manifests/site.pp:1","attrs":{"ip":"10.0.0.1"},"tags":["class","host","main","web","web1"],"title":"web1","type":"Host"}]}
 {"author":0,"call":2,"entry":3,"facts":{},"k":3,"kind":"publish","node":"lb","set":[]}
@@ -181,7 +181,7 @@ const LOOKUPS: [Run<'static>; 34] = [
         r#"{"bundle":1,"files":{"manifests/site.pp":""},"nodes":{"a":{"load":0.5,"n":3}},"requests":[{"node":"a"},{"node":"b","facts":{"load":0.5,"n":3}}]}"#,
         NONE,
         0,
-        r#"{"entry":0,"journal":1,"kind":"open","site":{"files":{"manifests/site.pp":""},"nodes":{"a":{"load":null,"n":3}}}}
+        r#"{"entry":0,"journal":2,"kind":"open","site":{"files":{"manifests/site.pp":""},"nodes":{"a":{"load":null,"n":3}}}}
 {"author":0,"call":0,"entry":1,"facts":{"load":null,"n":3},"k":1,"kind":"publish","node":"a","set":[]}
 {"author":0,"call":1,"entry":2,"facts":{"load":null,"n":3},"k":2,"kind":"publish","node":"b","set":[]}
 {"entries":3}
@@ -195,7 +195,7 @@ const LOOKUPS: [Run<'static>; 34] = [
         r#"{"bundle": 1, "files": {"manifests/site.pp": "include ntp\n", "modules/ntp/manifests/init.pp": "class ntp($servers, $package = 'ntp') {\n  package { $package: ensure => installed }\n  file { '/etc/ntp.conf': content => join($servers, ' ') }\n}\n", "hiera.yaml": "{\"version\":5,\"hierarchy\":[{\"name\":\"nodes\",\"path\":\"nodes/%{trusted.certname}.json\"},{\"name\":\"common\",\"path\":\"common.json\"}]}", "data/common.json": "{\"ntp::servers\":[\"0.pool\",\"1.pool\"]}", "data/nodes/web1.json": "{\"ntp::servers\":[\"10.0.0.9\"]}"}, "nodes": {"a": {}, "web1": {}}, "requests": [{"node": "a"}, {"node": "web1"}]}"#,
         NONE,
         0,
-        r#"{"entry":0,"journal":1,"kind":"open","site":{"files":{"data/common.json":"{\"ntp::servers\":[\"0.pool\",\"1.pool\"]}","data/nodes/web1.json":"{\"ntp::servers\":[\"10.0.0.9\"]}","hiera.yaml":"{\"version\":5,\"hierarchy\":[{\"name\":\"nodes\",\"path\":\"nodes/%{trusted.certname}.json\"},{\"name\":\"common\",\"path\":\"common.json\"}]}","manifests/site.pp":"include ntp\n","modules/ntp/manifests/init.pp":"class ntp($servers, $package = 'ntp') {\n  package { $package: ensure => installed }\n  file { '/etc/ntp.conf': content => join($servers, ' ') }\n}\n"},"nodes":{"a":{},"web1":{}}}}
+        r#"{"entry":0,"journal":2,"kind":"open","site":{"files":{"data/common.json":"{\"ntp::servers\":[\"0.pool\",\"1.pool\"]}","data/nodes/web1.json":"{\"ntp::servers\":[\"10.0.0.9\"]}","hiera.yaml":"{\"version\":5,\"hierarchy\":[{\"name\":\"nodes\",\"path\":\"nodes/%{trusted.certname}.json\"},{\"name\":\"common\",\"path\":\"common.json\"}]}","manifests/site.pp":"include ntp\n","modules/ntp/manifests/init.pp":"class ntp($servers, $package = 'ntp') {\n  package { $package: ensure => installed }\n  file { '/etc/ntp.conf': content => join($servers, ' ') }\n}\n"},"nodes":{"a":{},"web1":{}}}}
 {"author":0,"call":0,"entry":1,"facts":{},"k":1,"kind":"publish","node":"a","set":[]}
 {"author":0,"call":1,"entry":2,"facts":{},"k":2,"kind":"publish","node":"web1","set":[]}
 {"entries":3}

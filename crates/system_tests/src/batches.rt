@@ -8,6 +8,7 @@ use res_core::exports::Exports;
 use site_batch::{BatchResult, run_batch};
 use site_core::compile_stop::CompileStop;
 use site_core::language::Language;
+use site_core::site_stop::SiteStop;
 use site_io::OpenGate;
 use std::alloc::Global;
 use std::sync::atomic::{AtomicU64, Ordering};
@@ -65,6 +66,8 @@ impl Language for Meeting {
 
     ghost listed = { λ _ _. None };
 
+    ghost said_site = { λ _. None };
+
     ghost site_form = { λ _. [] };
 
     ghost catalog_form = { λ _. [] };
@@ -92,6 +95,10 @@ impl Language for Meeting {
 
     fn facts_of<'a>(&self, _site: &'a ToySite, _node: &Text) -> Option<&'a Value> {
         None
+    }
+
+    fn site_of(&self, _alloc: Global, _body: &[u8]) -> Result<ToySite, SiteStop> {
+        Err(SiteStop::Bad)
     }
 
     fn site_text(&self, alloc: Global, _site: &ToySite) -> Result<Text, Memory> {

@@ -6,6 +6,7 @@ ghost use Rattle.res_core.specs.AskedFacts.{has_facts};
 ghost use Rattle.site_core.specs.declared.history.TheConstants.{MOST_ENTRIES};
 ghost use Rattle.shared_site.specs.Known.{held};
 
+use agent_machine::{Report, ReportLines};
 use pp_values::memory::Memory;
 use pp_values::text::Text;
 use pp_values::value::Value;
@@ -16,12 +17,13 @@ use site_io::{Gate, OpenGate};
 use std::alloc::Global;
 use std::sync::{Mutex, Wait};
 use std::test::Fail;
-use toy_language::{Toy, toy_site, write_entries, write_reply};
+use toy_language::{Toy, strict_site, toy_site, write_entries, write_reply};
 
 fn opened(alloc: Global, limit: u32) -> Result<(SharedSite<Toy>, SitePass<Toy>), Memory>
     requires low { 1 ≤ limit }
     requires high { limit ≤ MOST_ENTRIES }
-    ensures { IfOk result (λ r. (r.1.site ≡ r.0) × (r.1.room ≡ 65535) × (held r.1 ≡ 1)) }
+    ensures { IfOk result (λ r.
+        (r.1.site ≡ r.0) × (r.1.room ≡ 65535) × (held r.1 ≡ 1) × (r.1.terms.limit ≡ limit)) }
 {
     SharedSite::open(alloc, Toy, toy_site(alloc), limit)
 }
@@ -52,7 +54,15 @@ fn asked(alloc: Global, event: &str) -> Result<CompileRequest, Memory>
     }
 }
 
-/// One call: a compile, or `-a` to deactivate node `a`.
+fn report(alloc: Global, node: &str) -> Result<Report, Memory> {
+    Ok(Report {
+        node: Text::from_str(alloc, node)?,
+        lines: ReportLines::from_vec(Vec::new(alloc)),
+    })
+}
+
+/// One call: a compile, `-a` to deactivate node `a`, `!` to deploy the strict site, or `?a` to file a report of node
+/// `a`.
 fn play<G: Gate, R: Wait>(
     rt: &R,
     alloc: Global,
@@ -64,10 +74,18 @@ fn play<G: Gate, R: Wait>(
     requires { pass.old.site ≡ site.now }
     ensures site { pass.new.site ≡ site.now }
     ensures share { (pass.new.room ≡ pass.old.room) × (pass.new.numbers ≡ pass.old.numbers) }
+    ensures terms { pass.new.terms ≡ pass.old.terms }
 {
     if let Some(node) = event.strip_prefix("-") {
         let node = Text::from_str(alloc, node)?;
         return Ok(site.deactivate(rt, alloc, pass, &node));
+    }
+    if event == "!" {
+        return Ok(site.deploy(rt, alloc, pass, strict_site(alloc)));
+    }
+    if let Some(node) = event.strip_prefix("?") {
+        let report = report(alloc, node)?;
+        return Ok(site.file_report(rt, alloc, pass, report));
     }
     let request = asked(alloc, event)?;
     Ok(site.serve_one(rt, alloc, pass, &request, gate))
@@ -85,6 +103,7 @@ fn play_all<R: Wait>(
     requires { pass.old.site ≡ site.now }
     ensures site { pass.new.site ≡ site.now }
     ensures share { (pass.new.room ≡ pass.old.room) × (pass.new.numbers ≡ pass.old.numbers) }
+    ensures terms { pass.new.terms ≡ pass.old.terms }
 {
     for event in events.split_whitespace() {
         let reply = play(rt, alloc, site, pass, event, &OpenGate)?;
@@ -112,7 +131,7 @@ fn comes_to<R: Wait>(
     Ok(out.as_str() == want)
 }
 
-const CALLS: [(u32, &str, &str); 5] = [
+const CALLS: [(u32, &str, &str); 7] = [
     // Facts are listed for node `a` alone. What a node exports is found from its next call on.
     (
         9,
@@ -131,12 +150,24 @@ const CALLS: [(u32, &str, &str); 5] = [
         "a a -a +bad b a/3",
         "served 1 1 false;full 2;full 2;refused 2 bad;unknown 2;ahead 2;open;publish 0 0 a 1;",
     ),
-    (1, "a -a", "full 1;full 1;open;"),
+    (1, "a -a ! ?a", "full 1;full 1;full 1;full 1;open;"),
     // A node's set ends, and so may one that it never had.
     (
         9,
         "a -a +b -none",
         "served 1 1 false;deactivated 2;served 3 3 false;deactivated 4;open;publish 0 0 a 1;gone 0 1 a;publish 0 2 b 3;gone 0 3 none;",
+    ),
+    // A site that is deployed counts from the next call on. What nodes export stays.
+    (
+        9,
+        "a +b ! +b a",
+        "served 1 1 false;served 2 2 true;deployed 3;refused 4 b;served 4 4 true;open;publish 0 0 a 1;publish 0 1 b 2;deploy 0 2;publish 0 3 a 4;",
+    ),
+    // A report changes neither the site nor a set, though its node exports something.
+    (
+        9,
+        "?a a ?a +b",
+        "reported 1;served 2 2 false;reported 3;served 4 4 true;open;report 0 0 a;publish 0 1 a 2;report 0 2 a;publish 0 3 b 4;",
     ),
 ];
 
@@ -239,7 +270,7 @@ fn nested_comes_to<R: Wait>(
 }
 
 /// In the history and for the replies, the inner event comes first.
-const NESTED: [(u32, [&str; 4], &str); 5] = [
+const NESTED: [(u32, [&str; 4], &str); 7] = [
     // The call that ends first has the first entry, and the other one is not refused. There was one inner call.
     (
         9,
@@ -264,6 +295,17 @@ const NESTED: [(u32, [&str; 4], &str); 5] = [
         ["a", "+bad", "+b", "-none"],
         "served 1 1 false;served 2 2 true;refused 2 bad;deactivated 3;",
     ),
+    // A compile that has begun keeps the site that it began with, whatever is deployed meanwhile.
+    (
+        9,
+        ["", "+b", "!", "+b"],
+        "deployed 1;served 2 1 false;refused 3 b;",
+    ),
+    (
+        9,
+        ["!", "+b", "?b", "a"],
+        "deployed 1;reported 2;refused 2 b;served 3 3 false;",
+    ),
     // The last place goes to the call that ends first.
     (2, ["", "a", "a", "a"], "served 1 1 false;full 2;full 2;"),
 ];
@@ -275,6 +317,77 @@ fn a_call_ends_in_the_middle_of_another(rt: HostRuntime) -> Result<(), Fail> {
             nested_comes_to(&rt, rt.alloc(), *limit, events, want)?,
             "{want}"
         );
+    }
+    Ok(())
+}
+
+/// Whether the events before, and after a resumption those of a first pass and of a second one, come to these replies
+/// and this history.
+fn resumed_comes_to<R: Wait>(
+    rt: &R,
+    alloc: Global,
+    events: &[&str; 3],
+    want: &str,
+) -> Result<bool, Memory> {
+    let [before, first, second] = events;
+    let mut out = String::new(alloc);
+    let (site, mut pass) = opened(alloc, 9)?;
+    play_all(rt, alloc, &mut out, &site, &mut pass, before)?;
+    let Ok((site, mut pass)) = SharedSite::resume(alloc, Toy, site.close(pass), 9) else {
+        return Err(Memory);
+    };
+    let mut other = site.split(rt, &mut pass)?;
+    play_all(rt, alloc, &mut out, &site, &mut pass, first)?;
+    play_all(rt, alloc, &mut out, &site, &mut other, second)?;
+    site.join(&mut pass, other);
+    let history = site.close(pass);
+    write_entries(&mut out, history.entries.as_slice())?;
+    Ok(out.as_str() == want)
+}
+
+const RESUMED: [([&str; 3], &str); 2] = [
+    // New authors come behind all that have entries, and sets and site go on.
+    (
+        ["a ! -none", "+b a", "-a"],
+        "served 1 1 false;deployed 2;deactivated 3;refused 4 b;served 4 4 true;deactivated 5;open;publish 0 0 a 1;deploy 0 1;gone 0 2 none;publish 1 0 a 4;gone 2 0 a;",
+    ),
+    // Where nobody has an entry they begin with 0.
+    (
+        ["", "a", "?a"],
+        "served 1 1 false;reported 2;open;publish 0 0 a 1;report 1 0 a;",
+    ),
+];
+
+#[test]
+fn a_history_is_gone_on_with(rt: HostRuntime) -> Result<(), Fail> {
+    for (events, want) in RESUMED.iter() {
+        assert!(rt; resumed_comes_to(&rt, rt.alloc(), events, want)?, "{want}");
+    }
+    Ok(())
+}
+
+/// Whether after the events a second pass is told that just these of the nodes `a` and `b` export something.
+fn have_sets<R: Wait>(rt: &R, alloc: Global, events: &str, want: &str) -> Result<bool, Memory> {
+    let (site, mut pass) = opened(alloc, 9)?;
+    let mut other = site.split(rt, &mut pass)?;
+    let mut out = String::new(alloc);
+    play_all(rt, alloc, &mut out, &site, &mut pass, events)?;
+    let sets = site.sets(rt, alloc, &mut other)?;
+    let mut nodes = String::new(alloc);
+    for node in ["a", "b"].iter() {
+        if sets.get(&Text::from_str(alloc, node)?).is_some() {
+            nodes.push_str(node)?;
+        }
+    }
+    Ok(nodes.as_str() == want && other.seen() == pass.seen())
+}
+
+const SETS: [(&str, &str); 3] = [("", ""), ("a +b", "ab"), ("a +b ! -a ?a", "b")];
+
+#[test]
+fn sets_are_told(rt: HostRuntime) -> Result<(), Fail> {
+    for (events, want) in SETS.iter() {
+        assert!(rt; have_sets(&rt, rt.alloc(), events, want)?, "{events}");
     }
     Ok(())
 }

@@ -7,4 +7,4 @@ mod toy;
 
 pub use asking::{compile, request, requests};
 pub use lines::{write_entries, write_reply};
-pub use toy::{Toy, ToySite, toy_site};
+pub use toy::{Toy, ToySite, strict_site, toy_site};

@@ -2,9 +2,9 @@ use Rattle.site_commands.proofs.Worked.{ends_worked, ends_stopped}
 use Rattle.site_commands.proofs.site.plain_command.Goals as goal
 
 pub returns-in-Ok : goal.returns-in-Ok
-returns-in-Ok g c = λ words asked. ends_worked c.work.result words c.args.command _ _ _ _ _ _ _ _ asked
-    c.limit_of.ensures c.in-Ok.ensures.all c.work.ensures
+returns-in-Ok g c = λ words asked. ends_worked c.work.result words c.args.command _ _ _ _ _ _ _ asked
+    c.in-Ok.ensures.all c.work.ensures
 
 pub returns-in-Err : goal.returns-in-Err
-returns-in-Err g c = λ words asked. ends_stopped _ c.give_up.result words c.args.command _ _ _ _ _ _ asked
-    c.limit_of.ensures c.in-Err.ensures.stop c.give_up.ensures
+returns-in-Err g c = λ words asked. ends_stopped _ c.give_up.result words c.args.command _ _ _ _ _ asked
+    c.in-Err.ensures.reads c.in-Err.ensures.stop c.give_up.ensures

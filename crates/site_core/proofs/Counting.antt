@@ -14,7 +14,7 @@ one_more true n = omega arith
 one_more false n = omega arith
 
 raise_is : (b : Bool) (n : ℕ) → cond b (n + 1) n ≡ n + cond b 1 0
-raise_is true n = refl
+raise_is true n = omega arith
 raise_is false n = omega arith
 
 module _ {S : Type 0} where

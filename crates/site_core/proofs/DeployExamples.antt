@@ -1,24 +1,19 @@
 -- A site that takes another one's place, reports, and a history that is gone on with.
-use Rattle.std.proofs.Common.{◌≡◌, ℕ, ◌+◌, ◌≤◌, [], ◌∷◌, List, Option, None, Some, Result, Ok, Err, length, refl, ap, arith}
-use Rattle.std.specs.Prelude.{codes, slice_get, if◌then◌else◌, nat_eq}
+use Rattle.std.proofs.Common.{◌≡◌, ℕ, ◌≤◌, [], ◌∷◌, List, Option, None, Some, Result, Ok, Err, length, refl, ap, arith}
+use Rattle.std.specs.Prelude.{codes, if◌then◌else◌, nat_eq}
 use Rattle.std.proofs.Math.Dec.{lit≤}
 use Rattle.std.specs.FinMap as fin
-use Rattle.list_sums.specs.Counts.{total, times, below}
-use Rattle.list_sums.proofs.Marks.{below_next, below_no}
 use Rattle.pp_values.specs.Datum.{Datum, hash, no_entries}
-use Rattle.res_core.specs.Asked.{Wanted}
 use Rattle.res_core.specs.declared.export_set.ExportSet.{ExportSet}
 use Rattle.agent_machine.specs.declared.report.Report.{Report}
 use Rattle.site_core.specs.Asked.{Asked, compile, plain, filed}
 use Rattle.site_core.specs.Meaning.{Meaning}
-use Rattle.site_core.specs.Events.{Event, opens, publishes, adds, calls_of, next_entry}
+use Rattle.site_core.specs.Events.{Event, opens, publishes, adds}
 use Rattle.site_core.specs.Fits.{Fits, had, named}
 use Rattle.site_core.specs.Legal.{Legal}
 use Rattle.site_core.specs.Resuming.{base_of, Resumes}
-use Rattle.site_core.specs.Runs.{Hand, is_hand_of, times_in, Continues}
 use Rattle.site_core.specs.Sets.{sets_at, site_at}
 use Rattle.site_core.specs.Steps.{snap, done, add, resumed_state, after_steps}
-use Rattle.site_core.specs.declared.plain.Plain.{Plain}
 use Rattle.site_core.specs.declared.plain.Plain.TheVariants as ask
 use Rattle.site_core.specs.declared.reply.ReplyOf.{ReplyOf}
 use Rattle.site_core.specs.declared.reply.ReplyOf.TheVariants as r

@@ -39,6 +39,12 @@ stands_moved base numbers (Some author) = dite (dec_le base author)
     (λ other. let earlier : author < base = omega (arith, other) in
     ap (stands numbers) (counted_none base author earlier) ∙ sym (times_below base author numbers earlier))
 
+-- the first number of a pass is its own
+pub first_moved : (base author : ℕ) (numbers : List ℕ) → slice_get numbers 0 ≡ Some author →
+    slice_get (map (λ n. base + n) numbers) 0 ≡ Some (base + author)
+first_moved base author [] at = absurd cc
+first_moved base author (x ∷ numbers) at = let is : x ≡ author = cc in ap (λ n. Some (base + n)) is
+
 module _ {S : Type 0} where
   pub authored : (terms : Terms) (h : List (Event S)) (k : ℕ) →
       has_author author_shown (slice_get (map (mark terms) h) k)

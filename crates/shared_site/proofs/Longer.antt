@@ -1,5 +1,5 @@
 -- What contracts see of passes that are split, meet and are joined.
-use Rattle.std.proofs.Common.{◌≡◌, ℕ, ◌+◌, ◌-◌, ◌≤◌, List, [], ◌∷◌, ◌++◌, map, length, sym, ap, subst, ◌∙◌, arith}
+use Rattle.std.proofs.Common.{◌≡◌, ℕ, ◌+◌, ◌-◌, ◌≤◌, max, List, [], ◌∷◌, ◌++◌, map, length, sym, ap, subst, ◌∙◌, arith}
 use Rattle.std.proofs.lemmas.List.{map-append}
 use mathlib.Core.List.{IsPrefix}
 use mathlib.Core.Logic.{dite}
@@ -26,14 +26,20 @@ module _ {S C F : Type 0} (meaning : Meaning S C F) where
   both_terms xs ys now one other longer =
       longer_terms xs ys now (some_seen meaning xs one) (some_seen meaning ys other) longer
 
+  longer_count : (xs ys now : List (Shown S)) (m n : ℕ) → IsLonger xs ys now → m ≡ length xs → n ≡ length ys →
+      max m n ≡ length now
+  longer_count xs ys now m n longer one other = dite (dec_le (length ys) (length xs))
+      (λ le. let is = ap length (longer.0 le).0 in omega (arith, is, le, one, other))
+      (λ not_le. let is = ap length (longer.1 (omega (arith, not_le))).0 in omega (arith, is, not_le, one, other))
+
   -- a pass that met what another one or a note had seen
   pub met_ready : (p q : Held (Shown S)) (other : List (Shown S)) (m n a count : ℕ) → IsReady meaning p m a →
-      IsFront meaning other → q.turn ≡ p.turn → q.author ≡ p.author → IsLonger p.front other q.front →
-      count ≡ length q.front → IsReady meaning q count a
-  met_ready p q other m n a count ready seen turn author longer is = record {
+      IsFront meaning other → n ≡ length other → q.turn ≡ p.turn → q.author ≡ p.author →
+      IsLonger p.front other q.front → count ≡ max m n → IsReady meaning q count a
+  met_ready p q other m n a count ready seen long turn author longer is = record {
     idle = turn ∙ ready.idle;
     seen = longer_front p.front other q.front ready.seen seen longer;
-    count_is = is;
+    count_is = is ∙ longer_count p.front other q.front m n longer ready.count_is long;
     author_is = ready.author_is
         ∙ ap (λ t. t.base + p.author) (sym (both_terms p.front other q.front ready.seen seen longer).0)
         ∙ ap (λ x. (terms_in q.front).base + x) (sym author);

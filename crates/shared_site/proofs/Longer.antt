@@ -1,17 +1,16 @@
 -- What contracts see of passes that are split, meet and are joined.
-use Rattle.std.proofs.Common.{◌≡◌, ℕ, ◌+◌, ◌-◌, ◌≤◌, max, List, [], ◌∷◌, ◌++◌, map, length, sym, ap, subst, ◌∙◌, arith}
+use Rattle.std.proofs.Common.{◌≡◌, ℕ, ◌+◌, ◌-◌, max, List, [], ◌∷◌, ◌++◌, map, length, sym, ap, subst, ◌∙◌, arith}
 use Rattle.std.proofs.lemmas.List.{map-append}
 use mathlib.Core.List.{IsPrefix}
 use mathlib.Core.Logic.{dite}
 use native.Mathlib.Decide.{dec_le}
 use Rattle.hist_lock.specs.Calls.{IsLonger}
-use Rattle.hist_lock.specs.Held.{Held, Noted, taking, giving_back, splitting, split_off, meeting, joining}
+use Rattle.hist_lock.specs.Held.{Held, taking, splitting, split_off, meeting, joining}
 use Rattle.site_core.specs.Meaning.{Meaning}
-use Rattle.shared_site.specs.Shows.{Terms, Shared, Shown, shown, events_in, terms_in, Lasts}
-use Rattle.shared_site.specs.Known.{Known, cut, cut_off, seeing, joined_to}
-use Rattle.shared_site.specs.Seats.{known, IsFront, IsReady, IsHeard}
+use Rattle.shared_site.specs.Shows.{Shared, Shown, shown, events_in, terms_in, Lasts}
+use Rattle.shared_site.specs.Known.{cut, cut_off, seeing, joined_to}
+use Rattle.shared_site.specs.Seats.{known, IsFront, IsReady}
 use Rattle.shared_site.proofs.Calls.{longer_terms}
-use Rattle.shared_site.proofs.Shown.{Begins}
 use Rattle.shared_site.proofs.Turns.{some_seen, found, Looked}
 
 module _ {S C F : Type 0} (meaning : Meaning S C F) where

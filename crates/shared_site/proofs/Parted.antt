@@ -6,7 +6,7 @@ use Rattle.std.proofs.lemmas.List.Elements.{All-nil, All-cons}
 use mathlib.Core.Logic.{dite}
 use native.Mathlib.Decide.{ℕ_discrete, dec_le}
 use Rattle.list_sums.specs.Counts.{below, times}
-use Rattle.list_sums.proofs.Marks.{below_is, below_yes, below_no, below_le}
+use Rattle.list_sums.proofs.Marks.{below_is, below_yes, below_no}
 use Rattle.hist_lock.specs.Calls.{has_author, count_author}
 use Rattle.hist_lock.proofs.Fronts.{at_append, at_end}
 use Rattle.site_core.specs.Events.{Event, opens, author_of}

@@ -1,4 +1,4 @@
-use Rattle.std.proofs.Common.{◌≡◌, ◌≤◌, ℕ, length, Some, slice_get, subst}
+use Rattle.std.proofs.Common.{◌≡◌, ◌≤◌, length, Some, slice_get, subst}
 use Rattle.hist_lock.specs.Calls.{AreCalls}
 use Rattle.site_core.specs.Events.{author_of}
 use Rattle.shared_site.specs.Known.{Known}

@@ -1,7 +1,6 @@
-use Rattle.std.proofs.Common.{◌∙◌, ap, subst, arith}
+use Rattle.std.proofs.Common.{ap, subst, arith}
 use Rattle.hist_lock.specs.Calls.{IsLonger}
 use Rattle.shared_site.specs.Known.{Known, Told}
-use Rattle.shared_site.specs.Seats.{known}
 use Rattle.shared_site.specs.Shows.{events_in}
 use Rattle.shared_site.proofs.Calls.{events_longer}
 use Rattle.shared_site.proofs.Longer.{met_ready}

@@ -59,11 +59,9 @@ hands_of (out ∷ outs) = record { author = out.pass.author; places = out.seat.n
 
 module _ {S : Type 0} where
   -- what the first pass has seen is the history that it was made with
-  pub shares_of : (id : LockId) (s : Shared S) (workers : ℕ) (pass : Known S) (claims : ClaimsId)
-      (shares : List (Share S)) → pass ≡ first_pass id s → AreShares id (seen_by pass) claims workers shares →
-      AreShares id s claims workers shares
-  shares_of id s workers pass claims shares is are =
-      subst (λ p. AreShares id (seen_by p) claims workers shares) is are
+  pub first_seen : (id : LockId) (s : Shared S) (pass : Known S) → pass ≡ first_pass id s →
+      pass ≡ first_pass id (seen_by pass)
+  first_seen id s pass is = is ∙ ap (λ p. first_pass id (seen_by p)) (sym is)
 
   pub idle_all : (id : LockId) (s : Shared S) (workers : ℕ) (claims : ClaimsId)
       (shares : List (Share S)) → AreShares id s claims workers shares → Each (IsIdle id claims) shares

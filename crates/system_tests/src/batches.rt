@@ -1,11 +1,15 @@
-//! Batches over a language whose compiles wait for one another.
+//! Batches over a language whose compiles wait for one another, and over the toy language.
+ghost use Rattle.std.specs.Prelude.{◌≤◌, length, IfOk, IsTrue};
+ghost use Rattle.res_core.specs.AskedFacts.{give_facts};
+
 use export_store::version::Version;
 use pp_values::memory::Memory;
 use pp_values::text::Text;
 use pp_values::value::Value;
 use res_core::export_set::ExportSet;
 use res_core::exports::Exports;
-use site_batch::{BatchResult, run_batch};
+use res_core::requests::Requests;
+use site_batch::{BatchResult, resume_batch, run_batch};
 use site_core::compile_stop::CompileStop;
 use site_core::language::Language;
 use site_core::site_stop::SiteStop;
@@ -15,7 +19,7 @@ use std::sync::atomic::{AtomicU64, Ordering};
 use std::sync::{Arc, Wait};
 use std::test::Fail;
 use std::thread::Threads;
-use toy_language::{ToySite, requests, toy_site};
+use toy_language::{Toy, ToySite, requests, toy_site, write_entries, write_reply};
 
 /// How far the compiles have come.
 #[derive(Drop)]
@@ -120,17 +124,25 @@ fn none_begun(alloc: Global) -> Result<Arc<Begun>, Memory> {
     Ok(Arc::new(alloc, Begun { count, met })?)
 }
 
+/// At most four requests: a batch takes no more than a history may have entries.
+fn few_requests(alloc: Global, words: &str) -> Result<Requests, Memory>
+    ensures few { IfOk result (λ r. length r ≤ 4) }
+    ensures facts { IfOk result (λ r. IsTrue (give_facts r)) }
+{
+    let requests = requests(alloc, words)?;
+    if requests.len() > 4 {
+        return Err(Memory);
+    }
+    Ok(requests)
+}
+
 /// The batch of four compiles which two workers share out.
 fn four_compiles<R: Threads + Wait + Sync>(
     rt: &R,
     alloc: Global,
     begun: Arc<Begun>,
 ) -> Result<BatchResult<Meeting>, Memory> {
-    let requests = requests(alloc, "+a +b +c +d")?;
-    // A batch takes no more requests than a history may have entries.
-    if requests.len() > 4 {
-        return Err(Memory);
-    }
+    let requests = few_requests(alloc, "+a +b +c +d")?;
     let site = toy_site(alloc);
     run_batch(rt, alloc, Meeting { begun }, site, &requests, 2, &OpenGate)
 }
@@ -145,5 +157,58 @@ fn meet<R: Threads + Wait + Sync>(rt: &R, alloc: Global) -> Result<bool, Memory>
 #[test]
 fn two_compiles_overlap(rt: HostRuntime) -> Result<(), Fail> {
     assert!(rt; meet(&rt, rt.alloc())?);
+    Ok(())
+}
+
+/// A batch of these requests, and one more that goes on from its history.
+fn two_batches<R: Threads + Wait + Sync>(
+    rt: &R,
+    alloc: Global,
+    before: &str,
+    after: &str,
+) -> Result<BatchResult<Toy>, Memory> {
+    let first = few_requests(alloc, before)?;
+    let second = few_requests(alloc, after)?;
+    let came = run_batch(rt, alloc, Toy, toy_site(alloc), &first, 1, &OpenGate)?;
+    let BatchResult {
+        history,
+        replies: _,
+    } = came;
+    match resume_batch(rt, alloc, Toy, history, &second, 1, &OpenGate) {
+        Ok(came) => Ok(came),
+        Err(_) => Err(Memory),
+    }
+}
+
+/// Whether they come to these replies of the second one, and to this history.
+fn goes_on<R: Threads + Wait + Sync>(
+    rt: &R,
+    alloc: Global,
+    words: &[&str; 2],
+    want: &str,
+) -> Result<bool, Memory> {
+    let [before, after] = words;
+    let came = two_batches(rt, alloc, before, after)?;
+    let mut out = String::new(alloc);
+    for reply in came.replies.as_slice() {
+        write_reply(&mut out, reply)?;
+    }
+    write_entries(&mut out, came.history.entries.as_slice())?;
+    Ok(out.as_str() == want)
+}
+
+const RESUMED: [([&str; 2], &str); 2] = [
+    (
+        ["a +b", "a/3 -b"],
+        "served 3 3 true;deactivated 4;open;publish 0 0 a 1;publish 0 1 b 2;publish 1 0 a 3;gone 1 1 b;",
+    ),
+    (["", "a"], "served 1 1 false;open;publish 0 0 a 1;"),
+];
+
+#[test]
+fn a_batch_goes_on_from_a_history(rt: HostRuntime) -> Result<(), Fail> {
+    for (words, want) in RESUMED.iter() {
+        assert!(rt; goes_on(&rt, rt.alloc(), words, want)?, "{want}");
+    }
     Ok(())
 }

@@ -32,7 +32,10 @@ fn write_entry(out: &mut String, entry: &Entry<ToySite>) -> Result<(), AllocErro
         Entry::Deactivate { author, call, node } => write!(out, "gone {author} {call} {node};"),
         Entry::Deploy { author, call, .. } => write!(out, "deploy {author} {call};"),
         Entry::Report {
-            author, call, node, ..
+            author,
+            call,
+            node,
+            ..
         } => write!(out, "report {author} {call} {node};"),
     }
 }

@@ -1,4 +1,5 @@
 pub mod ArrowLemmas
+pub mod Examples
 pub mod MarksLemmas
 pub mod NodePaths
 pub mod SpreadLemmas

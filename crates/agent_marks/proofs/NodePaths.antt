@@ -1,7 +1,7 @@
 -- What arrows lead to: from the end of a resource to the begins of those that it comes before.
-use Rattle.std.proofs.Common.{◌≡◌, ◌⊎◌, ◌↔◌, ℕ, ◌<◌, ◌≤◌, ◌+◌, List, [], ◌∷◌, inl, inr, refl, sym, subst, arith, ◌∙◌}
+use Rattle.std.proofs.Common.{◌≡◌, ◌⊎◌, ℕ, List, [], ◌∷◌, inl, inr, refl, sym, subst, arith}
 use Rattle.rel_graph.specs.Before.{Belongs, Direct, Before}
-use Rattle.rel_graph.specs.Chains.{Paired, Chain, Closure}
+use Rattle.rel_graph.specs.Chains.{Paired, Chain}
 use Rattle.rel_graph.specs.Pairs.{AllBelow}
 use Rattle.rel_graph.proofs.Below.{before_below}
 use Rattle.rel_graph.proofs.Chains.{closure_join, belongs_more, belongs_out, belongs_carries, belongs_join}

@@ -1,5 +1,5 @@
 -- The targets of each node, as arrows come.
-use Rattle.std.proofs.Common.{take, append-nil, ◌≡◌, ◌⊎◌, ℕ, ◌+◌, ◌<◌, Bool, true, false, cond, List, [], ◌∷◌, ◌++◌, length, get_or, set, Contains, inl, inr, refl, sym, subst, ap, ◌∙◌, arith, All, eqb, length-set, get_or-set_same, get_or-set_other}
+use Rattle.std.proofs.Common.{take, append-nil, ◌≡◌, ℕ, ◌+◌, ◌<◌, true, false, cond, List, [], ◌∷◌, ◌++◌, length, get_or, set, inl, inr, refl, sym, subst, ap, ◌∙◌, arith, All, length-set, get_or-set_same, get_or-set_other}
 use Rattle.std.specs.Prelude.{nat_eq}
 use Rattle.std.specs.declared.vec.Vec.{Vec}
 use Rattle.std.specs.declared.alloc.Global.{Global}
@@ -7,7 +7,6 @@ use Rattle.std.specs.List.{AllByRecursion}
 use Rattle.std.proofs.lemmas.List.{take_more}
 use Rattle.std.proofs.lemmas.Bool.Decides.{eqb_tells}
 use Rattle.std.proofs.lemmas.List.Elements.{recursion_from_All, All-from_recursion}
-use Rattle.rel_graph.specs.Chains.{Paired}
 use Rattle.rel_graph.specs.Pairs.{AllBelow}
 use Rattle.agent_marks.specs.Nodes.{targets}
 

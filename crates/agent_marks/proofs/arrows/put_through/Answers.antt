@@ -1,5 +1,5 @@
-use Rattle.std.proofs.Common.{ℕ, ◌+◌, ◌++◌, ◌∷◌, [], List, sym, subst, ap, ◌∙◌}
-use Rattle.agent_marks.specs.Nodes.{begin_of, end_of, AreArrows}
+use Rattle.std.proofs.Common.{◌+◌, ◌++◌, ◌∷◌, [], sym, subst, ap, ◌∙◌}
+use Rattle.agent_marks.specs.Nodes.{AreArrows}
 use Rattle.agent_marks.proofs.ArrowLemmas.{through}
 use Rattle.agent_marks.proofs.arrows.put_through.Goals as goal
 

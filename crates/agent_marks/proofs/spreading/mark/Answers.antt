@@ -1,4 +1,4 @@
-use Rattle.std.proofs.Common.{ℕ, Bool, true, false, List, [], ◌∷◌, ◌++◌, set, sym, subst, ◌∙◌}
+use Rattle.std.proofs.Common.{true, false, [], ◌∷◌, ◌++◌, set, sym, subst, ◌∙◌}
 use Rattle.std.proofs.lemmas.List.{get_or_default}
 use Rattle.agent_marks.specs.Nodes.{Pushing}
 use Rattle.agent_marks.proofs.SpreadLemmas.{pushing_kept, pushing_new}

@@ -1,4 +1,4 @@
-use Rattle.std.proofs.Common.{◌+◌, take, sym, subst, arith}
+use Rattle.std.proofs.Common.{take, sym, subst, arith}
 use Rattle.std.proofs.lemmas.List.{take_more}
 use Rattle.agent_marks.specs.Nodes.{Pushing}
 use Rattle.agent_marks.proofs.spreading.mark_all.Goals as goal

@@ -1,5 +1,5 @@
 -- The targets before the index are marked.
-use Rattle.std.proofs.Common.{◌+◌, ◌≤◌, length, take, count_by, not}
+use Rattle.std.proofs.Common.{◌≤◌, take}
 use Rattle.std.specs.Prelude.{vec_capacity}
 use Rattle.agent_marks.specs.Nodes.{Pushing}
 use Rattle.agent_marks.proofs.spreading.mark_all.Given as goal

@@ -1,10 +1,10 @@
 -- Trees of files on small values.
-use Rattle.std.proofs.Common.{◌≡◌, true, false, [], ◌∷◌, Some, None, refl, arith}
+use Rattle.std.proofs.Common.{◌≡◌, true, [], ◌∷◌, Some, None, refl, arith}
 use Rattle.std.proofs.Math.Dec.{lit≤, lit<}
 use Rattle.std.specs.Prelude.{codes, List}
 use Rattle.site_io.specs.declared.tree.Listed.TheVariants as listed
 use Rattle.site_io.specs.declared.tree.Content.TheVariants as content
-use Rattle.site_io.specs.Folders.{Held, Folder, folder_front, names_with, names_at, bytes_at, Lists, Reads, untold_folder}
+use Rattle.site_io.specs.Folders.{Held, Folder, names_with, names_at, bytes_at, Lists, Reads, untold_folder}
 use Rattle.site_io.specs.ScriptedFolder.{told_folder, is_failing_call}
 
 -- four files, one of which can't be read

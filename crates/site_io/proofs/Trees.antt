@@ -1,11 +1,11 @@
 -- What a tree in memory lists.
-use Rattle.std.proofs.Common.{◌≡◌, ℕ, Bool, true, false, List, [], ◌∷◌, Option, Some, refl, sym, ap, subst, ◌∙◌, arith}
+use Rattle.std.proofs.Common.{◌≡◌, ℕ, Bool, true, false, List, [], ◌∷◌, Some, refl, sym, ap, subst, arith}
 use Rattle.std.specs.Prelude.{IsTrue}
 use Rattle.std.specs.BTreeSet.{insert_key}
 use Rattle.pp_values.specs.Rising.{text_cmp, is_rising}
 use Rattle.pp_values.proofs.RisingLemmas.{is_rising-insert_key, is_rising-with_texts}
 use Rattle.site_io.specs.Stream.{Rose}
-use Rattle.site_io.specs.Folders.{Folder, Held, IsSameFolder, HasListed, name_behind, names_with, names_at, folder_front, unless_none}
+use Rattle.site_io.specs.Folders.{Held, IsSameFolder, HasListed, name_behind, names_with, names_at, folder_front, unless_none}
 use Rattle.site_io.specs.ScriptedFolder.{ScriptedFolder, folder_of, IsNextVisit}
 
 rising-names_with : (files : List Held) (names : List (List ℕ)) (front : List ℕ) → is_rising names ≡ true →

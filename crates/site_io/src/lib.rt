@@ -41,7 +41,7 @@ pub use mem_listener::MemListener;
 pub use mem_sink::MemSink;
 pub use mem_source::MemSource;
 pub use mem_tree::MemTree;
-pub use names::{ends_in_slash, folder_front};
+pub use names::{after_front, ends_in_slash, folder_front};
 pub use outside::{Got, Outside, Sink, Source, Took};
 pub use reader_source::{ReaderSource, StandardInput};
 pub use sure_conn::SureConn;

@@ -61,7 +61,8 @@ fn put_first(alloc: Global, path: &str, names: &mut BTreeSet<Text>) -> Result<()
     Ok(())
 }
 
-fn after_front<'a>(path: &'a str, front: &str) -> Option<&'a str>
+/// What stands behind a front, if the path begins with it.
+pub fn after_front<'a>(path: &'a str, front: &str) -> Option<&'a str>
     ensures { option_map (λ t. t.now) result ≡ after_front front.now path.now }
 {
     path.strip_prefix(front)

@@ -1,4 +1,3 @@
-use Rattle.std.proofs.Common.{◌≡◌}
 use Rattle.std.specs.Prelude.{IsTrue}
 use Rattle.pp_values.specs.Rising.{is_rising}
 use Rattle.site_io.proofs.folder_tree.names_in.Given as goal

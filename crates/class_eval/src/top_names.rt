@@ -81,7 +81,7 @@ fn pairs_within(facts: &Value) -> &[(Value, Value)]
     }
 }
 
-#[tactic(auto, unfolding(crate::specs::Facts::with_facts))]
+#[tactic(auto, unfolding(crate::specs::TopNames::with_facts))]
 fn put_facts(
     alloc: Global,
     scopes: &mut Scopes,

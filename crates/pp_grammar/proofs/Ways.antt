@@ -1,5 +1,6 @@
 pub mod Ahead
 pub mod Steps
+pub mod NextToken
 pub mod Lists
 pub mod Inner
 pub mod Expressions

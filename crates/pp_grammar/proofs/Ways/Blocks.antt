@@ -22,7 +22,8 @@ use Rattle.pp_grammar.proofs.Sound.Levels.{ends_once}
 use Rattle.pp_grammar.proofs.Sound.Statements.{Pends, IsRead, statement_sound}
 use Rattle.pp_grammar.proofs.Local.Steps.{Falls, one, falls_less, first_local, loose_local}
 use Rattle.pp_grammar.proofs.Local.Statements.{resource_local, chain_from_local, statement_rule_local}
-use Rattle.pp_grammar.proofs.Ways.Steps.{Rule, same_rule}
+use Rattle.pp_grammar.proofs.Ways.Steps.{Rule}
+use Rattle.pp_grammar.proofs.Ways.NextToken.{same_rule}
 use Rattle.pp_grammar.proofs.Ways.Lists.{always}
 use Rattle.pp_grammar.proofs.Ways.Inner.{closes_block, InnerGoes, here_too}
 use Rattle.pp_grammar.proofs.Ways.Resources.{ends_statement}

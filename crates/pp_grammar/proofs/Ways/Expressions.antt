@@ -27,7 +27,8 @@ use Rattle.pp_grammar.proofs.Reader.Expressions.{block, arguments, arguments_by,
 use Rattle.pp_grammar.proofs.Local.Steps.{loose_local}
 use Rattle.pp_grammar.proofs.Local.Inner.{whole_in_local, param_in_local}
 use Rattle.pp_grammar.proofs.Local.Expressions.{pair_rule_local, piece_rule_local, elsif_rule_local, case_options_local, postfix_rule_local, operation_rule_local, chain_local, whole_local}
-use Rattle.pp_grammar.proofs.Ways.Steps.{Holds, Rule, Branch, Meets, everything, bind_holds, first, first_any, first_each, after, pure_goes, refuse_holds, take_goes, peek_some, peek_none, here_some, leaves, taking, test_holds, test_branch, same_rule, expect_goes, expect_any_goes, noting_goes, opening_goes}
+use Rattle.pp_grammar.proofs.Ways.Steps.{Holds, Rule, Meets, everything, bind_holds, first, first_any, first_each, after, pure_goes, refuse_holds, take_goes}
+use Rattle.pp_grammar.proofs.Ways.NextToken.{Branch, peek_some, peek_none, here_some, leaves, taking, test_holds, test_branch, same_rule, expect_goes, expect_any_goes, noting_goes, opening_goes}
 use Rattle.pp_grammar.proofs.Ways.Lists.{always, repeat_goes, separated_some_goes, closed_goes, reassociated}
 use Rattle.pp_grammar.proofs.Ways.Inner.{ends_expression, ends_param, closes_block, finish, InnerGoes, here_too, of_kind, until}
 

@@ -24,7 +24,8 @@ use Rattle.pp_grammar.proofs.Local.Steps.{Falls, any, one, falls_less, falls_the
 use Rattle.pp_grammar.proofs.Local.Lists.{same_then, same_behind, behind_item}
 use Rattle.pp_grammar.proofs.Local.Inner.{param_in_local}
 use Rattle.pp_grammar.proofs.Local.Files.{define_local, node_names_turns, node_name_rule_local, item_rule_local, module_item_local}
-use Rattle.pp_grammar.proofs.Ways.Steps.{Holds, Fresh, Rule, Branch, everything, first, first_any, after, map_goes, pure_goes, refuse_holds, take_goes, peek_some, peek_none, here_some, leaves, taking, same_holds, same_rule, expect_goes, expect_any_goes, opening_goes, fresh_first, pure_fresh, same_fresh, eat_if, eat_none_fresh}
+use Rattle.pp_grammar.proofs.Ways.Steps.{Holds, Fresh, Rule, everything, first, first_any, after, pure_goes, refuse_holds, take_goes, fresh_first}
+use Rattle.pp_grammar.proofs.Ways.NextToken.{Branch, map_goes, peek_some, peek_none, here_some, leaves, taking, same_holds, same_rule, expect_goes, expect_any_goes, opening_goes, pure_fresh, same_fresh, eat_if, eat_none_fresh}
 use Rattle.pp_grammar.proofs.Ways.Lists.{always}
 use Rattle.pp_grammar.proofs.Ways.Inner.{InnerGoes, here_too, until}
 use Rattle.pp_grammar.proofs.Ways.Expressions.{block_goes}

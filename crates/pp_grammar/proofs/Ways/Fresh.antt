@@ -16,7 +16,8 @@ use Rattle.pp_grammar.proofs.Reader.Inner.{statements_in}
 use Rattle.pp_grammar.proofs.Local.Steps.{loose_local}
 use Rattle.pp_grammar.proofs.Local.Expressions.{postfix_rule_local, operation_rule_local, chain_local, whole_local}
 use Rattle.pp_grammar.proofs.Local.Statements.{test_local, another_local, conjunction_rule_local}
-use Rattle.pp_grammar.proofs.Ways.Steps.{Fresh, everything, fresh_first, fresh_after, fresh_each, pure_fresh, test_fresh, take_goes, eat_goes, eat_none_fresh, expect_goes, expect_any_goes, opening_goes, peek_fresh, peek_none_fresh, here_fresh, same_fresh}
+use Rattle.pp_grammar.proofs.Ways.Steps.{Fresh, everything, fresh_first, fresh_after, fresh_each, take_goes}
+use Rattle.pp_grammar.proofs.Ways.NextToken.{pure_fresh, test_fresh, eat_goes, eat_none_fresh, expect_goes, expect_any_goes, opening_goes, peek_fresh, peek_none_fresh, here_fresh, same_fresh}
 use Rattle.pp_grammar.proofs.Ways.Lists.{always, repeat_fresh, listed_fresh, eaten}
 use Rattle.pp_grammar.proofs.Ways.Inner.{ends_expression, ends_param, ends_query, closes_block, finish, here_too, of_kind}
 use Rattle.pp_grammar.proofs.Ways.Expressions.{no_call, no_postfix, no_operator, no_default, no_type, Answer, gives, refuses, answer, asks, param_meets, begun_behind, finished, finished_is}

@@ -9,7 +9,8 @@ use Rattle.pp_grammar.proofs.Reader.Inner.{expr_of, param_of, block_of, case_opt
 use Rattle.pp_grammar.proofs.Reader.Levels.{part_by, within_to, within, deepest_to, read_to}
 use Rattle.pp_grammar.proofs.Reader.Expressions.{whole, operand, interpolated, param_rule, case_option}
 use Rattle.pp_grammar.proofs.Reader.Statements.{statements, query}
-use Rattle.pp_grammar.proofs.Ways.Steps.{Goes, Holds, Fresh, Rule, refuse_holds, same_holds}
+use Rattle.pp_grammar.proofs.Ways.Steps.{Goes, Holds, Fresh, Rule, refuse_holds}
+use Rattle.pp_grammar.proofs.Ways.NextToken.{same_holds}
 use Rattle.pp_grammar.proofs.Ways.Lists.{always}
 use Rattle.pp_grammar.proofs.Ways.Inner.{closes_block, finish, InnerGoes}
 use Rattle.pp_grammar.proofs.Ways.Expressions.{whole_goes, operand_goes, interpolated_goes, param_rule_goes, case_option_goes}

@@ -6,7 +6,8 @@ use Rattle.pp_grammar.proofs.Reader.Input.{Input, Outcome, Parser, and_then, ◌
 use Rattle.pp_grammar.specs.Kinds.{is_kind}
 use Rattle.pp_grammar.proofs.Local.Steps.{Falls, any, if_given}
 use Rattle.pp_grammar.proofs.Local.Lists.{same_then, same_if, same_more, repeat_turns, same_behind, behind_item, separated_turns}
-use Rattle.pp_grammar.proofs.Ways.Steps.{Holds, Fresh, Rule, Meets, bind_holds, first, after, pure_goes, refuse_holds, peek_holds, peek_none, takes, leaves, test_holds, test_goes, test_branch, same_holds, eats, eat_goes, eat_fresh, fresh_first}
+use Rattle.pp_grammar.proofs.Ways.Steps.{Holds, Fresh, Rule, Meets, bind_holds, first, after, pure_goes, refuse_holds, fresh_first}
+use Rattle.pp_grammar.proofs.Ways.NextToken.{peek_holds, peek_none, takes, leaves, test_holds, test_goes, test_branch, same_holds, eats, eat_goes, eat_fresh}
 
 -- a set of kinds that may follow whatever is given
 abbrev pub always : {A : Type 0} → (Option Kind → Bool) → A → Option Kind → Bool

@@ -19,7 +19,8 @@ use Rattle.pp_grammar.proofs.Reader.Levels.{within}
 use Rattle.pp_grammar.proofs.Reader.Expressions.{call_or_name, loosest}
 use Rattle.pp_grammar.proofs.Reader.Statements.{arrow_at, name_of, taken_name, names_resource, assigns_by, assigns, setting_rule, splat_rule, attribute_by, attribute, attributes, body, resource, marked, compares_by, compares, comparison_rule, query_in_parentheses, test_by, test_rule, another_by, another, conjunction_rule, query, optional_query, settings_by, optional_settings, collector, expression_from, behind_name_by, behind_name, behind_type_by, behind_type, operand_by, operand_rule, link_by, link_rule}
 use Rattle.pp_grammar.proofs.Local.Statements.{attribute_local, body_local, test_local, another_local, conjunction_rule_local}
-use Rattle.pp_grammar.proofs.Ways.Steps.{Holds, Rule, Branch, first, first_any, after, pure_goes, refuse_holds, take_goes, peek_some, peek_none, here_some, leaves, taking, test_holds, test_branch, expect_goes, expect_any_goes, opening_goes, eat_if}
+use Rattle.pp_grammar.proofs.Ways.Steps.{Holds, Rule, first, first_any, after, pure_goes, refuse_holds, take_goes}
+use Rattle.pp_grammar.proofs.Ways.NextToken.{Branch, peek_some, peek_none, here_some, leaves, taking, test_holds, test_branch, expect_goes, expect_any_goes, opening_goes, eat_if}
 use Rattle.pp_grammar.proofs.Ways.Lists.{always, repeat_goes, separated_goes, separated_some_goes}
 use Rattle.pp_grammar.proofs.Ways.Inner.{ends_expression, ends_query, InnerGoes, here_too, of_kind, until}
 use Rattle.pp_grammar.proofs.Ways.Expressions.{call_or_name_goes, begun_chain_goes, value_goes, whole_goes}

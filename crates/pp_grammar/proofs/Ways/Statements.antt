@@ -22,7 +22,8 @@ use Rattle.pp_grammar.proofs.Local.Steps.{Falls, any, one, if_true, falls_then, 
 use Rattle.pp_grammar.proofs.Local.Lists.{same_then, same_if}
 use Rattle.pp_grammar.proofs.Local.Expressions.{call_or_name_local, begun_chain_local}
 use Rattle.pp_grammar.proofs.Local.Statements.{pending_count, waiting, same_argument, words_turns, link_rule_local, expression_from_local, behind_type_local, chain_from_local, words_local, words_from_local, argument_rule_local}
-use Rattle.pp_grammar.proofs.Ways.Steps.{mark, tokens_of, Begins, Holds, Fresh, Rule, Meets, Case, moves, stays, bind_by, fresh_by, first, first_any, after, map_goes, pure_goes, refuse_holds, peek_holds, peek_some, peek_cases, cases_holds, here_some, test_holds, test_goes, same_holds, same_rule, eats, eat_goes}
+use Rattle.pp_grammar.proofs.Ways.Steps.{mark, tokens_of, Begins, Holds, Fresh, Rule, Meets, bind_by, fresh_by, first, first_any, after, pure_goes, refuse_holds}
+use Rattle.pp_grammar.proofs.Ways.NextToken.{Case, moves, stays, map_goes, peek_holds, peek_some, peek_cases, cases_holds, here_some, test_holds, test_goes, same_holds, same_rule, eats, eat_goes}
 use Rattle.pp_grammar.proofs.Ways.Lists.{always, repeat_goes, reassociated, same_behind_outcome}
 use Rattle.pp_grammar.proofs.Ways.Inner.{ends_expression, InnerGoes, here_too}
 use Rattle.pp_grammar.proofs.Ways.Expressions.{arguments_goes, optional_lambda_goes, access_goes, call_or_name_goes, begun_chain_goes, whole_goes}

@@ -8,7 +8,8 @@ use Rattle.pp_grammar.proofs.Reader.Input.{Input, Outcome, Parser, and_then, ◌
 use Rattle.pp_grammar.specs.Kinds.{is_kind, same_kind}
 use Rattle.pp_grammar.proofs.Local.Steps.{Falls, one, if_true, eat_falls}
 use Rattle.pp_grammar.proofs.Local.Lists.{same_then, same_if}
-use Rattle.pp_grammar.proofs.Ways.Steps.{mark, tokens_of, Holds, Fresh, Rule, Meets, bind_holds, fresh_by, fresh_after, after, pure_goes, refuse_holds, peek_none, takes, leaves, test_branch, same_holds, eats, eat_goes, begins_first}
+use Rattle.pp_grammar.proofs.Ways.Steps.{mark, tokens_of, Holds, Fresh, Rule, Meets, bind_holds, fresh_by, fresh_after, after, pure_goes, refuse_holds, begins_first}
+use Rattle.pp_grammar.proofs.Ways.NextToken.{peek_none, takes, leaves, test_branch, same_holds, eats, eat_goes}
 use Rattle.pp_grammar.proofs.Ways.Lists.{always}
 use Rattle.pp_grammar.proofs.Ways.Resources.{ends_statement}
 use Rattle.pp_grammar.proofs.Ways.Statements.{pending_ends}

@@ -10,11 +10,11 @@ use Rattle.export_store.specs.Sets.{Sets}
 use Rattle.pp_values.specs.Facts.{are_facts}
 use Rattle.site_core.specs.Meaning.{Meaning}
 use Rattle.site_core.specs.declared.history.TheConstants.{MOST_ENTRIES}
-use Rattle.site_core.specs.Events.{Event, opens, publishes, deactivates, calls_of}
+use Rattle.site_core.specs.Events.{Event, opens, publishes, adds, calls_of}
 use Rattle.site_core.specs.Sets.{sets_at, site_at, latest_set}
 use Rattle.site_core.specs.Legal.{meaning_at, Legal}
-use Rattle.site_core.specs.Asked.{deactivate}
 use Rattle.site_core.specs.Steps.{snap, done, drop_call, add, opened_state, after_steps}
+use Rattle.site_core.specs.declared.plain.Plain.TheVariants as ask
 
 -- facts
 
@@ -76,7 +76,7 @@ published author call k node = publishes (record {
 })
 
 abbrev removed : ℕ → ℕ → List ℕ → Event ℕ
-removed author call node = deactivates (record { author = author; call = call; node = node })
+removed author call node = adds author call (ask.Deactivate node)
 
 -- what was published and removed
 abbrev short : List (Event ℕ)
@@ -152,7 +152,7 @@ empty_beside_a_right_catalog legal = let wrong : 1 ≡ 0 = ap (λ (s : ExportSet
 -- what may happen
 
 published_and_removed :
-    after_steps toy 3 (opened_state 5) (snap ∷ done 0 0 (codes "a") none ∷ add 0 (deactivate (codes "a")) ∷ [])
+    after_steps toy 3 (opened_state 5) (snap ∷ done 0 0 (codes "a") none ∷ add 0 (ask.Deactivate (codes "a")) ∷ [])
     ≡ Some (record {
       history = short;
       version = fin.remove (fin.insert fin.empty (codes "a") one) (codes "a");
@@ -173,7 +173,7 @@ two_in_flight :
 two_in_flight = refl
 
 begins_with_all_entries :
-    after_steps toy 9 (opened_state 5) (add 0 (deactivate (codes "a")) ∷ snap ∷ [])
+    after_steps toy 9 (opened_state 5) (add 0 (ask.Deactivate (codes "a")) ∷ snap ∷ [])
     ≡ Some (record {
       history = opens 5 ∷ removed 0 0 (codes "a") ∷ [];
       version = fin.remove fin.empty (codes "a");
@@ -186,7 +186,7 @@ no_room : after_steps toy 2 (opened_state 5) (snap ∷ snap ∷ done 0 0 (codes 
     []) ≡ None
 no_room = refl
 
-no_room_for_a_removal : after_steps toy 1 (opened_state 5) (add 0 (deactivate (codes "a")) ∷ []) ≡ None
+no_room_for_a_removal : after_steps toy 1 (opened_state 5) (add 0 (ask.Deactivate (codes "a")) ∷ []) ≡ None
 no_room_for_a_removal = refl
 
 faults_publish_nothing : after_steps toy 9 (opened_state 5) (snap ∷ done 0 0 (codes "x") none ∷ []) ≡ None

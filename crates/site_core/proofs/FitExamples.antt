@@ -1,18 +1,19 @@
 -- Replies that fit a history, and some that don't; requests that are whole under one.
-use Rattle.std.proofs.Common.{◌≡◌, ℕ, true, false, [], ◌∷◌, ◌≤◌, ◌<◌, List, Option, None, Some, Result, Ok, Err, refl, ap, arith}
-use Rattle.std.specs.Prelude.{codes, if◌then◌else◌}
+use Rattle.std.proofs.Common.{◌≡◌, ℕ, ◌+◌, true, false, [], ◌∷◌, ◌≤◌, ◌<◌, List, Option, None, Some, Result, Ok, Err, refl, ap, arith}
+use Rattle.std.specs.Prelude.{codes, slice_get, if◌then◌else◌}
 use Rattle.std.specs.Str.{bytes_eq}
 use Rattle.std.proofs.Math.Dec.{lit≤}
 use Rattle.list_sums.specs.Counts.{total, times, below}
 use Rattle.list_sums.proofs.Marks.{below_next, below_no}
 use Rattle.pp_values.specs.Datum.{Datum, hash, no_entries}
 use Rattle.res_core.specs.Asked.{Wanted}
-use Rattle.site_core.specs.Asked.{Asked, compile, plain, deactivate}
+use Rattle.site_core.specs.Asked.{Asked, compile, plain}
 use Rattle.res_core.specs.declared.export_set.ExportSet.{ExportSet}
 use Rattle.site_core.specs.Meaning.{Meaning}
-use Rattle.site_core.specs.Events.{Event, opens, publishes, deactivates}
+use Rattle.site_core.specs.Events.{Event, opens, publishes, adds}
 use Rattle.site_core.specs.Fits.{Fits}
 use Rattle.site_core.specs.Runs.{Hand, is_hand_of, times_in, Whole, picked}
+use Rattle.site_core.specs.declared.plain.Plain.TheVariants as ask
 use Rattle.site_core.specs.declared.reply.ReplyOf.{ReplyOf}
 use Rattle.site_core.specs.declared.reply.ReplyOf.TheVariants as r
 
@@ -51,7 +52,10 @@ asks_with_facts node seen = record { node = node; facts = Some none; seen = seen
 abbrev four : List (Event ℕ)
 four =
     opens 5 ∷ published 0 0 1 (codes "a") ∷ published 1 0 1 (codes "b")
-    ∷ deactivates (record { author = 0; call = 1; node = codes "a" }) ∷ []
+    ∷ adds 0 1 (ask.Deactivate (codes "a")) ∷ []
+
+abbrev behind_the_opening : List (Event ℕ)
+behind_the_opening = published 0 0 1 (codes "a") ∷ published 1 0 1 (codes "b") ∷ adds 0 1 (ask.Deactivate (codes "a")) ∷ []
 
 -- the reply fits under `four` and a limit of 4, for an author who had seen s entries
 abbrev FitsFour : ℕ → ℕ → Asked ℕ → ReplyOf ℕ (List ℕ) → Type 0
@@ -116,10 +120,10 @@ full = (
   ),
 )
 
-removed : FitsFour 0 2 (plain (deactivate (codes "a"))) (r.Deactivated 3)
+removed : FitsFour 0 2 (plain (ask.Deactivate (codes "a"))) (r.Deactivated 3)
 removed = (refl, lit≤ tt, record { inside = lit≤ tt; call = 1; at = refl })
 
-full_for_a_removal : FitsFour 1 3 (plain (deactivate (codes "b"))) (r.HistoryFull 4)
+full_for_a_removal : FitsFour 1 3 (plain (ask.Deactivate (codes "b"))) (r.HistoryFull 4)
 full_for_a_removal = (refl, refl)
 
 memory : FitsFour 0 9 (compile (asks (codes "a") 9)) r.Memory
@@ -132,25 +136,25 @@ abbrev site_in : Option (Event ℕ) → ℕ
 site_in None = 9
 site_in (Some (opens site)) = site
 site_in (Some (publishes p)) = 9
-site_in (Some (deactivates d)) = 9
+site_in (Some (adds author call what)) = 9
 
 abbrev author_in : Option (Event ℕ) → ℕ
 author_in None = 9
 author_in (Some (opens site)) = 9
 author_in (Some (publishes p)) = p.author
-author_in (Some (deactivates d)) = d.author
+author_in (Some (adds author call what)) = author
 
 abbrev node_in : Option (Event ℕ) → List ℕ
 node_in None = []
 node_in (Some (opens site)) = []
 node_in (Some (publishes p)) = p.node
-node_in (Some (deactivates d)) = d.node
+node_in (Some (adds author call what)) = []
 
 abbrev k_in : Option (Event ℕ) → ℕ
 k_in None = 9
 k_in (Some (opens site)) = 9
 k_in (Some (publishes p)) = p.k
-k_in (Some (deactivates d)) = 9
+k_in (Some (adds author call what)) = 9
 
 abbrev or_nine : Option ℕ → ℕ
 or_nine None = 9
@@ -199,24 +203,24 @@ longer_than_it_is (had, wrong, more) = let high : 5 ≤ 4 = wrong in omega (arit
 not_full : Fits toy listed four 5 0 1 (compile (asks (codes "a") 0)) (r.HistoryFull 5) → ⊥
 not_full (is, wrong, rest) = let full : 4 ≡ 5 = wrong in omega (arith, full)
 
-full_at_another_length : FitsFour 0 1 (plain (deactivate (codes "a"))) (r.HistoryFull 3) → ⊥
+full_at_another_length : FitsFour 0 1 (plain (ask.Deactivate (codes "a"))) (r.HistoryFull 3) → ⊥
 full_at_another_length (wrong, full) = let is : 3 ≡ 4 = wrong in omega (arith, is)
 
-not_removed : FitsFour 0 1 (plain (deactivate (codes "a"))) (r.Deactivated 1) → ⊥
+not_removed : FitsFour 0 1 (plain (ask.Deactivate (codes "a"))) (r.Deactivated 1) → ⊥
 not_removed (kind, had, is) = absurd (cc (is.at))
 
-removed_before : FitsFour 0 4 (plain (deactivate (codes "a"))) (r.Deactivated 3) → ⊥
+removed_before : FitsFour 0 4 (plain (ask.Deactivate (codes "a"))) (r.Deactivated 3) → ⊥
 removed_before (kind, wrong, is) = let had : 4 ≤ 3 = wrong in omega (arith, had)
 
 -- two authors
 
 abbrev three_requests : List (Asked ℕ)
-three_requests = compile (asks (codes "a") 0) ∷ compile (asks_with_facts (codes "b") 0) ∷ plain (deactivate (codes "a")) ∷ []
+three_requests = compile (asks (codes "a") 0) ∷ compile (asks_with_facts (codes "b") 0) ∷ plain (ask.Deactivate (codes "a")) ∷ []
 
 abbrev three_replies : List (ReplyOf ℕ (List ℕ))
 three_replies = r.Served 1 1 5 ∷ r.Served 2 1 5 ∷ r.Deactivated 3 ∷ []
 
-first_and_third : picked three_requests (0 ∷ 2 ∷ []) ≡ compile (asks (codes "a") 0) ∷ plain (deactivate (codes "a")) ∷ []
+first_and_third : picked three_requests (0 ∷ 2 ∷ []) ≡ compile (asks (codes "a") 0) ∷ plain (ask.Deactivate (codes "a")) ∷ []
 first_and_third = refl
 
 served_at_first : FitsFour 0 1 (compile (asks (codes "a") 0)) (r.Served 1 1 5)
@@ -236,7 +240,7 @@ served_at_first = (
 abbrev two_hands : List Hand
 two_hands = record { author = 1; places = 1 ∷ [] } ∷ record { author = 0; places = 0 ∷ 2 ∷ [] } ∷ []
 
-each_author : (author : ℕ) → total (is_hand_of author) two_hands ≡ below 2 author
+each_author : (author : ℕ) → total (is_hand_of author) two_hands + below 0 author ≡ below 2 author
 each_author author =
     omega (arith, below_next 1 author, below_next 0 author, below_no 0 author (omega arith))
 
@@ -244,16 +248,8 @@ each_place : (place : ℕ) → total (times_in place) two_hands ≡ below 3 plac
 each_place place =
     omega (arith, below_next 2 place, below_next 1 place, below_next 0 place, below_no 0 place (omega arith))
 
-each_entry : (entry : ℕ) → times entry (0 ∷ 1 ∷ 2 ∷ 3 ∷ []) ≡ below 4 entry
-each_entry entry =
-    omega (
-      arith,
-      below_next 3 entry,
-      below_next 2 entry,
-      below_next 1 entry,
-      below_next 0 entry,
-      below_no 0 entry (omega arith),
-    )
+each_entry : (entry : ℕ) → times entry (1 ∷ 2 ∷ 3 ∷ []) + below 1 entry ≡ below 4 entry
+each_entry entry = omega (arith, below_next 3 entry, below_next 2 entry, below_next 1 entry)
 
 -- two workers, of which the one that was split off ends first
 two_authors : Whole toy listed 4 2 5 three_requests three_replies four
@@ -262,7 +258,7 @@ two_authors = record {
     record { numbered = refl; some = lit≤ tt; earlier = lit≤ tt; exported = refl },
     (record { numbered = refl; some = lit≤ tt; earlier = lit≤ tt; exported = refl }, (refl, tt)),
   );
-  opening = refl;
+  begins = (behind_the_opening, refl);
   few = lit≤ tt;
   answered = refl;
   hands = two_hands;
@@ -277,14 +273,14 @@ two_authors = record {
 }
 
 -- an entry that no reply names, and one that two name
-unnamed : Whole toy listed 4 1 5 (plain (deactivate (codes "a")) ∷ []) (r.Memory ∷ [])
-    (opens 5 ∷ deactivates (record { author = 0; call = 0; node = codes "a" }) ∷ []) → ⊥
+unnamed : Whole toy listed 4 1 5 (plain (ask.Deactivate (codes "a")) ∷ []) (r.Memory ∷ [])
+    (opens 5 ∷ adds 0 0 (ask.Deactivate (codes "a")) ∷ []) → ⊥
 unnamed w = let wrong : 0 ≡ 1 = w.once 1 in omega (arith, wrong)
 
-named_twice : Whole toy listed 4 1 5 (plain (deactivate (codes "a")) ∷ plain (deactivate (codes "a")) ∷ [])
+named_twice : Whole toy listed 4 1 5 (plain (ask.Deactivate (codes "a")) ∷ plain (ask.Deactivate (codes "a")) ∷ [])
     (r.Deactivated 1 ∷ r.Deactivated 1 ∷ [])
-    (opens 5 ∷ deactivates (record { author = 0; call = 0; node = codes "a" }) ∷ []) → ⊥
+    (opens 5 ∷ adds 0 0 (ask.Deactivate (codes "a")) ∷ []) → ⊥
 named_twice w = let wrong : 2 ≡ 1 = w.once 1 in omega (arith, wrong)
 
 another_site : Whole toy listed 4 1 6 [] [] (opens 5 ∷ []) → ⊥
-another_site w = omega (arith, ap site_in w.opening)
+another_site w = omega (arith, ap (λ l. site_in (slice_get l 0)) w.begins.1)

@@ -1,16 +1,19 @@
 -- What fits a history goes on to do so when the history grows, and fits for whoever had seen less.
-use Rattle.std.proofs.Common.{◌≡◌, ℕ, zero, suc, ◌<◌, ◌≤◌, List, [], ◌∷◌, ◌++◌, length, refl, ap, ◌∙◌, arith}
+use Rattle.std.proofs.Common.{◌≡◌, ℕ, zero, suc, ◌+◌, ◌<◌, ◌≤◌, List, [], ◌∷◌, ◌++◌, length, refl, sym, ap, ◌∙◌, subst, arith}
 use Rattle.std.specs.Prelude.{Result, Some, slice_get}
 use Rattle.std.proofs.lemmas.List.{length-append}
 use Rattle.pp_values.specs.Datum.{Datum}
 use Rattle.res_core.specs.declared.export_set.ExportSet.{ExportSet}
 use Rattle.res_core.specs.Asked.{Wanted}
-use Rattle.site_core.specs.Asked.{Plain, Asked, compile, plain}
+use Rattle.site_core.specs.Asked.{Asked, compile, plain}
 use Rattle.site_core.specs.Meaning.{Meaning}
 use Rattle.site_core.specs.Events.{Event}
-use Rattle.site_core.specs.Fits.{Listed, IsFresh, Means, HasNoFacts, IsServed, IsAdded, FitsSaid, RepliesStay, RepliesFitForLess}
+use Rattle.site_core.specs.Fits.{Listed, IsFresh, Means, HasNoFacts, IsServed, IsAdded, FitsPlain, FitsSaid, Fits, had, had_said, named, named_said, RepliesStay, RepliesFitForLess}
 use Rattle.site_core.specs.Said as t
-use Rattle.site_core.specs.Said.{Kind, deactivation, Said, said, plain_reply}
+use Rattle.site_core.specs.Said.{Said, said, kind_of, plain_reply}
+use Rattle.site_core.specs.declared.plain.Plain.{Plain}
+use Rattle.site_core.specs.declared.plain.PlainKind.{PlainKind}
+use Rattle.site_core.specs.declared.plain.PlainKind.TheVariants as kind
 use Rattle.site_core.proofs.Sets.{sets_at-append, site_at-append}
 
 module _ {A : Type 0} where
@@ -30,8 +33,26 @@ module _ {A : Type 0} where
   full_still xs more limit within full = let is = length-append xs more in omega (arith, within, full, is)
 
 -- what a reply to a plain entry says
-pub said_plain : {C F : Type 0} (kind : Kind) (entry : ℕ) → said {C = C} {F = F} (plain_reply kind entry) ≡ t.added kind entry
-said_plain deactivation entry = refl
+pub said_plain : {C F : Type 0} (which : PlainKind) (entry : ℕ) →
+    said {C = C} {F = F} (plain_reply which entry) ≡ t.added which entry
+said_plain kind.Deactivation entry = refl
+said_plain kind.Deployment entry = refl
+said_plain kind.Filing entry = refl
+
+pub had_plain : (C F : Type 0) (which : PlainKind) (s entry : ℕ) →
+    had {C = C} {F = F} s (plain_reply which entry) ≡ entry + 1
+had_plain C F which s entry = ap (had_said {C = C} {F = F} s) (said_plain which entry)
+
+pub named_plain : (C F : Type 0) (which : PlainKind) (entry : ℕ) →
+    named {C = C} {F = F} (plain_reply which entry) ≡ entry ∷ []
+named_plain C F which entry = ap (named_said {C = C} {F = F}) (said_plain which entry)
+
+-- a plain entry that was added is what its reply names
+pub fits_plain : {S C F : Type 0} (meaning : Meaning S C F) (listed : Listed S) (h : List (Event S))
+    (limit author s : ℕ) (what : Plain S) (entry : ℕ) → s ≤ entry → IsAdded h author what entry →
+    Fits meaning listed h limit author s (plain what) (plain_reply (kind_of what) entry)
+fits_plain meaning listed h limit author s what entry low is =
+    subst (FitsPlain meaning listed h limit author s what) (sym (said_plain (kind_of what) entry)) (refl, low, is)
 
 module _ {S : Type 0} where
   pub fresh_grows : (h more : List (Event S)) (s seen k : ℕ) → IsFresh h s seen k → IsFresh (h ++ more) s seen k
@@ -72,9 +93,9 @@ module _ {S C F : Type 0} (meaning : Meaning S C F) (listed : Listed S) where
     at = get_grows h more entry _ served.at;
   }
 
-  added_grows : (h more : List (Event S)) (author : ℕ) (p : Plain S) (entry : ℕ) →
-      IsAdded h author p entry → IsAdded (h ++ more) author p entry
-  added_grows h more author p entry added = record {
+  added_grows : (h more : List (Event S)) (author : ℕ) (what : Plain S) (entry : ℕ) →
+      IsAdded h author what entry → IsAdded (h ++ more) author what entry
+  added_grows h more author what entry added = record {
     inside = longer_than h more entry added.inside;
     call = added.call;
     at = get_grows h more entry _ added.at;
@@ -96,17 +117,17 @@ module _ {S C F : Type 0} (meaning : Meaning S C F) (listed : Listed S) where
     full_still h more limit within full,
     (k, facts, made, fresh_grows h more s w.seen k fresh, means_grows h more k w facts _ fresh.high means),
   )
-  said_grows h more limit author s (compile w) (t.added kind entry) within fits = fits
+  said_grows h more limit author s (compile w) (t.added which entry) within fits = fits
   said_grows h more limit author s (compile w) t.short within fits = fits
-  said_grows h more limit author s (plain p) (t.served entry k catalog) within fits = fits
-  said_grows h more limit author s (plain p) (t.refused k fault) within fits = fits
-  said_grows h more limit author s (plain p) (t.unknown k) within fits = fits
-  said_grows h more limit author s (plain p) (t.ahead n) within fits = fits
-  said_grows h more limit author s (plain p) (t.full n) within (is, full) =
+  said_grows h more limit author s (plain what) (t.served entry k catalog) within fits = fits
+  said_grows h more limit author s (plain what) (t.refused k fault) within fits = fits
+  said_grows h more limit author s (plain what) (t.unknown k) within fits = fits
+  said_grows h more limit author s (plain what) (t.ahead n) within fits = fits
+  said_grows h more limit author s (plain what) (t.full n) within (is, full) =
       (is, full_still h more limit within full)
-  said_grows h more limit author s (plain p) (t.added kind entry) within (is, had, added) =
-      (is, had, added_grows h more author p entry added)
-  said_grows h more limit author s (plain p) t.short within fits = fits
+  said_grows h more limit author s (plain what) (t.added which entry) within (is, had, added) =
+      (is, had, added_grows h more author what entry added)
+  said_grows h more limit author s (plain what) t.short within fits = fits
 
   pub fits_grows : RepliesStay meaning listed
   fits_grows h more limit author s asked reply within fits =
@@ -124,16 +145,16 @@ module _ {S C F : Type 0} (meaning : Meaning S C F) (listed : Listed S) where
       (omega (arith, le, had), high, ahead)
   said_less h limit author s less (compile w) (t.full n) le (is, full, (k, facts, made, fresh, means)) =
       (is, full, (k, facts, made, fresh_less h s less w.seen k le fresh, means))
-  said_less h limit author s less (compile w) (t.added kind entry) le fits = fits
+  said_less h limit author s less (compile w) (t.added which entry) le fits = fits
   said_less h limit author s less (compile w) t.short le fits = fits
-  said_less h limit author s less (plain p) (t.served entry k catalog) le fits = fits
-  said_less h limit author s less (plain p) (t.refused k fault) le fits = fits
-  said_less h limit author s less (plain p) (t.unknown k) le fits = fits
-  said_less h limit author s less (plain p) (t.ahead n) le fits = fits
-  said_less h limit author s less (plain p) (t.full n) le fits = fits
-  said_less h limit author s less (plain p) (t.added kind entry) le (is, had, added) =
+  said_less h limit author s less (plain what) (t.served entry k catalog) le fits = fits
+  said_less h limit author s less (plain what) (t.refused k fault) le fits = fits
+  said_less h limit author s less (plain what) (t.unknown k) le fits = fits
+  said_less h limit author s less (plain what) (t.ahead n) le fits = fits
+  said_less h limit author s less (plain what) (t.full n) le fits = fits
+  said_less h limit author s less (plain what) (t.added which entry) le (is, had, added) =
       (is, omega (arith, le, had), added)
-  said_less h limit author s less (plain p) t.short le fits = fits
+  said_less h limit author s less (plain what) t.short le fits = fits
 
   pub fits_less : RepliesFitForLess meaning listed
   fits_less h limit author s less asked reply le fits = said_less h limit author s less asked (said reply) le fits

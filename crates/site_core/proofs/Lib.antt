@@ -9,5 +9,7 @@ pub mod Growing
 pub mod Fitting
 pub mod Running
 pub mod Each
+mod GoneOn
 mod Examples
 mod FitExamples
+mod DeployExamples

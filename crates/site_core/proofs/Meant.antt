@@ -29,4 +29,4 @@ may_publish {S} meaning listed w s catalog (v.Publication node facts snapshot se
       has_exports (meaning (arc_value snapshot.site) node (view facts) snapshot.version) catalog set
           (ap (λ (x : Snapshot S × List ℕ). meaning (arc_value x.0.site) x.1 (view facts) x.0.version) both ∙ m.meant),
     )
-may_publish meaning listed w s catalog (v.Deactivation node) h none of = absurd none
+may_publish meaning listed w s catalog (v.Plain what) h none of = absurd none

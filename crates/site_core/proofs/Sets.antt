@@ -1,7 +1,8 @@
 -- How the sets and the site go on when the history grows, and what `sets_at` says of a node.
-use Rattle.std.proofs.Common.{◌≡◌, ℕ, ◌≤◌, false, cond, List, [], ◌∷◌, ◌++◌, length, take, Option, None, Some, refl, sym, ◌∙◌, ap}
+use Rattle.std.proofs.Common.{◌≡◌, ℕ, ◌≤◌, cond, List, [], ◌∷◌, ◌++◌, length, take, Option, None, Some, refl, sym, ◌∙◌, ap}
 use Rattle.std.specs.Prelude.{reverse}
 use Rattle.std.specs.FinMap as fin
+use Rattle.std.specs.Option.{unwrap_or}
 use Rattle.std.specs.Cmp.Lexicographic.{nat_list_cmp_total, texts_ties}
 use Rattle.std.specs.Str.{bytes_eq}
 use Rattle.std.proofs.lemmas.List.{reverse-append, take-append-le}
@@ -9,8 +10,9 @@ use Rattle.std.proofs.Math.Seq.{take-length}
 use Rattle.pp_values.specs.Rising.{text_cmp}
 use Rattle.res_core.specs.declared.export_set.ExportSet.{ExportSet}
 use Rattle.export_store.specs.Sets.{Sets}
-use Rattle.site_core.specs.Events.{Event, opens, publishes, deactivates, is_opening}
-use Rattle.site_core.specs.Sets.{sets_after, sets_from, sets_at, latest_set, latest_site, site_at, SetsAreTheLatest}
+use Rattle.site_core.specs.Events.{Event, opens, publishes, adds}
+use Rattle.site_core.specs.Sets.{sets_after, sets_from, sets_at, latest_set, site_in, first_of, latest_site, site_at, site_after, SetsAreTheLatest}
+use Rattle.site_core.specs.declared.plain.Plain.TheVariants as ask
 
 module _ {S : Type 0} where
   pub sets_from-push : (sets : Sets) (h : List (Event S)) (e : Event S) →
@@ -23,16 +25,21 @@ module _ {S : Type 0} where
       sets_at (h ++ e ∷ []) (length (h ++ e ∷ [])) ≡ sets_after (sets_at h (length h)) e
   sets_at-push h e = rw (take-length (h ++ e ∷ []), take-length h) (sets_from-push fin.empty h e)
 
-  latest_site-push : (h : List (Event S)) (e : Event S) → is_opening e ≡ false →
-      latest_site (reverse (h ++ e ∷ [])) ≡ latest_site (reverse h)
-  latest_site-push h (opens site) later = cc
-  latest_site-push h (publishes p) later = rw (reverse-append h (publishes p ∷ [])) refl
-  latest_site-push h (deactivates d) later = rw (reverse-append h (deactivates d ∷ [])) refl
+  pub latest_site-push : (h : List (Event S)) (e : Event S) →
+      latest_site (reverse (h ++ e ∷ [])) ≡ first_of (site_in e) (latest_site (reverse h))
+  latest_site-push h e = rw (reverse-append h (e ∷ [])) refl
 
-  -- the site after all entries, when one more comes that opens none
-  pub site_at-push : (h : List (Event S)) (e : Event S) → is_opening e ≡ false →
-      site_at (h ++ e ∷ []) (length (h ++ e ∷ [])) ≡ site_at h (length h)
-  site_at-push h e later = rw (take-length (h ++ e ∷ []), take-length h) (latest_site-push h e later)
+  first_or : (found : Option S) (now : S) → first_of found (Some now) ≡ Some (unwrap_or found now)
+  first_or None now = refl
+  first_or (Some site) now = refl
+
+  -- the site after all entries, when one more comes
+  pub site_at-push : (h : List (Event S)) (e : Event S) (now : S) → site_at h (length h) ≡ Some now →
+      site_at (h ++ e ∷ []) (length (h ++ e ∷ [])) ≡ Some (site_after now e)
+  site_at-push h e now is =
+      ap (λ es. latest_site (reverse es)) (take-length (h ++ e ∷ [])) ∙ latest_site-push h e
+      ∙ ap (λ es. first_of (site_in e) (latest_site (reverse es))) (sym (take-length h)) ∙ ap (first_of (site_in e)) is
+      ∙ first_or (site_in e) now
 
   -- what the first k entries left stays when more come
   pub sets_at-append : (h more : List (Event S)) (k : ℕ) → k ≤ length h → sets_at (h ++ more) k ≡ sets_at h k
@@ -46,7 +53,10 @@ module _ {S : Type 0} where
   latest_or node [] set = set
   latest_or node (opens site ∷ earlier) set = latest_or node earlier set
   latest_or node (publishes p ∷ earlier) set = cond (bytes_eq node p.node) (Some p.set) (latest_or node earlier set)
-  latest_or node (deactivates d ∷ earlier) set = cond (bytes_eq node d.node) None (latest_or node earlier set)
+  latest_or node (adds author call (ask.Deactivate gone) ∷ earlier) set =
+      cond (bytes_eq node gone) None (latest_or node earlier set)
+  latest_or node (adds author call (ask.Deploy site) ∷ earlier) set = latest_or node earlier set
+  latest_or node (adds author call (ask.Report about report) ∷ earlier) set = latest_or node earlier set
 
   latest_or-none : (node : List ℕ) (es : List (Event S)) → latest_or node es None ≡ latest_set node es
   unfolding latest_or
@@ -54,7 +64,10 @@ module _ {S : Type 0} where
   latest_or-none node (opens site ∷ earlier) = latest_or-none node earlier
   latest_or-none node (publishes p ∷ earlier) = ap (cond (bytes_eq node p.node) (Some p.set))
       (latest_or-none node earlier)
-  latest_or-none node (deactivates d ∷ earlier) = ap (cond (bytes_eq node d.node) None) (latest_or-none node earlier)
+  latest_or-none node (adds author call (ask.Deactivate gone) ∷ earlier) =
+      ap (cond (bytes_eq node gone) None) (latest_or-none node earlier)
+  latest_or-none node (adds author call (ask.Deploy site) ∷ earlier) = latest_or-none node earlier
+  latest_or-none node (adds author call (ask.Report about report) ∷ earlier) = latest_or-none node earlier
 
   latest_or-append : (node : List ℕ) (es fs : List (Event S)) (set : Option ExportSet) →
       latest_or node (es ++ fs) set ≡ latest_or node es (latest_or node fs set)
@@ -63,8 +76,11 @@ module _ {S : Type 0} where
   latest_or-append node (opens site ∷ earlier) fs set = latest_or-append node earlier fs set
   latest_or-append node (publishes p ∷ earlier) fs set =
       ap (cond (bytes_eq node p.node) (Some p.set)) (latest_or-append node earlier fs set)
-  latest_or-append node (deactivates d ∷ earlier) fs set =
-      ap (cond (bytes_eq node d.node) None) (latest_or-append node earlier fs set)
+  latest_or-append node (adds author call (ask.Deactivate gone) ∷ earlier) fs set =
+      ap (cond (bytes_eq node gone) None) (latest_or-append node earlier fs set)
+  latest_or-append node (adds author call (ask.Deploy site) ∷ earlier) fs set = latest_or-append node earlier fs set
+  latest_or-append node (adds author call (ask.Report about report) ∷ earlier) fs set =
+      latest_or-append node earlier fs set
 
   get-sets_after : (sets : Sets) (e : Event S) (node : List ℕ) →
       fin.get (sets_after sets e) node ≡ latest_or node (e ∷ []) (fin.get sets node)
@@ -73,9 +89,11 @@ module _ {S : Type 0} where
   get-sets_after sets (publishes p) node =
       fin.get-insert nat_list_cmp_total sets p.node p.set node
       ∙ ap (λ b. cond b (Some p.set) (fin.get sets node)) (sym (texts_ties node p.node))
-  get-sets_after sets (deactivates d) node =
-      fin.get-remove nat_list_cmp_total sets d.node node
-      ∙ ap (λ b. cond b None (fin.get sets node)) (sym (texts_ties node d.node))
+  get-sets_after sets (adds author call (ask.Deactivate gone)) node =
+      fin.get-remove nat_list_cmp_total sets gone node
+      ∙ ap (λ b. cond b None (fin.get sets node)) (sym (texts_ties node gone))
+  get-sets_after sets (adds author call (ask.Deploy site)) node = refl
+  get-sets_after sets (adds author call (ask.Report about report)) node = refl
 
   get-sets_from : (sets : Sets) (es : List (Event S)) (node : List ℕ) →
       fin.get (sets_from sets es) node ≡ latest_or node (reverse es) (fin.get sets node)

@@ -1,10 +1,10 @@
 -- The shape of a history with one more entry.
-use Rattle.std.proofs.Common.{◌≡◌, true, false, List, [], ◌∷◌, ◌++◌, refl, ◌∙◌}
+use Rattle.std.proofs.Common.{true, List, [], ◌∷◌, ◌++◌, refl, ◌∙◌}
 use Rattle.std.specs.Prelude.{IsTrue}
 use Rattle.std.specs.List.{list_all}
 use Rattle.std.proofs.lemmas.Bool.{and_from}
 use Rattle.std.proofs.lemmas.List.Folds.{list_all-append}
-use Rattle.site_core.specs.Events.{Event, opens, publishes, deactivates, is_opening, is_later, are_entries}
+use Rattle.site_core.specs.Events.{Event, opens, publishes, adds, is_later, are_entries}
 
 module _ {S : Type 0} where
   all_later-push : (es : List (Event S)) (e : Event S) → IsTrue (list_all is_later es) → IsTrue (is_later e) →
@@ -17,9 +17,4 @@ module _ {S : Type 0} where
   are_entries-push [] e shape last = cc
   are_entries-push (opens site ∷ es) e shape last = all_later-push es e shape last
   are_entries-push (publishes p ∷ es) e shape last = shape
-  are_entries-push (deactivates d ∷ es) e shape last = shape
-
-  pub is_opening_later : (e : Event S) → IsTrue (is_later e) → is_opening e ≡ false
-  is_opening_later (opens site) later = cc
-  is_opening_later (publishes p) later = refl
-  is_opening_later (deactivates d) later = refl
+  are_entries-push (adds author call what ∷ es) e shape last = shape

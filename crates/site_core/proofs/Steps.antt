@@ -9,13 +9,12 @@ use Rattle.std.proofs.lemmas.Option.{slice_get_within, get_or_from_slice_get}
 use Rattle.pp_values.specs.Datum.{Datum}
 use Rattle.res_core.specs.declared.export_set.ExportSet.{ExportSet}
 use Rattle.site_core.specs.Meaning.{Meaning, HasExports}
-use Rattle.site_core.specs.Asked.{Plain, deactivate, next_entry}
-use Rattle.site_core.specs.Events.{Event, is_opening, publication}
-use Rattle.site_core.specs.Sets.{sets_after}
+use Rattle.site_core.specs.Events.{Event, publication, next_entry}
+use Rattle.site_core.specs.Sets.{sets_after, site_at, site_after}
 use Rattle.site_core.specs.Legal.{meaning_at, MayFollow, Legal}
 use Rattle.site_core.specs.Core.{Core, IsSound}
 use Rattle.site_core.specs.declared.history.TheConstants.{MOST_ENTRIES}
-use Rattle.site_core.specs.Steps.{Step, snap, done, drop_call, add, State, made_set, opened_state, with_entry, with_flight, without_flight, after_done, after_step, after_steps, IsSoundState, RunsAreSound}
+use Rattle.site_core.specs.Steps.{Step, snap, done, drop_call, add, State, made_set, opened_state, resumed_state, with_entry, with_flight, without_flight, after_done, after_step, after_steps, IsSoundState, RunsAreSound, ResumedRunsAreSound}
 use Rattle.site_core.proofs.Keeping.{kept_push}
 
 -- what makes a result of options be there
@@ -59,13 +58,12 @@ without n flights flight all =
 
 module _ {S C F : Type 0} (meaning : Meaning S C F) (limit : ℕ) where
   entry_sound : (s : State S) (e : Event S) → IsSoundState meaning limit s → MayFollow meaning s.history e →
-      is_opening e ≡ false → length s.history < limit →
-      IsSoundState meaning limit (with_entry s e)
-  entry_sound s e sound follows later room =
+      length s.history < limit → IsSoundState meaning limit (with_entry s e)
+  entry_sound s e sound follows room =
       record {
         kept = kept_push meaning (record { history = s.history; limit = limit }) s.version (sets_after s.version e)
-            s.site e sound.kept follows later room
-            (ap (λ v. sets_after v e) sound.kept.version_is);
+            s.site (site_after s.site e) e sound.kept follows room
+            (ap (λ v. sets_after v e) sound.kept.version_is) refl;
         flights = longer s.history e s.flights sound.flights;
       }
 
@@ -102,14 +100,7 @@ module _ {S C F : Type 0} (meaning : Meaning S C F) (limit : ℕ) where
       (without_sound (with_entry s (publication s.history author node facts k found.0)) flight
       (entry_sound s (publication s.history author node facts k found.0) sound
       (record { numbered = refl; some = within.0; earlier = within.1; exported = exports_are_at _ found.0 found.1 })
-      refl room))
-
-  -- a plain entry may stand behind any others, and opens no site
-  plain_follows : (h : List (Event S)) (author : ℕ) (p : Plain S) → MayFollow meaning h (next_entry h author p)
-  plain_follows h author (deactivate node) = refl
-
-  plain_opens_none : (h : List (Event S)) (author : ℕ) (p : Plain S) → is_opening (next_entry h author p) ≡ false
-  plain_opens_none h author (deactivate node) = refl
+      room))
 
   step_sound : (s t : State S) (step : Step S) → IsSoundState meaning limit s → after_step meaning limit s step ≡ Some t →
       IsSoundState meaning limit t
@@ -124,12 +115,11 @@ module _ {S C F : Type 0} (meaning : Meaning S C F) (limit : ℕ) where
       let there = when_some (nat_lt flight (length s.flights)) (Some (without_flight s flight)) t is in
       let e : without_flight s flight ≡ t = cc in
       subst (IsSoundState meaning limit) e (without_sound s flight sound)
-  step_sound s t (add author p) sound is =
-      let room = when_some (nat_lt (length s.history) limit) (Some (with_entry s (next_entry s.history author p)))
+  step_sound s t (add author what) sound is =
+      let room = when_some (nat_lt (length s.history) limit) (Some (with_entry s (next_entry s.history author what)))
       t is in
-      let e : with_entry s (next_entry s.history author p) ≡ t = cc in
-      subst (IsSoundState meaning limit) e (entry_sound s (next_entry s.history author p) sound
-      (plain_follows s.history author p) (plain_opens_none s.history author p)
+      let e : with_entry s (next_entry s.history author what) ≡ t = cc in
+      subst (IsSoundState meaning limit) e (entry_sound s (next_entry s.history author what) sound refl
       (ltb-true (length s.history) limit room.0))
 
   steps_sound : (steps : List (Step S)) (s t : State S) → IsSoundState meaning limit s →
@@ -150,6 +140,22 @@ module _ {S C F : Type 0} (meaning : Meaning S C F) (limit : ℕ) where
         flights = All-nil (Within 1);
       }
 
+  resumed_sound : (h : List (Event S)) (site : S) → Legal meaning h → length h ≤ limit → limit ≤ MOST_ENTRIES →
+      site_at h (length h) ≡ Some site → IsSoundState meaning limit (resumed_state h site)
+  resumed_sound h site legal within most is =
+      record {
+        kept = record {
+          sound = record { legal = legal; within = within; bounded = most };
+          version_is = refl;
+          site_is = is;
+        };
+        flights = All-nil (Within (length h));
+      }
+
 pub runs : {S C F : Type 0} (meaning : Meaning S C F) → RunsAreSound meaning
 runs meaning limit site steps s some most is = steps_sound meaning limit steps (opened_state site) s
     (opened_sound meaning limit site some most) is
+
+pub resumed_runs : {S C F : Type 0} (meaning : Meaning S C F) → ResumedRunsAreSound meaning
+resumed_runs meaning limit h site steps s legal within most at is = steps_sound meaning limit steps (resumed_state h site)
+    s (resumed_sound meaning limit h site legal within most at) is

@@ -9,11 +9,12 @@ use Rattle.res_core.specs.declared.export_set.ExportSet.{ExportSet}
 use Rattle.site_core.specs.Meaning.{Meaning}
 use Rattle.site_core.specs.Fits.{Listed, facts_for}
 use Rattle.site_core.specs.Said as t
-use Rattle.site_core.specs.Said.{Kind, Said, said, plain_reply}
+use Rattle.site_core.specs.Said.{Said, said, plain_reply}
 use Rattle.site_core.specs.declared.addition.Addition.{Addition}
 use Rattle.site_core.specs.declared.addition.Addition.TheVariants as v
 use Rattle.site_core.specs.declared.done_stop.DoneStop.{DoneStop}
 use Rattle.site_core.specs.declared.done_stop.DoneStop.TheVariants as stop
+use Rattle.site_core.specs.declared.plain.PlainKind.{PlainKind}
 use Rattle.site_core.specs.declared.reply.ReplyOf.{ReplyOf}
 use Rattle.site_core.specs.declared.reply.ReplyOf.TheVariants as a
 use Rattle.site_core.specs.declared.snapshot.Snapshot.{Snapshot}
@@ -32,7 +33,7 @@ module _ {S C F : Type 0} (meaning : Meaning S C F) (listed : Listed S) (w : Wan
   IsPublication catalog (v.Publication node facts snapshot set) =
       (snapshot ≡ s) × (node ≡ w.node) × IsTrue (are_facts (view facts))
       × IsMeant meaning listed w s (view facts) (Ok (catalog, set))
-  IsPublication catalog (v.Deactivation node) = ⊥
+  IsPublication catalog (v.Plain what) = ⊥
 
   -- what a compile is told that publishes nothing: the first that holds of more entries heard of than there are, facts
   -- that no one gives, and a fault; or want of memory
@@ -61,6 +62,6 @@ module _ {C F : Type 0} where
   served_reply k catalog (Err why) = stop_reply why
 
   -- what is replied where a plain entry is asked for, by what came of adding it
-  abbrev pub added_reply : Kind → Result ℕ DoneStop → ReplyOf C F
+  abbrev pub added_reply : PlainKind → Result ℕ DoneStop → ReplyOf C F
   added_reply kind (Ok entry) = plain_reply kind entry
   added_reply kind (Err why) = stop_reply why

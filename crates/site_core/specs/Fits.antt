@@ -4,12 +4,13 @@ use Rattle.pp_values.specs.Datum.{Datum}
 use Rattle.res_core.specs.declared.export_set.ExportSet.{ExportSet}
 use Rattle.res_core.specs.Asked.{Wanted}
 use Rattle.site_core.specs.Meaning.{Meaning}
-use Rattle.site_core.specs.Asked.{Plain, Asked, compile, plain, plain_entry}
-use Rattle.site_core.specs.Events.{Event, publishes}
+use Rattle.site_core.specs.Asked.{Asked, compile, plain}
+use Rattle.site_core.specs.Events.{Event, publishes, adds}
 use Rattle.site_core.specs.Sets.{sets_at, site_at}
+use Rattle.site_core.specs.declared.plain.Plain.{Plain}
 use Rattle.site_core.specs.declared.reply.ReplyOf.{ReplyOf}
 use Rattle.site_core.specs.Said as t
-use Rattle.site_core.specs.Said.{Kind, Said, said, kind_of}
+use Rattle.site_core.specs.Said.{Said, said, kind_of}
 
 -- the facts that a site lists for a node, or none
 abbrev pub Listed : Type 0 → Type 0
@@ -65,10 +66,10 @@ pub record IsServed {S C F : Type 0} (meaning : Meaning S C F) (listed : Listed 
   }))
 
 -- the entry is the one that was asked for, of this author
-pub record IsAdded {S : Type 0} (h : List (Event S)) (author : ℕ) (p : Plain S) (entry : ℕ) : Type 0 where
+pub record IsAdded {S : Type 0} (h : List (Event S)) (author : ℕ) (what : Plain S) (entry : ℕ) : Type 0 where
   pub inside : entry < length h
   pub call : ℕ
-  pub at : slice_get h entry ≡ Some (plain_entry p author call)
+  pub at : slice_get h entry ≡ Some (adds author call what)
 
 module _ {S C F : Type 0} (meaning : Meaning S C F) (listed : Listed S) (h : List (Event S)) (limit author s : ℕ) where
   -- what a node that asks for its catalog may be told; the k of a reply is fresh, and where the history was full,
@@ -88,17 +89,17 @@ module _ {S C F : Type 0} (meaning : Meaning S C F) (listed : Listed S) (h : Lis
 
   -- what may be told where a plain entry is asked for
   abbrev pub FitsPlain : Plain S → Said C F → Type 0
-  FitsPlain p (t.served entry k catalog) = ⊥
-  FitsPlain p (t.refused k fault) = ⊥
-  FitsPlain p (t.unknown k) = ⊥
-  FitsPlain p (t.ahead length_) = ⊥
-  FitsPlain p (t.full length_) = (length_ ≡ limit) × (length h ≡ limit)
-  FitsPlain p (t.added kind entry) = (kind ≡ kind_of p) × (s ≤ entry) × IsAdded h author p entry
-  FitsPlain p t.short = Unit {0}
+  FitsPlain what (t.served entry k catalog) = ⊥
+  FitsPlain what (t.refused k fault) = ⊥
+  FitsPlain what (t.unknown k) = ⊥
+  FitsPlain what (t.ahead length_) = ⊥
+  FitsPlain what (t.full length_) = (length_ ≡ limit) × (length h ≡ limit)
+  FitsPlain what (t.added kind entry) = (kind ≡ kind_of what) × (s ≤ entry) × IsAdded h author what entry
+  FitsPlain what t.short = Unit {0}
 
   abbrev pub FitsSaid : Asked S → Said C F → Type 0
   FitsSaid (compile w) told = FitsCompile w told
-  FitsSaid (plain p) told = FitsPlain p told
+  FitsSaid (plain what) told = FitsPlain what told
 
   -- under the history h, which may have `limit` entries, the reply fits the request of this author, who had seen s
   -- entries

@@ -3,7 +3,7 @@ use Rattle.std.specs.Prelude.{◌≡◌, ℕ, ◌≤◌, List, [], ◌∷◌, �
 use Rattle.pp_values.specs.Datum.{Datum}
 use Rattle.res_core.specs.declared.export_set.ExportSet.{ExportSet}
 use Rattle.site_core.specs.Meaning.{Meaning, HasExports}
-use Rattle.site_core.specs.Events.{Publication, Event, opens, publishes, deactivates, calls_of}
+use Rattle.site_core.specs.Events.{Publication, Event, opens, publishes, adds, calls_of}
 use Rattle.site_core.specs.Sets.{sets_at, site_at}
 
 module _ {S C F : Type 0} (meaning : Meaning S C F) where
@@ -24,7 +24,7 @@ module _ {S C F : Type 0} (meaning : Meaning S C F) where
   abbrev pub MayFollow : List (Event S) → Event S → Type 0
   MayFollow h (opens site) = ⊥
   MayFollow h (publishes p) = MayPublish h p
-  MayFollow h (deactivates d) = d.call ≡ calls_of d.author h
+  MayFollow h (adds author call what) = call ≡ calls_of author h
 
   -- each of these entries may stand behind h and those before it
   abbrev pub EachFollows : List (Event S) → List (Event S) → Type 0
@@ -36,7 +36,7 @@ module _ {S C F : Type 0} (meaning : Meaning S C F) where
   Legal [] = ⊥
   Legal (opens site ∷ es) = EachFollows (opens site ∷ []) es
   Legal (publishes p ∷ es) = ⊥
-  Legal (deactivates d ∷ es) = ⊥
+  Legal (adds author call what ∷ es) = ⊥
 
 -- a prefix of a legal history, not empty, is legal
 abbrev pub PrefixesAreLegal : {S C F : Type 0} → Meaning S C F → Type 0

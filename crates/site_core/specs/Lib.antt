@@ -1,7 +1,7 @@
 -- What the clauses of `site_main` rest on, and a reader has to believe: Meaning, Events, Sets, Legal, Asked, Said,
--- Fits, Runs
+-- Fits, Runs, Resuming
 -- What functions promise one another, what types keep, and what proofs read: EntryViews, Core, Answers, Snapshots,
--- Counts, Steps, Additions, Compiling, Each
+-- Counts, Steps, Additions, Changes, Compiling, Each
 pub mod Meaning
 pub mod Events
 pub mod EntryViews
@@ -19,3 +19,5 @@ pub mod Compiling
 pub mod Fits
 pub mod Runs
 pub mod Each
+pub mod Resuming
+pub mod Changes

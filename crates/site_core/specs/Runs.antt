@@ -1,6 +1,7 @@
 -- Requests of several authors and their replies under one history.
-use Rattle.std.specs.Prelude.{◌≡◌, ℕ, ◌+◌, ◌≤◌, List, [], ◌∷◌, ◌++◌, length, slice_get, Some}
+use Rattle.std.specs.Prelude.{◌≡◌, ℕ, ◌+◌, ◌≤◌, List, [], ◌∷◌, ◌++◌, length, slice_get}
 use Rattle.std.specs.List.{filter_map}
+use mathlib.Core.List.{IsPrefix}
 use Rattle.list_sums.specs.Counts.{total, same, times, below}
 use Rattle.site_core.specs.Asked.{Asked}
 use Rattle.site_core.specs.Meaning.{Meaning}
@@ -52,26 +53,34 @@ module _ {S C F : Type 0} (meaning : Meaning S C F) (listed : Listed S) (h : Lis
   Runs author s [] (reply ∷ replies) = ⊥
   Runs author s (asked ∷ requests) [] = ⊥
 
-  -- each author's requests stand in the order of all requests, and run with their replies from the opening on
-  abbrev pub EachRuns : List (Asked S) → List (ReplyOf C F) → List Hand → Type 0
-  EachRuns requests replies [] = Unit {0}
-  EachRuns requests replies (hand ∷ hands) =
+  -- each author's requests stand in the order of all requests, and run with their replies from s entries on
+  abbrev pub EachRuns : ℕ → List (Asked S) → List (ReplyOf C F) → List Hand → Type 0
+  EachRuns s requests replies [] = Unit {0}
+  EachRuns s requests replies (hand ∷ hands) =
       RiseFrom 0 hand.places
-      × Runs hand.author 1 (picked requests hand.places) (picked replies hand.places)
-      × EachRuns requests replies hands
+      × Runs hand.author s (picked requests hand.places) (picked replies hand.places)
+      × EachRuns s requests replies hands
+
+-- All requests, dealt to authors `base` up to, and without, `base + workers`, and their replies under one history that
+-- begins with the entries `before`, and whose other entries they alone made.
+pub record Continues {S C F : Type 0} (meaning : Meaning S C F) (listed : Listed S) (limit base workers : ℕ)
+    (before : List (Event S)) (requests : List (Asked S)) (replies : List (ReplyOf C F)) (h : List (Event S)) : Type 0
+  where
+    pub legal : Legal meaning h
+    pub begins : IsPrefix before h
+    pub few : length h ≤ limit
+    pub answered : length replies ≡ length requests
+    pub hands : List Hand
+    -- each author has one hand, and each request stands in one hand
+    pub authors : (author : ℕ) → total (is_hand_of author) hands + below base author ≡ below (base + workers) author
+    pub shares : (place : ℕ) → total (times_in place) hands ≡ below (length requests) place
+    pub run : EachRuns meaning listed h limit (length before) requests replies hands
+    -- each entry stands in `before` or is named by a reply, and by just one
+    pub once : (entry : ℕ) → times entry (all_named replies) + below (length before) entry ≡ below (length h) entry
 
 -- All requests, dealt to authors 0 up to, and without, `workers`, and their replies under one history of this site
 -- which they alone made.
-pub record Whole {S C F : Type 0} (meaning : Meaning S C F) (listed : Listed S) (limit workers : ℕ) (site : S)
-    (requests : List (Asked S)) (replies : List (ReplyOf C F)) (h : List (Event S)) : Type 0 where
-  pub legal : Legal meaning h
-  pub opening : slice_get h 0 ≡ Some (opens site)
-  pub few : length h ≤ limit
-  pub answered : length replies ≡ length requests
-  pub hands : List Hand
-  -- each author has one hand, and each request stands in one hand
-  pub authors : (author : ℕ) → total (is_hand_of author) hands ≡ below workers author
-  pub shares : (place : ℕ) → total (times_in place) hands ≡ below (length requests) place
-  pub run : EachRuns meaning listed h limit requests replies hands
-  -- each entry is the opening or named by a reply, and by just one
-  pub once : (entry : ℕ) → times entry (0 ∷ all_named replies) ≡ below (length h) entry
+abbrev pub Whole : {S C F : Type 0} → Meaning S C F → Listed S → (limit workers : ℕ) → S → List (Asked S) →
+    List (ReplyOf C F) → List (Event S) → Type 0
+Whole meaning listed limit workers site requests replies h =
+    Continues meaning listed limit 0 workers (opens site ∷ []) requests replies h

@@ -6,15 +6,15 @@ use Rattle.pp_values.specs.Datum.{Datum}
 use Rattle.res_core.specs.declared.export_set.ExportSet.{ExportSet}
 use Rattle.export_store.specs.Sets.{Sets}
 use Rattle.site_core.specs.Meaning.{Meaning}
-use Rattle.site_core.specs.Asked.{Plain, next_entry}
-use Rattle.site_core.specs.Events.{Event, opens, publication}
-use Rattle.site_core.specs.Sets.{sets_after}
-use Rattle.site_core.specs.Legal.{meaning_at}
+use Rattle.site_core.specs.Events.{Event, opens, publication, next_entry}
+use Rattle.site_core.specs.Sets.{sets_at, sets_after, site_at, site_after}
+use Rattle.site_core.specs.Legal.{meaning_at, Legal}
 use Rattle.site_core.specs.Core.{IsKept}
 use Rattle.site_core.specs.declared.history.TheConstants.{MOST_ENTRIES}
+use Rattle.site_core.specs.declared.plain.Plain.{Plain}
 
 -- A compile begins (`snap`) and ends: it publishes (`done`), or its call is dropped. The calls in flight are numbered
--- from 0. What is asked for by one entry is added at once (`add`).
+-- from 0. A plain entry is added at once (`add`).
 pub data Step (S : Type 0) : Type 0 where
   snap : Step S
   done : (flight author : ℕ) (node : List ℕ) (facts : Datum) → Step S
@@ -39,9 +39,17 @@ module _ {S : Type 0} where
   abbrev pub opened_state : S → State S
   opened_state site = record { history = opens site ∷ []; version = fin.empty; site = site; flights = [] }
 
-  -- one more entry, after which the version is kept up
+  -- over a history that was handed in, after which this site is in force
+  abbrev pub resumed_state : List (Event S) → S → State S
+  resumed_state h site = record { history = h; version = sets_at h (length h); site = site; flights = [] }
+
+  -- one more entry, by which version and site are kept up
   abbrev pub with_entry : State S → Event S → State S
-  with_entry s e = record s { history = s.history ++ e ∷ []; version = sets_after s.version e }
+  with_entry s e = record s {
+    history = s.history ++ e ∷ [];
+    version = sets_after s.version e;
+    site = site_after s.site e;
+  }
 
   -- one more call in flight, which begins with the entries so far
   abbrev pub with_flight : State S → State S
@@ -64,8 +72,8 @@ module _ {S C F : Type 0} (meaning : Meaning S C F) (limit : ℕ) where
       if nat_lt (length s.history) limit then option_and_then (after_done s flight author node facts)
       (slice_get s.flights flight) else None
   after_step s (drop_call flight) = if nat_lt flight (length s.flights) then Some (without_flight s flight) else None
-  after_step s (add author p) =
-      if nat_lt (length s.history) limit then Some (with_entry s (next_entry s.history author p)) else None
+  after_step s (add author what) =
+      if nat_lt (length s.history) limit then Some (with_entry s (next_entry s.history author what)) else None
 
   -- the state after all steps in turn
   abbrev pub after_steps : State S → List (Step S) → Option (State S)
@@ -83,3 +91,10 @@ abbrev pub RunsAreSound : {S C F : Type 0} → Meaning S C F → Type 0
 RunsAreSound {S} meaning =
     (limit : ℕ) (site : S) (steps : List (Step S)) (s : State S) → 1 ≤ limit → limit ≤ MOST_ENTRIES →
     after_steps meaning limit (opened_state site) steps ≡ Some s → IsSoundState meaning limit s
+
+-- and whatever the steps from a legal history on
+abbrev pub ResumedRunsAreSound : {S C F : Type 0} → Meaning S C F → Type 0
+ResumedRunsAreSound {S} meaning =
+    (limit : ℕ) (h : List (Event S)) (site : S) (steps : List (Step S)) (s : State S) → Legal meaning h →
+    length h ≤ limit → limit ≤ MOST_ENTRIES → site_at h (length h) ≡ Some site →
+    after_steps meaning limit (resumed_state h site) steps ≡ Some s → IsSoundState meaning limit s

@@ -5,6 +5,7 @@ ghost use Rattle.site_core.specs.Additions.{entry_of, MayAdd};
 
 use crate::done_stop::DoneStop;
 use crate::language::Language;
+use crate::plain::Plain;
 use crate::snapshot::Snapshot;
 use crate::state::CoreState;
 use pp_values::text::Text;
@@ -22,10 +23,8 @@ pub enum Addition<S> {
         snapshot: Snapshot<S>,
         set: ExportSet,
     },
-    /// The end of a node's set.
-    Deactivation {
-        node: Text,
-    },
+    /// What is asked for by one entry.
+    Plain(Plain<S>),
 }
 
 /// Adds it, as the author's next entry.
@@ -47,6 +46,6 @@ pub fn add<L: Language>(
             snapshot,
             set,
         } => core.done(alloc, author, node, facts, snapshot, set),
-        Addition::Deactivation { node } => core.deactivate(alloc, author, node),
+        Addition::Plain(what) => core.add_plain(alloc, author, what),
     }
 }

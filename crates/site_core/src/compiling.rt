@@ -7,12 +7,13 @@ ghost use Rattle.res_core.specs.AskedFacts.{has_facts};
 ghost use Rattle.res_core.specs.RequestViews.{wanted};
 ghost use Rattle.site_core.specs.Compiling.{ComesTo, stop_reply, served_reply, added_reply};
 ghost use Rattle.site_core.specs.Fits.{facts_for};
-ghost use Rattle.site_core.specs.Said.{deactivation};
+ghost use Rattle.site_core.specs.Said.{plain_reply as reply_of};
 
 use crate::addition::Addition;
 use crate::compile_stop::CompileStop;
 use crate::done_stop::DoneStop;
 use crate::language::Language;
+use crate::plain::PlainKind;
 use crate::reply::{Reply, ReplyOf};
 use crate::snapshot::Snapshot;
 use pp_values::copying::copy;
@@ -92,13 +93,23 @@ where
     }
 }
 
-/// The reply to a deactivation, by what came of adding it.
-pub fn deactivated<C, F>(answer: Result<u32, DoneStop>) -> ReplyOf<C, F>
-    ensures { result ≡ added_reply deactivation answer }
+/// The reply where a plain entry of this kind is asked for, by what came of adding it.
+pub fn added<C, F>(kind: PlainKind, answer: Result<u32, DoneStop>) -> ReplyOf<C, F>
+    ensures { result ≡ added_reply kind answer }
 {
     match answer {
-        Ok(entry) => ReplyOf::Deactivated { entry },
+        Ok(entry) => plain_reply(kind, entry),
         Err(stop) => stopped(stop),
+    }
+}
+
+fn plain_reply<C, F>(kind: PlainKind, entry: u32) -> ReplyOf<C, F>
+    ensures { result ≡ reply_of kind entry }
+{
+    match kind {
+        PlainKind::Deactivation => ReplyOf::Deactivated { entry },
+        PlainKind::Deployment => ReplyOf::Deployed { entry },
+        PlainKind::Filing => ReplyOf::Reported { entry },
     }
 }
 

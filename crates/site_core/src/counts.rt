@@ -1,8 +1,11 @@
-ghost use Rattle.std.specs.Prelude.{◌≡◌, ◌+◌, ◌<◌, ◌^◌, ℕ, ◌==◌, if◌then◌else◌, IsSome, OnOk};
+ghost use Rattle.std.specs.Prelude.{◌≡◌, ◌+◌, ◌<◌, ◌≤◌, ◌^◌, ℕ, ◌==◌, if◌then◌else◌, length, IfOk, IsSome, OnOk};
 ghost use Rattle.std.specs.Ordering.{nat_cmp};
 ghost use Rattle.std.specs.BTreeMap.{get};
-ghost use Rattle.site_core.specs.Counts.{count_in, SameCounts};
+ghost use Rattle.site_core.specs.Counts.{count_in, SameCounts, AreCountsOf};
+ghost use Rattle.site_core.specs.EntryViews.{events_of};
+ghost use Rattle.site_core.specs.declared.history.TheConstants.{MOST_ENTRIES};
 
+use crate::entry::Entry;
 use pp_values::memory::Memory;
 use std::alloc::Global;
 use std::collections::BTreeMap;
@@ -20,6 +23,23 @@ impl Counts {
         Counts {
             by_author: BTreeMap::new(alloc),
         }
+    }
+
+    /// The counts of these entries.
+    pub fn of<S>(alloc: Global, entries: &[Entry<S>]) -> Result<Counts, Memory>
+        requires { length entries.now ≤ MOST_ENTRIES }
+        ensures { IfOk result (λ c. AreCountsOf c.by_author (events_of entries.now)) }
+    {
+        let mut counts = Counts::new(alloc);
+        let mut left = entries;
+        while let [entry, after @ ..] = left {
+            if let Some(author) = entry.author() {
+                counts.reserve(author)?;
+                counts.raise(author);
+            }
+            left = after;
+        }
+        Ok(counts)
     }
 
     pub fn count(&self, author: u32) -> u32

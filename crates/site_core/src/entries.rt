@@ -1,7 +1,8 @@
-ghost use Rattle.std.specs.Prelude.{◌≡◌, ◌<◌, ◌^◌, [], ◌∷◌, ◌++◌, length, is_ok, if◌then◌else◌, IfOk, IsTrue};
+ghost use Rattle.std.specs.Prelude.{◌≡◌, ◌<◌, ◌^◌, [], ◌∷◌, ◌++◌, length, max, is_ok, if◌then◌else◌, IfOk, IsTrue};
 ghost use Rattle.std.specs.Arc.{arc_value};
 ghost use Rattle.site_core.specs.Events.{opens, is_later, are_entries};
 ghost use Rattle.site_core.specs.EntryViews.{event_of, events_of};
+ghost use Rattle.site_core.specs.Resuming.{past_author, base_of};
 
 use crate::entry::Entry;
 use pp_values::memory::Memory;
@@ -74,6 +75,13 @@ impl<S> Entries<S> {
         self.items.as_slice()
     }
 
+    /// The greatest author, where an entry has one.
+    pub fn greatest_author(&self) -> Option<u32>
+        ensures { past_author result ≡ base_of self.now }
+    {
+        greatest_of(self.items.as_slice())
+    }
+
     /// Appends an entry that opens no site. Where there is no memory, the list stays as it was.
     pub fn push(&mut self, entry: Entry<S>) -> Result<(), Memory>
     where
@@ -83,5 +91,27 @@ impl<S> Entries<S> {
     {
         self.items.push(entry)?;
         Ok(())
+    }
+}
+
+fn greatest_of<S>(entries: &[Entry<S>]) -> Option<u32>
+    ensures { past_author result ≡ base_of (events_of entries.now) }
+{
+    let mut greatest = None;
+    let mut left = entries;
+    while let [entry, after @ ..] = left {
+        greatest = greater(greatest, entry.author());
+        left = after;
+    }
+    greatest
+}
+
+fn greater(first: Option<u32>, second: Option<u32>) -> Option<u32>
+    ensures { past_author result ≡ max (past_author first) (past_author second) }
+{
+    match (first, second) {
+        (Some(first), Some(second)) => Some(first.max(second)),
+        (Some(author), None) | (None, Some(author)) => Some(author),
+        (None, None) => None,
     }
 }

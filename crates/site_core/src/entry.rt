@@ -1,3 +1,8 @@
+ghost use Rattle.std.specs.Prelude.{◌≡◌};
+ghost use Rattle.site_core.specs.Events.{author_of};
+ghost use Rattle.site_core.specs.EntryViews.{event_of};
+
+use agent_machine::Report;
 use pp_values::text::Text;
 use pp_values::value::Value;
 use res_core::export_set::ExportSet;
@@ -31,4 +36,37 @@ pub enum Entry<S> {
         call: u32,
         node: Text,
     },
+    /// Another site took the place of the one in force. Compiles that had begun kept theirs.
+    Deploy {
+        /// Who made the entry.
+        author: u32,
+        /// How many entries this author made before.
+        call: u32,
+        site: Arc<S>,
+    },
+    /// What became of a node's catalog was told. No set changed.
+    Report {
+        /// Who made the entry.
+        author: u32,
+        /// How many entries this author made before.
+        call: u32,
+        /// The node that the report names, where the entry was made by `file_report`.
+        node: Text,
+        report: Arc<Report>,
+    },
+}
+
+impl<S> Entry<S> {
+    /// Who made the entry; none made the opening.
+    pub fn author(&self) -> Option<u32>
+        ensures { result ≡ author_of (event_of self.now) }
+    {
+        match self {
+            Entry::Open { .. } => None,
+            Entry::Publish { author, .. }
+            | Entry::Deactivate { author, .. }
+            | Entry::Deploy { author, .. }
+            | Entry::Report { author, .. } => Some(*author),
+        }
+    }
 }

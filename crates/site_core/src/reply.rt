@@ -15,6 +15,10 @@ pub enum ReplyOf<C, F> {
     UnknownNode { k: u32 },
     /// The node was deactivated by entry `entry`.
     Deactivated { entry: u32 },
+    /// The site was deployed by entry `entry`.
+    Deployed { entry: u32 },
+    /// The report was filed as entry `entry`.
+    Reported { entry: u32 },
     Memory,
 }
 

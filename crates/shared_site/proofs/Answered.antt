@@ -8,9 +8,9 @@ use Rattle.pp_values.specs.Views.{view}
 use Rattle.res_core.specs.Asked.{Wanted}
 use Rattle.res_core.specs.declared.export_set.ExportSet.{ExportSet}
 use Rattle.site_core.specs.Additions.{entry_of}
-use Rattle.site_core.specs.Asked.{Plain, compile, plain, plain_entry, next_entry}
+use Rattle.site_core.specs.Asked.{compile, plain}
 use Rattle.site_core.specs.Compiling.{IsMeant, IsPublication, IsTold, served_reply, added_reply}
-use Rattle.site_core.specs.Events.{Event, publishes, publication, calls_of}
+use Rattle.site_core.specs.Events.{Event, publishes, adds, publication, next_entry, calls_of}
 use Rattle.site_core.specs.Fits.{Listed, IsFresh, Means, FitsSaid, had_said, named_said, had}
 use Rattle.site_core.specs.Legal.{Legal}
 use Rattle.site_core.specs.Meaning.{Meaning}
@@ -21,6 +21,7 @@ use Rattle.site_core.specs.declared.addition.Addition.{Addition}
 use Rattle.site_core.specs.declared.addition.Addition.TheVariants as v
 use Rattle.site_core.specs.declared.done_stop.DoneStop.{DoneStop}
 use Rattle.site_core.specs.declared.done_stop.DoneStop.TheVariants as stop
+use Rattle.site_core.specs.declared.plain.Plain.{Plain}
 use Rattle.site_core.specs.declared.reply.ReplyOf.{ReplyOf}
 use Rattle.site_core.specs.declared.reply.ReplyOf.TheVariants as a
 use Rattle.site_core.specs.declared.snapshot.Snapshot.{Snapshot}
@@ -45,7 +46,7 @@ module _ {S : Type 0} where
   pub later_trans : (p m q : Known S) → IsLater p m → IsLater m q → IsLater p q
   later_trans p m q first second = record {
     site = second.site ∙ first.site;
-    limit = second.limit ∙ first.limit;
+    terms = second.terms ∙ first.terms;
     numbers = second.numbers ∙ first.numbers;
     room = second.room ∙ first.room;
     author = second.author ∙ first.author;
@@ -55,7 +56,7 @@ module _ {S : Type 0} where
   later_refl : (p : Known S) → IsLater p p
   later_refl p = record {
     site = refl;
-    limit = refl;
+    terms = refl;
     numbers = refl;
     room = refl;
     author = refl;
@@ -138,6 +139,8 @@ module _ {S : Type 0} where
           leaves = sym begun.number;
         })
     told p m s w (a.Deactivated entry) begun is = absurd is
+    told p m s w (a.Deployed entry) begun is = absurd is
+    told p m s w (a.Reported entry) begun is = absurd is
     told p m s w a.Memory begun is = record {
       later = begun.later;
       legal = begun.legal;
@@ -228,21 +231,21 @@ module _ {S : Type 0} where
         ended p m q s w (view facts) catalog set answer begun meant second legal
         (subst (λ (x : List ℕ × ℕ). HasAsked (λ h. publication h m.author x.0 (view facts) x.1 set) answer m q) same
         asked)
-    published p m q s w catalog (v.Deactivation node) answer begun is second legal asked = absurd is
+    published p m q s w catalog (v.Plain what) answer begun is second legal asked = absurd is
 
     -- a plain entry was to be added
     pub plain_ended : (p q : Known S) (one : Plain S) (answer : Result ℕ DoneStop) → IsLater p q →
         Legal meaning q.front → HasAsked (λ h. next_entry h p.author one) answer p q →
         IsAnswered meaning listed (plain one) (added_reply (kind_of one) answer) p q
     plain_ended p q one (Ok n) later legal (h, before, number, front, more) =
-        let entry : ℕ → Event S = λ by. plain_entry one by (calls_of p.author h) in
+        let entry : ℕ → Event S = λ by. adds by (calls_of p.author h) one in
         let grown : length p.front ≤ length h = prefix_length p.front h before in
         let long : length q.front ≡ length h + 1 = with_one h q.front (entry p.author) front in
         let is : said (plain_reply (kind_of one) n) ≡ t.added (kind_of one) n = said_plain (kind_of one) n in
         record {
           later = later;
           legal = legal;
-          fits = subst (FitsSaid meaning listed q.front q.limit q.author (length p.front) (plain one)) (sym is) (
+          fits = subst (FitsSaid meaning listed q.front q.terms.limit q.author (length p.front) (plain one)) (sym is) (
             refl,
             omega (arith, grown, number),
             record {

@@ -1,6 +1,7 @@
 pub mod Shown
+pub mod Parted
 pub mod Turns
 pub mod Calls
-pub mod Entries
+pub mod Longer
 pub mod Answered
 pub mod Sent

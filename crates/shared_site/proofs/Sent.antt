@@ -1,9 +1,12 @@
 -- For callers: a site may be shared by threads, and a pass may go to another one.
 use denote.Param.Send.{IsSend, IsSync, sendable}
 use denote.RattleType.{RattleType}
+use denote.Struct.Declared as declared
 use Rattle.std.proofs.Crossing.{crosses}
 use Rattle.export_store.proofs.Sent as versions
 use Rattle.export_store.proofs.Sent.{set_send, set_sync, version_send, version_sync}
+use Rattle.agent_machine.specs.contracts.report_line.ReportLine as line
+use Rattle.agent_machine.specs.contracts.report.Report as report
 use Rattle.site_core.specs.contracts.entry.Entry as entry
 use Rattle.site_core.specs.contracts.entries.Entries as entries
 use Rattle.site_core.specs.contracts.state.CoreState as state
@@ -17,8 +20,20 @@ use Rattle.shared_site.specs.contracts.site.SharedSite as site
 
 pub ruleset parts = (versions.parts, sendable)
 
+pub line_send : IsSend (declared.row line.the_type)
+line_send = search parts depth 60
+
+pub line_sync : IsSync (declared.row line.the_type)
+line_sync = search parts depth 60
+
+pub report_send : IsSend (declared.row report.the_type)
+report_send = search (parts, line_send) depth 60
+
+pub report_sync : IsSync (declared.row report.the_type)
+report_sync = search (parts, line_sync) depth 60
+
 pub entry_send : (S : RattleType) → IsSend S → IsSync S → IsSend (entry.the_row S)
-entry_send S send sync = search (parts, set_send, set_sync) depth 60
+entry_send S send sync = search (parts, set_send, set_sync, report_send, report_sync) depth 60
 
 pub entries_send : (S : RattleType) → IsSend S → IsSync S → IsSend (entries.the_row S)
 entries_send S send sync = search (parts, entry_send) depth 60

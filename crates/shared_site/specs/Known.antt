@@ -3,10 +3,11 @@ use Rattle.std.specs.Prelude.{ℕ, ◌≡◌, ◌+◌, ◌-◌, ◌≤◌, ◌++
 use Rattle.std.specs.Coded.{Coded, code_by, coded×, coded_list, coded_ℕ}
 use Rattle.atomic_table.specs.Seated.{table_id_coded}
 use mathlib.Core.List.{IsPrefix}
+use Rattle.list_sums.specs.Counts.{below, times}
 use Rattle.hist_lock.specs.Held.{LockId}
 use Rattle.site_core.specs.Asked.{Asked}
 use Rattle.site_core.specs.Meaning.{Meaning}
-use Rattle.site_core.specs.Events.{Event, opens, coded_events}
+use Rattle.site_core.specs.Events.{Event, coded_events}
 use Rattle.site_core.specs.Legal.{Legal}
 use Rattle.site_core.specs.Fits.{Listed, Fits, had_said, named}
 use Rattle.site_core.specs.declared.reply.ReplyOf.{ReplyOf}
@@ -14,12 +15,13 @@ use Rattle.site_core.specs.Said as t
 use Rattle.site_core.specs.Said.{Said, said}
 use Rattle.site_core.specs.declared.done_stop.DoneStop.{DoneStop}
 use Rattle.site_core.specs.declared.done_stop.DoneStop.TheVariants as stop
+use Rattle.shared_site.specs.Shows.{Terms, Shared, coded_terms}
 
 pub record Known (S : Type 0) : Type 0 where
   -- which site it is
   pub site : LockId
-  -- how many entries its history may have
-  pub limit : ℕ
+  -- how many entries its history may have, from which number on its own authors are, and how many entries it was given
+  pub terms : Terms
   -- the entries that the pass has seen, from the first on
   pub front : List (Event S)
   -- the places of the entries that its authors made
@@ -33,19 +35,19 @@ pub record Known (S : Type 0) : Type 0 where
 -- what a note says
 pub record Told (S : Type 0) : Type 0 where
   pub site : LockId
-  pub limit : ℕ
+  pub terms : Terms
   pub front : List (Event S)
 
 -- the codes by which a proof tells them apart
 abbrev pub coded_known : {S : Type 0} → Coded S → Coded (Known S)
 coded_known {S} site =
-    code_by ((LockId × (ℕ × List (Event S))) × ((List ℕ × List ℕ) × (ℕ × ℕ)))
-    (coded× (coded× table_id_coded (coded× coded_ℕ (coded_events site)))
+    code_by ((LockId × (Terms × List (Event S))) × ((List ℕ × List ℕ) × (ℕ × ℕ)))
+    (coded× (coded× table_id_coded (coded× coded_terms (coded_events site)))
     (coded× (coded× (coded_list coded_ℕ) (coded_list coded_ℕ)) (coded× coded_ℕ coded_ℕ)))
-    (λ p. ((p.site, (p.limit, p.front)), ((p.own, p.numbers), (p.room, p.author))))
+    (λ p. ((p.site, (p.terms, p.front)), ((p.own, p.numbers), (p.room, p.author))))
     (λ q. record {
       site = q.0.0;
-      limit = q.0.1.0;
+      terms = q.0.1.0;
       front = q.0.1.1;
       own = q.1.0.0;
       numbers = q.1.0.1;
@@ -56,8 +58,8 @@ coded_known {S} site =
 
 abbrev pub coded_told : {S : Type 0} → Coded S → Coded (Told S)
 coded_told {S} site =
-    code_by (LockId × (ℕ × List (Event S))) (coded× table_id_coded (coded× coded_ℕ (coded_events site)))
-    (λ t. (t.site, (t.limit, t.front))) (λ q. record { site = q.0; limit = q.1.0; front = q.1.1 }) (λ _. refl)
+    code_by (LockId × (Terms × List (Event S))) (coded× table_id_coded (coded× coded_terms (coded_events site)))
+    (λ t. (t.site, (t.terms, t.front))) (λ q. record { site = q.0; terms = q.1.0; front = q.1.1 }) (λ _. refl)
 
 module _ {S : Type 0} where
   -- how many authors it stands for
@@ -68,22 +70,22 @@ module _ {S : Type 0} where
   abbrev pub IsShare : LockId → ℕ → Known S → Type 0
   IsShare site count p = (p.site ≡ site) × (p.room + held p ≡ count)
 
-  -- the first pass, which has seen the opening
-  abbrev pub opening : LockId → S → ℕ → Known S
-  opening id site limit = record {
+  -- the first pass of a site whose history is shared from now on, and which it has seen
+  abbrev pub first_pass : LockId → Shared S → Known S
+  first_pass id s = record {
     site = id;
-    limit = limit;
-    front = opens site ∷ [];
+    terms = s.terms;
+    front = s.history;
     own = [];
-    numbers = 0 ∷ [];
+    numbers = s.terms.base ∷ [];
     room = 65535;
-    author = 0;
+    author = s.terms.base;
   }
 
   -- the same pass, which has seen as much or more
   pub record IsLater (p q : Known S) : Type 0 where
     pub site : q.site ≡ p.site
-    pub limit : q.limit ≡ p.limit
+    pub terms : q.terms ≡ p.terms
     pub numbers : q.numbers ≡ p.numbers
     pub room : q.room ≡ p.room
     pub author : q.author ≡ p.author
@@ -98,7 +100,7 @@ module _ {S : Type 0} where
   abbrev pub HasAsked : (List (Event S) → Event S) → Result ℕ DoneStop → Known S → Known S → Type 0
   HasAsked entry (Ok number) p q = HasAdded entry number p q
   HasAsked entry (Err (stop.Full length_)) p q =
-      (q.own ≡ p.own) × (length_ ≡ length q.front) × (length_ ≡ q.limit)
+      (q.own ≡ p.own) × (length_ ≡ length q.front) × (length_ ≡ q.terms.limit)
   HasAsked entry (Err stop.Memory) p q = q.own ≡ p.own
 
   -- a pass that was split, and the new one, both of which see this now
@@ -108,12 +110,12 @@ module _ {S : Type 0} where
   abbrev pub cut_off : Known S → List (Event S) → Known S
   cut_off p now = record {
     site = p.site;
-    limit = p.limit;
+    terms = p.terms;
     front = now;
     own = [];
-    numbers = (65536 - p.room) ∷ [];
+    numbers = (p.terms.base + (65536 - p.room)) ∷ [];
     room = 0;
-    author = 65536 - p.room;
+    author = p.terms.base + (65536 - p.room);
   }
 
   abbrev pub seeing : Known S → List (Event S) → Known S
@@ -129,7 +131,11 @@ module _ {S : Type 0} where
   }
 
   abbrev pub told_by : Known S → Told S
-  told_by p = record { site = p.site; limit = p.limit; front = p.front }
+  told_by p = record { site = p.site; terms = p.terms; front = p.front }
+
+  -- each entry is one of the first that were given, or at one of these places, and is so once
+  abbrev pub AreTheOthers : ℕ → List ℕ → List (Event S) → Type 0
+  AreTheOthers given places h = (place : ℕ) → times place places + below given place ≡ below (length h) place
 
 module _ {C F : Type 0} where
   abbrev pub LeavesSaid : ℕ → Said C F → ℕ → Type 0
@@ -147,7 +153,7 @@ pub record IsAnswered {S C F : Type 0} (meaning : Meaning S C F) (listed : Liste
   pub later : IsLater p q
   pub legal : Legal meaning q.front
   -- the reply fits what the pass sees now, for an author who had seen what it saw before
-  pub fits : Fits meaning listed q.front q.limit q.author (length p.front) asked reply
+  pub fits : Fits meaning listed q.front q.terms.limit q.author (length p.front) asked reply
   -- the one entry that the pass's own gained is the one that the reply names, if it names one
   pub own : q.own ≡ p.own ++ named reply
   pub leaves : Leaves (length p.front) reply (length q.front)

@@ -1,3 +1,4 @@
 pub mod Shows
 pub mod Known
+pub mod Resumed
 pub mod Seats

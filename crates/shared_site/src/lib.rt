@@ -5,7 +5,9 @@ mod locked;
 mod pass;
 mod site;
 
+pub use agent_machine::Report;
 pub use pass::{SiteNote, SitePass};
 pub use res_core::request::CompileRequest;
 pub use site::SharedSite;
 pub use site_core::reply::{Reply, ReplyOf};
+pub use site_core::resume_stop::ResumeStop;

@@ -17,6 +17,7 @@ use std::marker::Model;
 pub struct SitePass<L: Language> {
     pub(crate) pass: Pass<Locked<L>>,
     pub(crate) count: u32,
+    pub(crate) author: u32,
 }
 
 impl<L: Language> Model for SitePass<L> {
@@ -30,15 +31,16 @@ impl<L: Language> Model for SitePass<L> {
 
     ghost view = { λ p. known p.pass };
 
-    ghost invariant = { λ p. IsReady L.meaning p.pass p.count };
+    ghost invariant = { λ p. IsReady L.meaning p.pass p.count p.author };
 }
 
 impl<L: Language> SitePass<L> {
     /// What is true of every pass. It does nothing.
     pub fn keeps(&self)
         ensures legal { Legal L.meaning self.now.front }
-        ensures few { length self.now.front ≤ self.now.limit }
-        ensures bounded { self.now.limit ≤ MOST_ENTRIES }
+        ensures few { length self.now.front ≤ self.now.terms.limit }
+        ensures bounded { self.now.terms.limit ≤ MOST_ENTRIES }
+        ensures given { self.now.terms.given ≤ length self.now.front }
         ensures own { AreCalls author_of self.now.own self.now.numbers self.now.front }
         ensures author { slice_get self.now.numbers 0 ≡ Some self.now.author }
         ensures authors { self.now.room + held self.now ≤ 65536 }
@@ -50,7 +52,7 @@ impl<L: Language> SitePass<L> {
     pub fn author(&self) -> u32
         ensures { result ≡ self.now.author }
     {
-        self.pass.author()
+        self.author
     }
 
     /// How many entries it has seen. It takes no turn.

@@ -3,28 +3,34 @@ ghost use mathlib.Core.List.{IsPrefix};
 ghost use Rattle.res_core.specs.RequestViews.{wanted};
 ghost use Rattle.res_core.specs.AskedFacts.{has_facts};
 ghost use Rattle.site_core.specs.Additions.{entry_of, MayAdd};
-ghost use Rattle.site_core.specs.Asked.{compile as wants, plain, deactivate as ends};
-ghost use Rattle.site_core.specs.Events.{author_of};
+ghost use Rattle.site_core.specs.Asked.{compile as wants, plain, filed};
 ghost use Rattle.site_core.specs.Legal.{Legal};
+ghost use Rattle.site_core.specs.Sets.{sets_at};
 ghost use Rattle.site_core.specs.Snapshots.{Of};
 ghost use Rattle.site_core.specs.declared.history.TheConstants.{MOST_ENTRIES};
-ghost use Rattle.hist_lock.specs.Calls.{IsLonger, AreAllCalls};
-ghost use Rattle.shared_site.specs.Known.{held, IsLater, IsAnswered, HasAsked, opening, cut, cut_off, seeing, joined_to, told_by};
+ghost use Rattle.site_core.specs.declared.plain.Plain.TheVariants as ask;
+ghost use Rattle.hist_lock.specs.Calls.{IsLonger};
+ghost use Rattle.shared_site.specs.Shows.{opened, IsNew};
+ghost use Rattle.shared_site.specs.Known.{held, first_pass, IsLater, IsAnswered, HasAsked, cut, cut_off, seeing, joined_to, told_by, AreTheOthers};
+ghost use Rattle.shared_site.specs.Resumed.{Resumes};
 
 use crate::locked::Locked;
 use crate::pass::{SiteNote, SitePass};
+use agent_machine::Report;
+use export_store::version::Version;
 use hist_lock::HistLock;
 use pp_values::memory::Memory;
 use pp_values::text::Text;
 use res_core::request::CompileRequest;
-use site_core::addition::{Addition, add};
-use site_core::compiling::{compile_under, deactivated, served};
+use site_core::addition::Addition;
+use site_core::compiling::{added, compile_under, served};
 use site_core::done_stop::DoneStop;
 use site_core::history::History;
 use site_core::language::Language;
+use site_core::plain::Plain;
 use site_core::reply::{Reply, ReplyOf};
+use site_core::resume_stop::ResumeStop;
 use site_core::snapshot::Snapshot;
-use site_core::state::CoreState;
 use site_io::Gate;
 use std::alloc::Global;
 use std::marker::Model;
@@ -55,12 +61,26 @@ impl<L: Language + Drop> SharedSite<L> {
     ) -> Result<(SharedSite<L>, SitePass<L>), Memory>
         requires low { 1 ≤ limit }
         requires high { limit ≤ MOST_ENTRIES }
-        ensures { IfOk result (λ r. r.1 ≡ opening r.0 site limit) }
+        ensures { IfOk result (λ r. r.1 ≡ first_pass r.0 (opened site limit)) }
     {
-        let state = CoreState::open(alloc, site, limit)?;
-        let count = state.len();
-        let (lock, pass) = HistLock::new(alloc, Locked { state })?;
-        Ok((SharedSite { language, lock }, SitePass { pass, count }))
+        share(alloc, language, Locked::open(alloc, site, limit)?)
+    }
+
+    /// Goes on from a history, which may have so many entries. The first pass has seen all of it, and authors are
+    /// numbered on from its greatest one.
+    pub fn resume(
+        alloc: Global,
+        language: L,
+        history: History<L::Site>,
+        limit: u32,
+    ) -> Result<(SharedSite<L>, SitePass<L>), ResumeStop>
+        requires legal { Legal L.meaning history.entries }
+        requires few { length history.entries ≤ limit }
+        requires high { limit ≤ MOST_ENTRIES }
+        ensures { Resumes history.entries limit result }
+    {
+        let locked = Locked::resume(alloc, history, limit)?;
+        Ok(share(alloc, language, locked)?)
     }
 
     /// Compiles the node under the entries so far, and publishes what it exports behind those that came meanwhile.
@@ -102,13 +122,82 @@ impl<L: Language + Drop> SharedSite<L> {
         node: &Text,
     ) -> Reply<L>
         requires site { pass.old.site ≡ self.now }
-        ensures { IsAnswered L.meaning L.listed (plain (ends node.now)) result pass.old pass.new }
+        ensures { IsAnswered L.meaning L.listed (plain (ask.Deactivate node.now)) result pass.old pass.new }
     {
         pass.keeps();
         let Ok(node) = node.copy(alloc) else {
             return ReplyOf::Memory;
         };
-        deactivated(self.append(rt, alloc, pass, Addition::Deactivation { node }))
+        self.add_plain(rt, alloc, pass, Plain::Deactivate { node })
+    }
+
+    /// Puts another site in the place of the one in force, in one turn. Compiles that have begun keep theirs.
+    pub fn deploy<R: Wait>(
+        &self,
+        rt: &R,
+        alloc: Global,
+        pass: &mut SitePass<L>,
+        site: L::Site,
+    ) -> Reply<L>
+        requires site { pass.old.site ≡ self.now }
+        ensures { IsAnswered L.meaning L.listed (plain (ask.Deploy site)) result pass.old pass.new }
+    {
+        self.add_plain(rt, alloc, pass, Plain::Deploy { site })
+    }
+
+    /// Files a report for the node that it names, in one turn.
+    pub fn file_report<R: Wait>(
+        &self,
+        rt: &R,
+        alloc: Global,
+        pass: &mut SitePass<L>,
+        report: Report,
+    ) -> Reply<L>
+        requires site { pass.old.site ≡ self.now }
+        ensures { IsAnswered L.meaning L.listed (plain (filed report)) result pass.old pass.new }
+    {
+        pass.keeps();
+        let Ok(node) = report.node.copy(alloc) else {
+            return ReplyOf::Memory;
+        };
+        self.add_plain(rt, alloc, pass, Plain::Report { node, report })
+    }
+
+    /// The sets that the nodes export after all entries so far, which the pass has seen from then on. It takes a turn
+    /// of its own.
+    pub fn sets<R: Wait>(
+        &self,
+        rt: &R,
+        alloc: Global,
+        pass: &mut SitePass<L>,
+    ) -> Result<Version, Memory>
+        requires site { pass.old.site ≡ self.now }
+        ensures later { IsLater pass.old pass.new }
+        ensures own { pass.new.own ≡ pass.old.own }
+        ensures legal { Legal L.meaning pass.new.front }
+        ensures sets { IfOk result (λ v. v ≡ sets_at pass.new.front (length pass.new.front)) }
+    {
+        let Snapshot {
+            k: _,
+            site: _,
+            version,
+        } = self.snap(rt, alloc, pass)?;
+        Ok(version)
+    }
+
+    // Adds a plain entry of the pass's own author.
+    fn add_plain<R: Wait>(
+        &self,
+        rt: &R,
+        alloc: Global,
+        pass: &mut SitePass<L>,
+        what: Plain<L::Site>,
+    ) -> Reply<L>
+        requires site { pass.old.site ≡ self.now }
+        ensures { IsAnswered L.meaning L.listed (plain what) result pass.old pass.new }
+    {
+        let kind = what.kind();
+        added(kind, self.append(rt, alloc, pass, Addition::Plain(what)))
     }
 
     // The site and the sets of a moment, in a turn of its own.
@@ -126,8 +215,8 @@ impl<L: Language + Drop> SharedSite<L> {
         ensures of { IfOk result (λ s. Of s pass.new.front) }
     {
         let turn = self.lock.take(rt, &mut pass.pass);
-        pass.count = turn.value.state.len();
-        let snapshot = turn.value.state.snap(alloc);
+        pass.count = turn.value.len();
+        let snapshot = turn.value.snap(alloc);
         self.lock.give(&mut pass.pass, turn);
         snapshot
     }
@@ -148,8 +237,8 @@ impl<L: Language + Drop> SharedSite<L> {
     {
         let author = pass.author();
         let mut turn = self.lock.take(rt, &mut pass.pass);
-        let answer = add(alloc, &mut turn.value.state, author, addition);
-        pass.count = turn.value.state.len();
+        let answer = turn.value.add(alloc, author, addition);
+        pass.count = turn.value.len();
         match answer {
             Ok(entry) => {
                 self.lock.give_with(&mut pass.pass, turn);
@@ -173,14 +262,16 @@ impl<L: Language + Drop> SharedSite<L> {
         ensures new { IfOk result (λ r. r ≡ cut_off pass.old pass.new.front) }
     {
         let mut turn = self.lock.take(rt, &mut pass.pass);
-        pass.count = turn.value.state.len();
+        pass.count = turn.value.len();
         let Ok(new) = self.lock.split(&mut pass.pass, &mut turn) else {
             unreachable!()
         };
+        let author = turn.value.author(new.author());
         self.lock.give(&mut pass.pass, turn);
         Ok(SitePass {
             pass: new,
             count: pass.count,
+            author,
         })
     }
 
@@ -218,6 +309,7 @@ impl<L: Language + Drop> SharedSite<L> {
         let SitePass {
             pass: theirs,
             count,
+            author: _,
         } = other;
         self.lock.join(&mut pass.pass, theirs);
         pass.count = pass.count.max(count);
@@ -234,12 +326,35 @@ impl<L: Language + Drop> SharedSite<L> {
         requires all { pass.room + held pass ≡ 65536 }
         ensures legal { Legal L.meaning result.entries }
         ensures front { IsPrefix pass.front result.entries }
-        ensures few { length result.entries ≤ pass.limit }
-        ensures own { AreAllCalls author_of pass.own result.entries }
+        ensures few { length result.entries ≤ pass.terms.limit }
+        ensures own { AreTheOthers pass.terms.given pass.own result.entries }
     {
         let SharedSite { language: _, lock } = self;
-        let SitePass { pass, count: _ } = pass;
-        let Locked { state } = lock.close(pass);
-        state.into_history()
+        let SitePass {
+            pass,
+            count: _,
+            author: _,
+        } = pass;
+        lock.close(pass).into_history()
     }
+}
+
+// Puts a lock round a history in which no own author has an entry yet.
+fn share<L: Language + Drop>(
+    alloc: Global,
+    language: L,
+    locked: Locked<L>,
+) -> Result<(SharedSite<L>, SitePass<L>), Memory>
+    requires { IsNew locked }
+    ensures { IfOk result (λ r. r.1 ≡ first_pass r.0 locked) }
+{
+    let count = locked.len();
+    let author = locked.author(0);
+    let (lock, pass) = HistLock::new(alloc, locked)?;
+    let pass = SitePass {
+        pass,
+        count,
+        author,
+    };
+    Ok((SharedSite { language, lock }, pass))
 }

@@ -30,6 +30,7 @@ module _ {S T : Type 0} where
       AreGathered (out ∷ []) out.pass out.seat answers.items
   gathered_one out answers is = record {
     fronts = (prefix_self out.pass.front, tt);
+    terms = λ terms each. each.0;
     own = λ k. omega arith;
     passes = omega arith;
     known = (omega arith, tt);
@@ -49,6 +50,7 @@ module _ {S T : Type 0} where
       let front = longer_one pass.front out.pass.front now.front longer in
       record {
         fronts = (front.1, each_map _ _ (λ o p. prefix_trans o.pass.front pass.front now.front p front.0) outs done.fronts);
+        terms = λ terms each. ap (λ p. p.terms) now_is ∙ done.terms terms each.1;
         own = λ k. let sum = total-append (same k) pass.own out.pass.own in
             let is : times k now.own ≡ times k (pass.own ++ out.pass.own) = ap (λ p. times k p.own) now_is in
             omega (arith, done.own k, sum, is);
@@ -73,27 +75,25 @@ module _ {S T : Type 0} where
 
 module _ {S T : Type 0} where
   -- the last of the works were joined, and these are left
-  pub record AreJoining (id : LockId) (limit : ℕ) (claims : ClaimsId) (works left : List (Out S T)) (pass : Known S)
+  pub record AreJoining (id : LockId) (claims : ClaimsId) (works left : List (Out S T)) (pass : Known S)
       (seat : Claimant) (answers : List (Answered T)) : Type 0 where
     pub done : List (Out S T)
     pub split : works ≡ left ++ done
     pub gathered : AreGathered done pass seat answers
     pub site_is : pass.site ≡ id
-    pub limit_is : pass.limit ≡ limit
     pub claims_are : seat.claims ≡ claims
 
-  pub joining_one : (id : LockId) (limit : ℕ) (claims : ClaimsId) (works left : List (Out S T)) (out : Out S T)
-      (answers : Vec (Answered T) Global) → Each (IsOf id limit claims) works → works ≡ left ++ out ∷ [] →
-      out.answers ≡ Some answers → AreJoining id limit claims works left out.pass out.seat answers.items
-  joining_one id limit claims works left out answers of split is =
-      let mine = each_end (IsOf id limit claims) left out [] (subst (Each (IsOf id limit claims)) split of) in
+  pub joining_one : (id : LockId) (claims : ClaimsId) (works left : List (Out S T)) (out : Out S T)
+      (answers : Vec (Answered T) Global) → Each (IsOf id claims) works → works ≡ left ++ out ∷ [] →
+      out.answers ≡ Some answers → AreJoining id claims works left out.pass out.seat answers.items
+  joining_one id claims works left out answers of split is =
+      let mine = each_end (IsOf id claims) left out [] (subst (Each (IsOf id claims)) split of) in
       record {
         done = out ∷ [];
         split = split;
         gathered = gathered_one out answers is;
         site_is = mine.0;
-        limit_is = mine.1;
-        claims_are = mine.2;
+        claims_are = mine.1;
       }
 
   taken_out : (works left done rest : List (Out S T)) (out : Out S T) → works ≡ left ++ done → left ≡ rest ++ out ∷ [] →
@@ -102,32 +102,31 @@ module _ {S T : Type 0} where
       split ∙ ap (λ l. l ++ done) last ∙ append_assoc rest (out ∷ []) done
 
   -- the one that is taken next
-  pub next_of : (id : LockId) (limit : ℕ) (claims : ClaimsId) (works left rest : List (Out S T)) (out : Out S T)
-      (pass : Known S) (seat : Claimant) (answers : List (Answered T)) → Each (IsOf id limit claims) works →
-      AreJoining id limit claims works left pass seat answers → left ≡ rest ++ out ∷ [] → IsOf id limit claims out
-  next_of id limit claims works left rest out pass seat answers of joining last =
-      each_end (IsOf id limit claims) rest out joining.done
-      (subst (Each (IsOf id limit claims)) (taken_out works left joining.done rest out joining.split last) of)
+  pub next_of : (id : LockId) (claims : ClaimsId) (works left rest : List (Out S T)) (out : Out S T)
+      (pass : Known S) (seat : Claimant) (answers : List (Answered T)) → Each (IsOf id claims) works →
+      AreJoining id claims works left pass seat answers → left ≡ rest ++ out ∷ [] → IsOf id claims out
+  next_of id claims works left rest out pass seat answers of joining last =
+      each_end (IsOf id claims) rest out joining.done
+      (subst (Each (IsOf id claims)) (taken_out works left joining.done rest out joining.split last) of)
 
-  pub joining_more : (id : LockId) (limit : ℕ) (claims : ClaimsId) (works left rest : List (Out S T)) (out : Out S T)
+  pub joining_more : (id : LockId) (claims : ClaimsId) (works left rest : List (Out S T)) (out : Out S T)
       (pass now : Known S) (seat joined : Claimant) (answers all : List (Answered T)) (more : Vec (Answered T) Global) →
-      AreJoining id limit claims works left pass seat answers → left ≡ rest ++ out ∷ [] → out.answers ≡ Some more →
+      AreJoining id claims works left pass seat answers → left ≡ rest ++ out ∷ [] → out.answers ≡ Some more →
       now ≡ joined_to pass out.pass now.front → IsLonger pass.front out.pass.front now.front →
       joined ≡ joining seat out.seat → all ≡ answers ++ more.items →
-      AreJoining id limit claims works rest now joined all
-  joining_more id limit claims works left rest out pass now seat joined answers all more before last is now_is longer
+      AreJoining id claims works rest now joined all
+  joining_more id claims works left rest out pass now seat joined answers all more before last is now_is longer
       joined_is all_is = record {
         done = out ∷ before.done;
         split = taken_out works left before.done rest out before.split last;
         gathered = gathered_more before.done out pass now seat joined answers all more before.gathered is now_is longer
             joined_is all_is;
         site_is = ap (λ p. p.site) now_is ∙ before.site_is;
-        limit_is = ap (λ p. p.limit) now_is ∙ before.limit_is;
         claims_are = ap (λ s. s.claims) joined_is ∙ before.claims_are;
       }
 
-  pub joined_all : (id : LockId) (limit : ℕ) (claims : ClaimsId) (works left : List (Out S T)) (pass : Known S)
-      (seat : Claimant) (answers : List (Answered T)) → AreJoining id limit claims works left pass seat answers →
+  pub joined_all : (id : LockId) (claims : ClaimsId) (works left : List (Out S T)) (pass : Known S)
+      (seat : Claimant) (answers : List (Answered T)) → AreJoining id claims works left pass seat answers →
       left ≡ [] → AreGathered works pass seat answers
-  joined_all id limit claims works left pass seat answers joining none =
+  joined_all id claims works left pass seat answers joining none =
       subst (λ l. AreGathered l pass seat answers) (sym (joining.split ∙ ap (λ l. l ++ joining.done) none)) joining.gathered

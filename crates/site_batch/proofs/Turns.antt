@@ -12,6 +12,7 @@ use Rattle.site_core.specs.declared.reply.ReplyOf.{ReplyOf}
 use Rattle.site_core.proofs.Fitting.{fits_less}
 use Rattle.site_core.proofs.Running.{had_after-push, all_named-snoc, runs_push, runs_under}
 use Rattle.shared_site.proofs.Answered.{later_trans, had_within}
+use Rattle.shared_site.specs.Shows.{Terms}
 use Rattle.shared_site.specs.Known.{Known, IsAnswered}
 use Rattle.work_pool.specs.Seats.{Claimant, Draws}
 use Rattle.site_batch.specs.declared.answered.Answered.{Answered}
@@ -35,12 +36,13 @@ rise-more low high next (x ∷ xs) le rise = (rise.0, rise-more (x + 1) high nex
 
 module _ {S C F : Type 0} (meaning : Meaning S C F) (listed : Listed S) where
   -- a pass and a seat that have done nothing
-  pub started : (requests : List (Asked S)) (p : Known S) (b : Claimant) → Legal meaning p.front → length p.front ≤ p.limit →
-      1 ≤ length p.front → b.numbers ≡ [] → HasAnswered meaning listed requests p p b b []
-  started requests p b legal few some idle = record {
+  pub started : (requests : List (Asked S)) (p : Known S) (b : Claimant) → Legal meaning p.front →
+      length p.front ≤ p.terms.limit → p.terms.given ≤ length p.front → b.numbers ≡ [] →
+      HasAnswered meaning listed requests p p b b []
+  started requests p b legal few given idle = record {
     later = record {
       site = refl;
-      limit = refl;
+      terms = refl;
       numbers = refl;
       room = refl;
       author = refl;
@@ -49,7 +51,7 @@ module _ {S C F : Type 0} (meaning : Meaning S C F) (listed : Listed S) where
     legal = legal;
     few = few;
     run = tt;
-    had = some;
+    had = given;
     own = sym (append-nil p.own);
     seat = record { claims = refl; room = refl; held = refl };
     drawn = idle;
@@ -61,24 +63,29 @@ module _ {S C F : Type 0} (meaning : Meaning S C F) (listed : Listed S) where
       (answers after : List (Answered (ReplyOf C F))) (answer : Answered (ReplyOf C F)) (asked : Asked S) →
       HasAnswered meaning listed requests p q seat b answers → Draws (Some answer.index) b drawn →
       slice_get requests answer.index ≡ Some asked → IsAnswered meaning listed asked answer.reply q now →
-      length now.front ≤ now.limit → after ≡ answers ++ answer ∷ [] →
+      length now.front ≤ now.terms.limit → after ≡ answers ++ answer ∷ [] →
       HasAnswered meaning listed requests p now seat drawn after
   stepped requests p q now seat b drawn answers after answer asked done draws at new few is =
       subst (HasAnswered meaning listed requests p now seat drawn) (sym is) (record {
         later = later_trans p q now done.later new.later;
         legal = new.legal;
         few = few;
-        run = subst (λ l. Runs meaning listed now.front now.limit now.author 1 l (replies_of (answers ++ answer ∷ [])))
+        run = subst (λ l. Runs meaning listed now.front now.terms.limit now.author now.terms.given l
+            (replies_of (answers ++ answer ∷ [])))
             (sym (ap (picked requests) (map-append (λ x. x.index) answers (answer ∷ []))
             ∙ picked-snoc requests (indexes answers) answer.index asked at))
-            (subst (λ l. Runs meaning listed now.front now.limit now.author 1 (picked requests (indexes answers) ++ asked ∷ []) l)
+            (subst (λ l. Runs meaning listed now.front now.terms.limit now.author now.terms.given
+            (picked requests (indexes answers) ++ asked ∷ []) l)
             (sym (map-append (λ x. x.reply) answers (answer ∷ [])))
-            (runs_push meaning listed now.front now.limit now.author 1 (picked requests (indexes answers)) (replies_of answers) asked
-            answer.reply grown (fits_less meaning listed now.front now.limit now.author (length q.front)
-            (had_after 1 (replies_of answers)) asked answer.reply done.had new.fits)));
-        had = subst (λ n. n ≤ length now.front) (sym (ap (had_after 1) (map-append (λ x. x.reply) answers (answer ∷ []))
-            ∙ had_after-push 1 (replies_of answers) answer.reply))
-            (had_within (had_after 1 (replies_of answers)) (length q.front) (length now.front) answer.reply done.had new.leaves);
+            (runs_push meaning listed now.front now.terms.limit now.author now.terms.given
+            (picked requests (indexes answers)) (replies_of answers) asked answer.reply grown
+            (fits_less meaning listed now.front now.terms.limit now.author (length q.front)
+            (had_after now.terms.given (replies_of answers)) asked answer.reply had new.fits)));
+        had = subst (λ n. n ≤ length now.front) (sym (ap (had_after now.terms.given)
+            (map-append (λ x. x.reply) answers (answer ∷ []))
+            ∙ had_after-push now.terms.given (replies_of answers) answer.reply))
+            (had_within (had_after now.terms.given (replies_of answers)) (length q.front) (length now.front) answer.reply
+            had new.leaves);
         own = new.own ∙ ap (λ l. l ++ named answer.reply) done.own
             ∙ append_assoc p.own (all_named (replies_of answers)) (named answer.reply)
             ∙ ap (λ l. p.own ++ l) (sym (ap all_named (map-append (λ x. x.reply) answers (answer ∷ []))
@@ -94,12 +101,22 @@ module _ {S C F : Type 0} (meaning : Meaning S C F) (listed : Listed S) where
             (rise-snoc 0 b.known drawn.known b.numbers answer.index done.rising draws.1 (ap (λ s. s.known) draws.3));
       })
     where
-      grown : Runs meaning listed now.front now.limit now.author 1 (picked requests (indexes answers)) (replies_of answers)
-      grown = subst (λ n. Runs meaning listed now.front now.limit n 1 (picked requests (indexes answers)) (replies_of answers))
-          (sym new.later.author) (subst (λ n. Runs meaning listed now.front n q.author 1 (picked requests (indexes answers))
-          (replies_of answers)) (sym new.later.limit) (runs_under meaning listed q.front now.front q.limit q.author 1
+      same : (had_after now.terms.given (replies_of answers)) ≡ (had_after q.terms.given (replies_of answers))
+      same = ap (λ t. had_after t.given (replies_of answers)) new.later.terms
+
+      had : had_after now.terms.given (replies_of answers) ≤ length q.front
+      had = omega (arith, same, done.had)
+
+      grown : Runs meaning listed now.front now.terms.limit now.author now.terms.given
+          (picked requests (indexes answers)) (replies_of answers)
+      grown = subst (λ n. Runs meaning listed now.front now.terms.limit n now.terms.given
+          (picked requests (indexes answers)) (replies_of answers))
+          (sym new.later.author)
+          (subst (λ (t : Terms). Runs meaning listed now.front t.limit q.author t.given
+          (picked requests (indexes answers)) (replies_of answers)) (sym new.later.terms)
+          (runs_under meaning listed q.front now.front q.terms.limit q.author q.terms.given
           (picked requests (indexes answers)) (replies_of answers) new.later.front
-          (omega (arith, few, new.later.limit)) done.run))
+          (omega (arith, few, ap (λ t. t.limit) new.later.terms)) done.run))
 
   -- a seat found that no number is left
   pub drained : (requests : List (Asked S)) (p q : Known S) (seat b after : Claimant)

@@ -5,24 +5,23 @@ use Rattle.std.specs.declared.alloc.Global.{Global}
 use mathlib.Core.List.{IsPrefix}
 use Rattle.list_sums.specs.Counts.{total, times, same, below}
 use Rattle.list_sums.proofs.Totals.{total-append}
-use Rattle.list_sums.proofs.Marks.{below_yes}
-use Rattle.hist_lock.specs.Calls.{AreAllCalls}
+use Rattle.list_sums.proofs.Marks.{below_yes, below_no}
 use Rattle.hist_lock.specs.Held.{LockId}
-use Rattle.hist_lock.proofs.Fronts.{prefix_trans, at_front}
+use Rattle.hist_lock.proofs.Fronts.{prefix_trans}
 use Rattle.site_core.specs.Asked.{Asked}
 use Rattle.site_core.specs.Meaning.{Meaning}
-use Rattle.site_core.specs.Events.{Event, opens, author_of}
+use Rattle.site_core.specs.Events.{Event}
 use Rattle.site_core.specs.Legal.{Legal}
 use Rattle.site_core.specs.Fits.{Listed, named}
-use Rattle.site_core.specs.Runs.{Hand, is_hand_of, times_in, RiseFrom, picked, all_named, Runs, EachRuns, Whole}
+use Rattle.site_core.specs.Runs.{Hand, is_hand_of, times_in, RiseFrom, picked, all_named, Runs, EachRuns, Continues}
 use Rattle.site_core.specs.declared.reply.ReplyOf.{ReplyOf}
-use Rattle.shared_site.specs.Known.{Known, held, opening}
-use Rattle.shared_site.proofs.Entries.{all_entries}
+use Rattle.shared_site.specs.Shows.{Terms, Shared}
+use Rattle.shared_site.specs.Known.{Known, held, first_pass, AreTheOthers}
 use Rattle.work_pool.specs.Seats.{ClaimsId, Claimant, Draws}
 use Rattle.site_batch.specs.declared.answered.Answered.{Answered}
 use Rattle.site_core.specs.Each.{Each}
 use Rattle.site_batch.specs.Answers.{indexes, AreAll, AreOrdered}
-use Rattle.site_batch.specs.Shares.{Share, IsIdle, IsNew, is_author, pass_weight, seat_weight, AreShares}
+use Rattle.site_batch.specs.Shares.{Share, seen_by, IsIdle, IsNew, is_author, pass_weight, seat_weight, AreShares}
 use Rattle.site_batch.specs.Gathered.{Out, kept, shown, all_answers, IsOf, AreGathered, AreWorked}
 use Rattle.site_batch.specs.Work.{replies_of, RiseWithin, HasAnswered, HasWorked}
 use Rattle.site_core.proofs.Running.{times_named, runs_under}
@@ -47,23 +46,27 @@ module _ {C F : Type 0} where
       ap (λ o. cons_option o (picked replies (indexes answers))) each.0
       ∙ ap (λ l. a.reply ∷ l) (picked_replies replies answers each.1)
 
+-- a first worker has a share
+no_shares : {P : Type 0} (base workers : ℕ) → 1 ≤ workers → 0 + below base base ≡ below (base + workers) base → P
+no_shares base workers some are =
+    let none = below_no base base (omega arith) in
+    let one = below_yes (base + workers) base (omega (arith, some)) in absurd (omega (arith, none, one, are))
+
 -- the hands of workers that came back
 hands_of : {S T : Type 0} → List (Out S T) → List Hand
 hands_of [] = []
 hands_of (out ∷ outs) = record { author = out.pass.author; places = out.seat.numbers } ∷ hands_of outs
 
 module _ {S : Type 0} where
-  -- the first pass of a site has seen the opening
-  pub shares_of : (id : LockId) (limit workers : ℕ) (site : S) (pass : Known S) (claims : ClaimsId)
-      (shares : List (Share S)) → pass ≡ opening id site limit → AreShares id limit pass.front claims workers shares →
-      AreShares id limit (opens site ∷ []) claims workers shares
-  shares_of id limit workers site pass claims shares is are =
-      subst (λ p. AreShares id limit p.front claims workers shares) is are
+  -- what the first pass has seen is the history that it was made with
+  pub first_seen : (id : LockId) (s : Shared S) (pass : Known S) → pass ≡ first_pass id s →
+      pass ≡ first_pass id (seen_by pass)
+  first_seen id s pass is = is ∙ ap (λ p. first_pass id (seen_by p)) (sym is)
 
-  pub idle_all : (id : LockId) (limit workers : ℕ) (first : List (Event S)) (claims : ClaimsId)
-      (shares : List (Share S)) → AreShares id limit first claims workers shares → Each (IsIdle id claims) shares
-  idle_all id limit workers first claims shares are =
-      each_map (IsNew id limit first claims) (IsIdle id claims)
+  pub idle_all : (id : LockId) (s : Shared S) (workers : ℕ) (claims : ClaimsId)
+      (shares : List (Share S)) → AreShares id s claims workers shares → Each (IsIdle id claims) shares
+  idle_all id s workers claims shares are =
+      each_map (IsNew id s claims) (IsIdle id claims)
       (λ share new. (new.site_is, new.claims_are, new.idle)) shares are.new
 
 module _ {S C F : Type 0} (meaning : Meaning S C F) (listed : Listed S) (requests : List (Asked S)) where
@@ -79,29 +82,33 @@ module _ {S C F : Type 0} (meaning : Meaning S C F) (listed : Listed S) (request
       HasAnswered meaning listed requests share.0 out.pass share.1 out.seat (kept out.answers) × (out.seat.claims.count ≤ out.seat.known)
   done_of share out worked some = done_with share out.pass out.seat out.answers worked some
 
-  is_with : (id : LockId) (limit : ℕ) (first : List (Event S)) (claims : ClaimsId) (share : Share S) (q : Known S)
-      (b : Claimant) (answers : Option (Vec (Answered (ReplyOf C F)) Global)) → IsNew id limit first claims share →
+  is_with : (id : LockId) (s : Shared S) (claims : ClaimsId) (share : Share S) (q : Known S)
+      (b : Claimant) (answers : Option (Vec (Answered (ReplyOf C F)) Global)) → IsNew id s claims share →
       HasWorked meaning listed requests share.0 share.1 q b (shown answers) →
-      (q.site ≡ id) × (q.limit ≡ limit) × (b.claims ≡ claims)
-  is_with id limit first claims share q b None new worked =
-      (worked.0 ∙ new.site_is, worked.1 ∙ new.limit_is, worked.2 ∙ new.claims_are)
-  is_with id limit first claims share q b (Some answers) new worked =
-      (worked.0.later.site ∙ new.site_is, worked.0.later.limit ∙ new.limit_is, worked.0.seat.claims ∙ new.claims_are)
+      (q.site ≡ id) × (q.terms ≡ s.terms) × (b.claims ≡ claims)
+  is_with id s claims share q b None new worked =
+      (worked.0 ∙ new.site_is, worked.1 ∙ new.terms_is, worked.2 ∙ new.claims_are)
+  is_with id s claims share q b (Some answers) new worked =
+      (worked.0.later.site ∙ new.site_is, worked.0.later.terms ∙ new.terms_is, worked.0.seat.claims ∙ new.claims_are)
 
-  is_of : (id : LockId) (limit : ℕ) (first : List (Event S)) (claims : ClaimsId) (share : Share S)
-      (out : Out S (ReplyOf C F)) → IsNew id limit first claims share →
-      HasWorked meaning listed requests share.0 share.1 out.pass out.seat (shown out.answers) → IsOf id limit claims out
-  is_of id limit first claims share out new worked =
-      is_with id limit first claims share out.pass out.seat out.answers new worked
+  is_of : (id : LockId) (s : Shared S) (claims : ClaimsId) (share : Share S)
+      (out : Out S (ReplyOf C F)) → IsNew id s claims share →
+      HasWorked meaning listed requests share.0 share.1 out.pass out.seat (shown out.answers) →
+      (out.pass.site ≡ id) × (out.pass.terms ≡ s.terms) × (out.seat.claims ≡ claims)
+  is_of id s claims share out new worked =
+      is_with id s claims share out.pass out.seat out.answers new worked
 
-  pub are_of : (id : LockId) (limit : ℕ) (first : List (Event S)) (claims : ClaimsId) (shares : List (Share S))
-      (outs : List (Out S (ReplyOf C F))) → Each (IsNew id limit first claims) shares →
-      AreWorked meaning listed requests shares outs → Each (IsOf id limit claims) outs
-  are_of id limit first claims [] [] new worked = tt
-  are_of id limit first claims [] (out ∷ outs) new worked = absurd worked
-  are_of id limit first claims (share ∷ shares) [] new worked = tt
-  are_of id limit first claims (share ∷ shares) (out ∷ outs) new worked =
-      (is_of id limit first claims share out new.0 worked.0, are_of id limit first claims shares outs new.1 worked.1)
+  pub are_of : (id : LockId) (s : Shared S) (claims : ClaimsId) (shares : List (Share S))
+      (outs : List (Out S (ReplyOf C F))) → Each (IsNew id s claims) shares →
+      AreWorked meaning listed requests shares outs →
+      Each (IsOf id claims) outs × Each (λ out. out.pass.terms ≡ s.terms) outs
+  are_of id s claims [] [] new worked = (tt, tt)
+  are_of id s claims [] (out ∷ outs) new worked = absurd worked
+  are_of id s claims (share ∷ shares) [] new worked = absurd worked
+  are_of id s claims (share ∷ shares) (out ∷ outs) new worked =
+      let first = is_of id s claims share out new.0 worked.0 in
+      let rest = are_of id s claims shares outs new.1 worked.1 in
+      (((first.0, first.2), rest.0), (first.1, rest.1))
 
   -- what passes and seats account for stays
   weights : (shares : List (Share S)) (outs : List (Out S (ReplyOf C F))) → AreWorked meaning listed requests shares outs →
@@ -117,16 +124,16 @@ module _ {S C F : Type 0} (meaning : Meaning S C F) (listed : Listed S) (request
       (omega (arith, rest.0, room, size), omega (arith, rest.1, done.0.seat.room, done.0.seat.held))
 
   -- what the entries of all outs are, by the replies
-  owned : (id : LockId) (limit : ℕ) (first : List (Event S)) (claims : ClaimsId) (shares : List (Share S))
-      (outs : List (Out S (ReplyOf C F))) → Each (IsNew id limit first claims) shares →
+  owned : (id : LockId) (s : Shared S) (claims : ClaimsId) (shares : List (Share S))
+      (outs : List (Out S (ReplyOf C F))) → Each (IsNew id s claims) shares →
       AreWorked meaning listed requests shares outs → Each (λ out. IsSome out.answers) outs → (k : ℕ) →
       total (λ out. times k out.pass.own) outs ≡ total (λ a. times k (named a.reply)) (all_answers outs)
-  owned id limit first claims [] [] new worked some k = refl
-  owned id limit first claims [] (out ∷ outs) new worked some k = absurd worked
-  owned id limit first claims (share ∷ shares) [] new worked some k = absurd worked
-  owned id limit first claims (share ∷ shares) (out ∷ outs) new worked some k =
+  owned id s claims [] [] new worked some k = refl
+  owned id s claims [] (out ∷ outs) new worked some k = absurd worked
+  owned id s claims (share ∷ shares) [] new worked some k = absurd worked
+  owned id s claims (share ∷ shares) (out ∷ outs) new worked some k =
       let done = done_of share out worked.0 some.0 in
-      let rest = owned id limit first claims shares outs new.1 worked.1 some.1 k in
+      let rest = owned id s claims shares outs new.1 worked.1 some.1 k in
       let own : times k out.pass.own ≡ times k (all_named (replies_of (kept out.answers))) =
       ap (times k) (done.0.own ∙ ap (λ l. l ++ all_named (replies_of (kept out.answers))) new.0.own) in
       let names = times_named k (replies_of (kept out.answers)) in
@@ -171,64 +178,66 @@ module _ {S C F : Type 0} (meaning : Meaning S C F) (listed : Listed S) (request
   places_of (out ∷ outs) place = let rest = places_of outs place in omega (arith, rest)
 
   -- each worker's replies run under the whole history
-  runs_of : (limit : ℕ) (h : List (Event S)) (front : List (Event S)) (replies : List (ReplyOf C F)) (id : LockId)
-      (first : List (Event S)) (claims : ClaimsId) (shares : List (Share S)) (outs : List (Out S (ReplyOf C F))) →
-      Each (IsNew id limit first claims) shares → AreWorked meaning listed requests shares outs →
+  runs_of : (h front : List (Event S)) (replies : List (ReplyOf C F)) (id : LockId) (s : Shared S) (claims : ClaimsId)
+      (shares : List (Share S)) (outs : List (Out S (ReplyOf C F))) →
+      Each (IsNew id s claims) shares → AreWorked meaning listed requests shares outs →
       Each (λ out. IsSome out.answers) outs → Each (λ out. IsPrefix out.pass.front front) outs → IsPrefix front h →
-      length h ≤ limit → Each (λ a. slice_get replies a.index ≡ Some a.reply) (all_answers outs) →
-      EachRuns meaning listed h limit requests replies (hands_of outs)
+      length h ≤ s.terms.limit → Each (λ a. slice_get replies a.index ≡ Some a.reply) (all_answers outs) →
+      EachRuns meaning listed h s.terms.limit s.terms.given requests replies (hands_of outs)
   unfolding hands_of
-  runs_of limit h front replies id first claims [] [] new worked some fronts begins few at = tt
-  runs_of limit h front replies id first claims [] (out ∷ outs) new worked some fronts begins few at = absurd worked
-  runs_of limit h front replies id first claims (share ∷ shares) [] new worked some fronts begins few at = absurd worked
-  runs_of limit h front replies id first claims (share ∷ shares) (out ∷ outs) new worked some fronts begins few at =
+  runs_of h front replies id s claims [] [] new worked some fronts begins few at = tt
+  runs_of h front replies id s claims [] (out ∷ outs) new worked some fronts begins few at = absurd worked
+  runs_of h front replies id s claims (share ∷ shares) [] new worked some fronts begins few at = absurd worked
+  runs_of h front replies id s claims (share ∷ shares) (out ∷ outs) new worked some fronts begins few at =
       let done = done_of share out worked.0 some.0 in
-      let bound : out.pass.limit ≡ limit = done.0.later.limit ∙ new.0.limit_is in
+      let terms : out.pass.terms ≡ s.terms = done.0.later.terms ∙ new.0.terms_is in
       let mine = each_back (λ a. slice_get replies a.index ≡ Some a.reply) (all_answers outs) (kept out.answers) at in
-      let run = runs_under meaning listed out.pass.front h limit out.pass.author 1 (picked requests (indexes (kept out.answers)))
-      (replies_of (kept out.answers)) (prefix_trans out.pass.front front h fronts.0 begins) few
-      (subst (λ n. Runs meaning listed out.pass.front n out.pass.author 1 (picked requests (indexes (kept out.answers)))
-      (replies_of (kept out.answers))) bound done.0.run) in (
+      let run = runs_under meaning listed out.pass.front h s.terms.limit out.pass.author s.terms.given
+      (picked requests (indexes (kept out.answers))) (replies_of (kept out.answers))
+      (prefix_trans out.pass.front front h fronts.0 begins) few
+      (subst (λ (t : Terms). Runs meaning listed out.pass.front t.limit out.pass.author t.given
+      (picked requests (indexes (kept out.answers))) (replies_of (kept out.answers))) terms done.0.run) in (
         rise_from 0 out.seat.known out.seat.numbers done.0.rising,
-        subst (λ l. Runs meaning listed h limit out.pass.author 1 (picked requests l) (picked replies l)) (sym done.0.drawn)
-            (subst (λ l. Runs meaning listed h limit out.pass.author 1 (picked requests (indexes (kept out.answers))) l)
-            (sym (picked_replies replies (kept out.answers) mine)) run),
-        runs_of limit h front replies id first claims shares outs new.1 worked.1 some.1 fronts.1 begins few
+        subst (λ l. Runs meaning listed h s.terms.limit out.pass.author s.terms.given (picked requests l)
+            (picked replies l)) (sym done.0.drawn)
+            (subst (λ l. Runs meaning listed h s.terms.limit out.pass.author s.terms.given
+            (picked requests (indexes (kept out.answers))) l) (sym (picked_replies replies (kept out.answers) mine)) run),
+        runs_of h front replies id s claims shares outs new.1 worked.1 some.1 fronts.1 begins few
             (each_front (λ a. slice_get replies a.index ≡ Some a.reply) (all_answers outs) (kept out.answers) at),
       )
 
   -- there is a first worker
-  first_front : (id : LockId) (limit workers : ℕ) (first : List (Event S)) (claims : ClaimsId) (shares : List (Share S))
-      (outs : List (Out S (ReplyOf C F))) (front : List (Event S)) → AreShares id limit first claims workers shares →
+  first_front : (id : LockId) (s : Shared S) (workers : ℕ) (claims : ClaimsId) (shares : List (Share S))
+      (outs : List (Out S (ReplyOf C F))) (front : List (Event S)) → AreShares id s claims workers shares →
       1 ≤ workers → AreWorked meaning listed requests shares outs → Each (λ out. IsSome out.answers) outs →
-      Each (λ out. IsPrefix out.pass.front front) outs → IsPrefix first front
-  first_front id limit workers first claims [] outs front are some worked kept_all fronts =
-      let none = are.authors 0 in let one = below_yes workers 0 (omega (arith, some)) in absurd (omega (arith, none, one))
-  first_front id limit workers first claims (share ∷ shares) [] front are some worked kept_all fronts = absurd worked
-  first_front id limit workers first claims (share ∷ shares) (out ∷ outs) front are some worked kept_all fronts =
+      Each (λ out. IsPrefix out.pass.front front) outs → IsPrefix s.history front
+  first_front id s workers claims [] outs front are some worked kept_all fronts =
+      no_shares s.terms.base workers some (are.authors s.terms.base)
+  first_front id s workers claims (share ∷ shares) [] front are some worked kept_all fronts = absurd worked
+  first_front id s workers claims (share ∷ shares) (out ∷ outs) front are some worked kept_all fronts =
       let done = done_of share out worked.0 kept_all.0 in
-      prefix_trans first share.0.front front are.new.0.begins
+      prefix_trans s.history share.0.front front are.new.0.begins
       (prefix_trans share.0.front out.pass.front front done.0.later.front fronts.0)
 
   -- the seats found that no number is left
-  pub all_known : (id : LockId) (limit workers : ℕ) (first : List (Event S)) (claims : ClaimsId) (shares : List (Share S))
+  pub all_known : (id : LockId) (s : Shared S) (workers : ℕ) (claims : ClaimsId) (shares : List (Share S))
       (outs : List (Out S (ReplyOf C F))) (pass : Known S) (seat : Claimant) (answers : List (Answered (ReplyOf C F))) →
-      AreShares id limit first claims workers shares → 1 ≤ workers → AreWorked meaning listed requests shares outs →
+      AreShares id s claims workers shares → 1 ≤ workers → AreWorked meaning listed requests shares outs →
       AreGathered outs pass seat answers → claims.count ≤ seat.known
-  all_known id limit workers first claims [] outs pass seat answers are some worked gathered =
-      let none = are.authors 0 in let one = below_yes workers 0 (omega (arith, some)) in absurd (omega (arith, none, one))
-  all_known id limit workers first claims (share ∷ shares) [] pass seat answers are some worked gathered = absurd worked
-  all_known id limit workers first claims (share ∷ shares) (out ∷ outs) pass seat answers are some worked gathered =
-      let of = is_of id limit first claims share out are.new.0 worked.0 in
+  all_known id s workers claims [] outs pass seat answers are some worked gathered =
+      no_shares s.terms.base workers some (are.authors s.terms.base)
+  all_known id s workers claims (share ∷ shares) [] pass seat answers are some worked gathered = absurd worked
+  all_known id s workers claims (share ∷ shares) (out ∷ outs) pass seat answers are some worked gathered =
+      let of = is_of id s claims share out are.new.0 worked.0 in
       let is : out.seat.claims.count ≡ claims.count = ap (λ c. c.count) of.2 in
       let low = knows share shares out outs seat worked gathered.kept_all.0 gathered.known in omega (arith, low, is)
 
-  pub all_weights : (id : LockId) (limit workers : ℕ) (first : List (Event S)) (claims : ClaimsId)
+  pub all_weights : (id : LockId) (s : Shared S) (workers : ℕ) (claims : ClaimsId)
       (shares : List (Share S)) (outs : List (Out S (ReplyOf C F))) (pass : Known S) (seat : Claimant)
-      (answers : List (Answered (ReplyOf C F))) → AreShares id limit first claims workers shares →
+      (answers : List (Answered (ReplyOf C F))) → AreShares id s claims workers shares →
       AreWorked meaning listed requests shares outs → AreGathered outs pass seat answers →
       (pass.room + held pass ≡ 65536) × (seat.room + seat.held ≡ 65536)
-  all_weights id limit workers first claims shares outs pass seat answers are worked gathered =
+  all_weights id s workers claims shares outs pass seat answers are worked gathered =
       let sums = weights shares outs worked gathered.kept_all in
       (omega (arith, gathered.passes, sums.0, are.passes), omega (arith, gathered.seats, sums.1, are.seats))
 
@@ -242,38 +251,44 @@ module _ {S C F : Type 0} (meaning : Meaning S C F) (listed : Listed S) (request
       let sum = drawn_of shares outs worked gathered.kept_all i in
       omega (arith, is, sum, gathered.drawn i, drawn i)
 
-  pub whole : (id : LockId) (limit workers : ℕ) (site : S) (claims : ClaimsId) (shares : List (Share S))
+  pub whole : (id : LockId) (s : Shared S) (workers : ℕ) (claims : ClaimsId) (shares : List (Share S))
       (outs : List (Out S (ReplyOf C F))) (pass : Known S) (seat : Claimant) (answers : List (Answered (ReplyOf C F)))
-      (replies : List (ReplyOf C F)) (h : List (Event S)) →
-      AreShares id limit (opens site ∷ []) claims workers shares → 1 ≤ workers →
+      (replies : List (ReplyOf C F)) (h : List (Event S)) → s.terms.given ≡ length s.history →
+      AreShares id s claims workers shares → 1 ≤ workers →
       AreWorked meaning listed requests shares outs → AreGathered outs pass seat answers →
       ((i : ℕ) → times i seat.numbers ≡ below (length requests) i) → AreOrdered (length requests) answers replies →
-      pass.limit ≡ limit → Legal meaning h → IsPrefix pass.front h → length h ≤ pass.limit →
-      AreAllCalls author_of pass.own h → Whole meaning listed limit workers site requests replies h
-  whole id limit workers site claims shares outs pass seat answers replies h are some worked gathered drawn ordered bound
-      legal begins few own =
-      let within : length h ≤ limit = omega (arith, few, bound) in
-      let front = first_front id limit workers (opens site ∷ []) claims shares outs pass.front are some worked
-      gathered.kept_all gathered.fronts in
-      let opened = prefix_trans (opens site ∷ []) pass.front h front begins in
+      Legal meaning h → IsPrefix pass.front h → length h ≤ pass.terms.limit →
+      AreTheOthers pass.terms.given pass.own h →
+      Continues meaning listed s.terms.limit s.terms.base workers s.history requests replies h
+  whole id s workers claims shares outs pass seat answers replies h given are some worked gathered drawn ordered legal
+      begins few own =
+      let terms : pass.terms ≡ s.terms =
+      gathered.terms s.terms (are_of id s claims shares outs are.new worked).1 in
+      let within : length h ≤ s.terms.limit = omega (arith, few, ap (λ t. t.limit) terms) in
+      let front = first_front id s workers claims shares outs pass.front are some worked gathered.kept_all
+      gathered.fronts in
       record {
         legal = legal;
-        opening = at_front (opens site ∷ []) h 0 opened (omega arith);
+        begins = prefix_trans s.history pass.front h front begins;
         few = within;
         answered = ordered.count_is;
         hands = hands_of outs;
-        authors = λ a. authors_of shares outs worked gathered.kept_all a ∙ are.authors a;
+        authors = λ a. let mine = authors_of shares outs worked gathered.kept_all a in
+            let all = are.authors a in omega (arith, mine, all);
         shares = λ place. places_of outs place ∙ sym (gathered.drawn place) ∙ drawn place;
-        run = runs_of limit h pass.front replies id (opens site ∷ []) claims shares outs are.new worked gathered.kept_all
+        run = subst (λ n. EachRuns meaning listed h s.terms.limit n requests replies (hands_of outs)) given
+            (runs_of h pass.front replies id s claims shares outs are.new worked gathered.kept_all
             gathered.fronts begins within
-            (subst (Each (λ a. slice_get replies a.index ≡ Some a.reply)) gathered.answers_are ordered.at);
+            (subst (Each (λ a. slice_get replies a.index ≡ Some a.reply)) gathered.answers_are ordered.at));
         once = λ entry. let names = times_named entry replies in
             let sum = ordered.sums (λ r. times entry (named r)) in
             let is : total (λ a. times entry (named a.reply)) answers ≡ total (λ a. times entry (named a.reply)) (all_answers outs) =
             ap (total (λ a. times entry (named a.reply))) gathered.answers_are in
-            let owns = owned id limit (opens site ∷ []) claims shares outs are.new worked gathered.kept_all entry in
-            let all = all_entries meaning h pass.own legal own entry in
-            omega (arith, names, sum, is, owns, gathered.own entry, all);
+            let owns = owned id s claims shares outs are.new worked gathered.kept_all entry in
+            let all = own entry in
+            let first : below pass.terms.given entry ≡ below (length s.history) entry =
+            ap (λ n. below n entry) (ap (λ t. t.given) terms ∙ given) in
+            omega (arith, names, sum, is, owns, gathered.own entry, all, first);
       }
 
 -- a seat that stands for all seats, and found that no number is left, has each number once

@@ -9,6 +9,7 @@ use Rattle.site_core.specs.Asked.{Asked}
 use Rattle.site_core.specs.Meaning.{Meaning}
 use Rattle.site_core.specs.Fits.{Listed}
 use Rattle.site_core.specs.declared.reply.ReplyOf.{ReplyOf}
+use Rattle.shared_site.specs.Shows.{Terms}
 use Rattle.shared_site.specs.Known.{Known, held}
 use Rattle.work_pool.specs.Seats.{ClaimsId, Claimant}
 use Rattle.site_batch.specs.declared.answered.Answered.{Answered}
@@ -35,12 +36,13 @@ module _ {S T : Type 0} where
   all_answers [] = []
   all_answers (out ∷ outs) = all_answers outs ++ kept out.answers
 
-  abbrev pub IsOf : LockId → ℕ → ClaimsId → Out S T → Type 0
-  IsOf id limit claims out = (out.pass.site ≡ id) × (out.pass.limit ≡ limit) × (out.seat.claims ≡ claims)
+  abbrev pub IsOf : LockId → ClaimsId → Out S T → Type 0
+  IsOf id claims out = (out.pass.site ≡ id) × (out.seat.claims ≡ claims)
 
   -- these pass and seat stand for those of all outs, and these are all answers
   pub record AreGathered (outs : List (Out S T)) (pass : Known S) (seat : Claimant) (answers : List (Answered T)) : Type 0 where
     pub fronts : Each (λ out. IsPrefix out.pass.front pass.front) outs
+    pub terms : (terms : Terms) → Each (λ out. out.pass.terms ≡ terms) outs → pass.terms ≡ terms
     pub own : (k : ℕ) → times k pass.own ≡ total (λ out. times k out.pass.own) outs
     pub passes : pass.room + held pass ≡ total (λ out. out.pass.room + held out.pass) outs
     pub known : Each (λ out. out.seat.known ≤ seat.known) outs

@@ -3,7 +3,7 @@ use Rattle.std.specs.Prelude.{◌≡◌, ℕ, ◌+◌, List, [], ◌∷◌}
 use mathlib.Core.List.{IsPrefix}
 use Rattle.list_sums.specs.Counts.{total, same, below}
 use Rattle.hist_lock.specs.Held.{LockId}
-use Rattle.site_core.specs.Events.{Event}
+use Rattle.shared_site.specs.Shows.{Shared}
 use Rattle.shared_site.specs.Known.{Known, held}
 use Rattle.work_pool.specs.Seats.{ClaimsId, Claimant}
 use Rattle.site_core.specs.Each.{Each}
@@ -13,21 +13,19 @@ abbrev pub Share : Type 0 → Type 0
 Share S = Known S × Claimant
 
 module _ {S : Type 0} where
-  -- the first pass of this site, with which nothing was done
-  abbrev pub IsFirstPass : LockId → ℕ → Known S → Type 0
-  IsFirstPass id limit p =
-      (p.site ≡ id) × (p.limit ≡ limit) × (p.own ≡ []) × (p.numbers ≡ 0 ∷ []) × (p.room ≡ 65535) × (p.author ≡ 0)
+  -- what a pass of it has seen, as the history from which a batch goes on
+  abbrev pub seen_by : Known S → Shared S
+  seen_by p = record { history = p.front; terms = p.terms }
 
   -- they are of this site and of these claims, of which none was drawn
   abbrev pub IsIdle : LockId → ClaimsId → Share S → Type 0
   IsIdle id claims share = (share.0.site ≡ id) × (share.1.claims ≡ claims) × (share.1.numbers ≡ [])
 
-  -- they are of this site, whose history begins so and has this limit, and of these claims; nothing was done with them
-  pub record IsNew (id : LockId) (limit : ℕ) (first : List (Event S)) (claims : ClaimsId) (share : Share S) :
-      Type 0 where
+  -- they are of this site, which went on from this history, and of these claims; nothing was done with them
+  pub record IsNew (id : LockId) (s : Shared S) (claims : ClaimsId) (share : Share S) : Type 0 where
     pub site_is : share.0.site ≡ id
-    pub limit_is : share.0.limit ≡ limit
-    pub begins : IsPrefix first share.0.front
+    pub terms_is : share.0.terms ≡ s.terms
+    pub begins : IsPrefix s.history share.0.front
     pub own : share.0.own ≡ []
     pub alone : share.0.numbers ≡ share.0.author ∷ []
     pub claims_are : share.1.claims ≡ claims
@@ -43,10 +41,11 @@ module _ {S : Type 0} where
   abbrev pub seat_weight : Share S → ℕ
   seat_weight share = share.1.room + share.1.held
 
-  -- new shares, one for each author below `workers`, which account for all passes and seats
-  pub record AreShares (id : LockId) (limit : ℕ) (first : List (Event S)) (claims : ClaimsId) (workers : ℕ)
-      (shares : List (Share S)) : Type 0 where
-    pub new : Each (IsNew id limit first claims) shares
-    pub authors : (author : ℕ) → total (is_author author) shares ≡ below workers author
+  -- new shares, one for each of the first so many own authors, which account for all passes and seats
+  pub record AreShares (id : LockId) (s : Shared S) (claims : ClaimsId) (workers : ℕ) (shares : List (Share S)) :
+      Type 0 where
+    pub new : Each (IsNew id s claims) shares
+    pub authors : (author : ℕ) →
+        total (is_author author) shares + below s.terms.base author ≡ below (s.terms.base + workers) author
     pub passes : total pass_weight shares ≡ 65536
     pub seats : total seat_weight shares ≡ 65536

@@ -30,10 +30,12 @@ module _ {S C F : Type 0} (meaning : Meaning S C F) (listed : Listed S) (request
   pub record HasAnswered (p q : Known S) (a b : Claimant) (answers : List (Answered (ReplyOf C F))) : Type 0 where
     pub later : IsLater p q
     pub legal : Legal meaning q.front
-    pub few : length q.front ≤ q.limit
-    pub run : Runs meaning listed q.front q.limit q.author 1 (picked requests (indexes answers)) (replies_of answers)
-    -- whoever got these replies has seen no more than the pass
-    pub had : had_after 1 (replies_of answers) ≤ length q.front
+    pub few : length q.front ≤ q.terms.limit
+    -- whoever got these replies had seen the entries that the site was opened or resumed with
+    pub run : Runs meaning listed q.front q.terms.limit q.author q.terms.given (picked requests (indexes answers))
+        (replies_of answers)
+    -- and has seen no more than the pass
+    pub had : had_after q.terms.given (replies_of answers) ≤ length q.front
     pub own : q.own ≡ p.own ++ all_named (replies_of answers)
     pub seat : IsSameSeat a b
     pub drawn : b.numbers ≡ indexes answers
@@ -41,5 +43,5 @@ module _ {S C F : Type 0} (meaning : Meaning S C F) (listed : Listed S) (request
 
   -- what a worker comes back with: its pass and seat, and its answers, for which memory may have been wanting
   abbrev pub HasWorked : Known S → Claimant → Known S → Claimant → Option (List (Answered (ReplyOf C F))) → Type 0
-  HasWorked p a q b None = (q.site ≡ p.site) × (q.limit ≡ p.limit) × (b.claims ≡ a.claims)
+  HasWorked p a q b None = (q.site ≡ p.site) × (q.terms ≡ p.terms) × (b.claims ≡ a.claims)
   HasWorked p a q b (Some answers) = HasAnswered p q a b answers × (b.claims.count ≤ b.known)

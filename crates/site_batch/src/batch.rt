@@ -3,11 +3,15 @@ ghost use Rattle.std.specs.Prelude.{◌≡◌, ℕ, ◌+◌, ◌≤◌, length, 
 ghost use Rattle.list_sums.specs.Counts.{times, below};
 ghost use Rattle.res_core.specs.AskedFacts.{give_facts};
 ghost use Rattle.site_core.specs.Asked.{all_asks};
-ghost use Rattle.site_core.specs.Runs.{Whole};
+ghost use Rattle.site_core.specs.Legal.{Legal};
+ghost use Rattle.site_core.specs.Resuming.{base_of};
+ghost use Rattle.site_core.specs.Runs.{Continues, Whole};
 ghost use Rattle.site_core.specs.declared.history.TheConstants.{MOST_ENTRIES};
 ghost use Rattle.work_pool.specs.Seats.{first_seat};
 ghost use Rattle.site_core.specs.Each.{Each};
-ghost use Rattle.site_batch.specs.Shares.{IsFirstPass, IsIdle, AreShares};
+ghost use Rattle.shared_site.specs.Known.{first_pass};
+ghost use Rattle.shared_site.specs.Resumed.{ResumesWith};
+ghost use Rattle.site_batch.specs.Shares.{seen_by, IsIdle, AreShares};
 ghost use Rattle.site_batch.specs.Gathered.{AreWorked, shown};
 ghost use Rattle.site_batch.specs.Work.{HasWorked};
 ghost use Rattle.std.specs.List.{AllZip};
@@ -20,6 +24,7 @@ use res_core::requests::Requests;
 use shared_site::{SharedSite, SitePass};
 use site_core::history::{History, MOST_ENTRIES};
 use site_core::language::Language;
+use site_core::resume_stop::ResumeStop;
 use site_io::Gate;
 use site_replies::Replies;
 use std::alloc::Global;
@@ -64,10 +69,64 @@ where
         Whole L.meaning L.listed MOST_ENTRIES workers site (all_asks requests.now) r.replies r.history.entries) }
 {
     let (shared, pass) = SharedSite::open(alloc, language, site, MOST_ENTRIES)?;
+    answer_all(rt, alloc, shared, pass, requests, workers, gate)
+}
+
+/// Goes on from a history with the requests, as `run_batch` does. Worker `w` is the author `w` places behind the
+/// greatest one of the history.
+pub fn resume_batch<L: Language + Drop + Sync, G: Gate + Sync, R: Threads + Wait + Sync>(
+    rt: &R,
+    alloc: Global,
+    language: L,
+    history: History<L::Site>,
+    requests: &Requests,
+    workers: u32,
+    gate: &G,
+) -> Result<BatchResult<L>, ResumeStop>
+where
+    L::Site: Send + Sync,
+    L::Catalog: Send,
+    L::Fault: Send,
+    requires legal { Legal L.meaning history.entries }
+    requires within { length history.entries ≤ MOST_ENTRIES }
+    requires some { 1 ≤ workers }
+    requires few { workers ≤ MOST_WORKERS }
+    requires short { length requests.now ≤ MOST_ENTRIES }
+    requires facts { IsTrue (give_facts requests.now) }
+    ensures { ResumesWith (λ r. Continues L.meaning L.listed MOST_ENTRIES (base_of history.entries) workers
+        history.entries (all_asks requests.now) r.replies r.history.entries) history.entries result }
+{
+    let (shared, pass) = SharedSite::resume(alloc, language, history, MOST_ENTRIES)?;
+    Ok(answer_all(rt, alloc, shared, pass, requests, workers, gate)?)
+}
+
+/// Has workers answer the requests, and closes the site.
+fn answer_all<L: Language + Drop + Sync, G: Gate + Sync, R: Threads + Wait + Sync>(
+    rt: &R,
+    alloc: Global,
+    shared: SharedSite<L>,
+    pass: SitePass<L>,
+    requests: &Requests,
+    workers: u32,
+    gate: &G,
+) -> Result<BatchResult<L>, Memory>
+where
+    L::Site: Send + Sync,
+    L::Catalog: Send,
+    L::Fault: Send,
+    requires pass { pass ≡ first_pass shared (seen_by pass) }
+    requires given { pass.terms.given ≡ length pass.front }
+    requires some { 1 ≤ workers }
+    requires few { workers ≤ MOST_WORKERS }
+    requires short { length requests.now ≤ MOST_ENTRIES }
+    requires facts { IsTrue (give_facts requests.now) }
+    ensures { IfOk result (λ r. Continues L.meaning L.listed pass.terms.limit pass.terms.base workers pass.front
+        (all_asks requests.now) r.replies r.history.entries) }
+{
     let (claims, seat) = Claims::new(alloc, requests.len() as u32)?;
     let shares = shares(rt, alloc, &shared, &claims, pass, seat, workers)?;
     let works = work(rt, alloc, &shared, &claims, requests, gate, shares)?;
-    let (pass, seat, answers) = gather(&shared, &claims, MOST_ENTRIES, works)?;
+    let (pass, seat, answers) = gather(&shared, &claims, works)?;
     all_drawn(&claims, seat);
     let replies = in_order(alloc, answers, requests.len())?;
     Ok(BatchResult {
@@ -86,11 +145,11 @@ fn shares<L: Language + Drop, R: Wait>(
     mut seat: ClaimSeat,
     workers: u32,
 ) -> Result<Shares<L>, Memory>
-    requires pass { IsFirstPass site.now MOST_ENTRIES pass }
+    requires pass { pass ≡ first_pass site.now (seen_by pass) }
     requires seat { seat ≡ first_seat claims.now }
     requires some { 1 ≤ workers }
     requires few { workers ≤ MOST_WORKERS }
-    ensures { IfOk result (λ r. AreShares site.now MOST_ENTRIES pass.front claims.now workers r.items) }
+    ensures { IfOk result (λ r. AreShares site.now (seen_by pass) claims.now workers r.items) }
 {
     let mut shares = Vec::with_capacity(alloc, workers as usize)?;
     for _worker in 1..workers {

@@ -16,12 +16,11 @@ use work_pool::{ClaimSeat, Claims};
 pub fn gather<L: Language + Drop>(
     site: &SharedSite<L>,
     claims: &Claims,
-    limit: u32,
     mut works: Vec<Work<L>>,
 ) -> Result<(SitePass<L>, ClaimSeat, Vec<Answered<Reply<L>>>), Memory>
-    requires { Each (IsOf site.now limit claims.now) works.items }
+    requires { Each (IsOf site.now claims.now) works.items }
     ensures gathered { IfOk result (λ r. AreGathered works.items r.0 r.1 r.2.items) }
-    ensures of { IfOk result (λ r. (r.0.site ≡ site.now) × (r.0.limit ≡ limit) × (r.1.claims ≡ claims.now)) }
+    ensures of { IfOk result (λ r. (r.0.site ≡ site.now) × (r.1.claims ≡ claims.now)) }
 {
     let Some(first) = works.pop() else {
         return Err(Memory);

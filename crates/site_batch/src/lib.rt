@@ -8,4 +8,4 @@ mod order;
 mod worked;
 mod worker;
 
-pub use batch::{BatchResult, MOST_WORKERS, run_batch};
+pub use batch::{BatchResult, MOST_WORKERS, resume_batch, run_batch};

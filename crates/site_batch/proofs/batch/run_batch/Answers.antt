@@ -1,65 +1,23 @@
-use Rattle.std.proofs.Common.{ap, sym, subst, ◌∙◌}
-use Rattle.list_sums.specs.Counts.{below}
+use Rattle.std.proofs.Common.{length, ap, sym, subst, ◌∙◌}
+use Rattle.std.specs.Prelude.{IfOk}
 use Rattle.site_core.specs.Asked.{all_asks}
-use Rattle.site_core.specs.Runs.{Whole}
+use Rattle.site_core.specs.Runs.{Continues}
 use Rattle.site_core.specs.declared.history.TheConstants.{MOST_ENTRIES}
-use Rattle.site_batch.specs.Answers.{AreOrdered}
-use Rattle.site_batch.proofs.Requested.{asks_length}
-use Rattle.site_batch.proofs.Wholes.{shares_of, are_of, all_known, all_weights, all_are, whole}
+use Rattle.shared_site.specs.Known.{Known}
+use Rattle.shared_site.specs.Shows.{opened}
+use Rattle.site_batch.proofs.Wholes.{first_seen}
 use Rattle.site_batch.proofs.batch.run_batch.Goals as goal
 
-pub gather-requires : goal.gather-requires
-gather-requires g c =
-    let are = shares_of c.in_ok-shared.shared MOST_ENTRIES c.args.workers c.args.site c.in_ok-shared.pass
-    c.in_ok-claims.claims c.in_ok-shares.shares.items c.in_ok-shared.ensures c.in_ok-shares.ensures in
-    are_of g.L.Language.meaning g.L.Language.listed (all_asks c.args.requests.now) c.in_ok-shared.shared MOST_ENTRIES _
-    c.in_ok-claims.claims c.in_ok-shares.shares.items c.in_ok-works.works.items are.new c.in_ok-works.ensures
+pub answer_all-requires-clause-pass : goal.answer_all-requires-clause-pass
+answer_all-requires-clause-pass g c κs within =
+    first_seen c.in_ok-shared.shared (opened c.args.site MOST_ENTRIES) c.in_ok-shared.pass c.in_ok-shared.ensures
 
-pub all_drawn-requires-clause-all : goal.all_drawn-requires-clause-all
-all_drawn-requires-clause-all g c =
-    let are = shares_of c.in_ok-shared.shared MOST_ENTRIES c.args.workers c.args.site c.in_ok-shared.pass
-    c.in_ok-claims.claims c.in_ok-shares.shares.items c.in_ok-shared.ensures c.in_ok-shares.ensures in
-    (all_weights g.L.Language.meaning g.L.Language.listed (all_asks c.args.requests.now) c.in_ok-shared.shared MOST_ENTRIES
-    c.args.workers _ c.in_ok-claims.claims c.in_ok-shares.shares.items c.in_ok-works.works.items c.in_ok-pass.pass
-    c.in_ok-pass.seat c.in_ok-pass.answers.items are c.in_ok-works.ensures c.in_ok-pass.ensures.gathered).1
-
-pub all_drawn-requires-clause-past : goal.all_drawn-requires-clause-past
-all_drawn-requires-clause-past g c =
-    let are = shares_of c.in_ok-shared.shared MOST_ENTRIES c.args.workers c.args.site c.in_ok-shared.pass
-    c.in_ok-claims.claims c.in_ok-shares.shares.items c.in_ok-shared.ensures c.in_ok-shares.ensures in
-    all_known g.L.Language.meaning g.L.Language.listed (all_asks c.args.requests.now) c.in_ok-shared.shared MOST_ENTRIES
-    c.args.workers _ c.in_ok-claims.claims c.in_ok-shares.shares.items c.in_ok-works.works.items c.in_ok-pass.pass
-    c.in_ok-pass.seat c.in_ok-pass.answers.items are c.requires.some c.in_ok-works.ensures
-    c.in_ok-pass.ensures.gathered
-
-pub in_order-requires : goal.in_order-requires
-in_order-requires g c =
-    all_are g.L.Language.meaning g.L.Language.listed (all_asks c.args.requests.now) c.len-2.result c.in_ok-shares.shares.items
-    c.in_ok-works.works.items c.in_ok-pass.pass c.in_ok-pass.seat c.in_ok-pass.answers.items c.in_ok-works.ensures
-    c.in_ok-pass.ensures.gathered (λ i. c.all_drawn.ensures i
-    ∙ ap (λ n. below n i) (c.in_ok-claims.ensures.0 ∙ c.len.ensures ∙ sym c.len-2.ensures))
-
-pub close-requires-clause-all : goal.close-requires-clause-all
-close-requires-clause-all g c =
-    let are = shares_of c.in_ok-shared.shared MOST_ENTRIES c.args.workers c.args.site c.in_ok-shared.pass
-    c.in_ok-claims.claims c.in_ok-shares.shares.items c.in_ok-shared.ensures c.in_ok-shares.ensures in
-    (all_weights g.L.Language.meaning g.L.Language.listed (all_asks c.args.requests.now) c.in_ok-shared.shared MOST_ENTRIES
-    c.args.workers _ c.in_ok-claims.claims c.in_ok-shares.shares.items c.in_ok-works.works.items c.in_ok-pass.pass
-    c.in_ok-pass.seat c.in_ok-pass.answers.items are c.in_ok-works.ensures c.in_ok-pass.ensures.gathered).0
+pub answer_all-requires-clause-given : goal.answer_all-requires-clause-given
+answer_all-requires-clause-given g c κs within =
+    ap (λ p. p.terms.given) c.in_ok-shared.ensures ∙ sym (ap (λ p. length p.front) c.in_ok-shared.ensures)
 
 pub returns : goal.returns
 returns g c =
-    let are = shares_of c.in_ok-shared.shared MOST_ENTRIES c.args.workers c.args.site c.in_ok-shared.pass
-    c.in_ok-claims.claims c.in_ok-shares.shares.items c.in_ok-shared.ensures c.in_ok-shares.ensures in
-    subst (λ l. Whole g.L.Language.meaning g.L.Language.listed MOST_ENTRIES c.args.workers c.args.site
-    (all_asks c.args.requests.now) l c.close.result.entries) (sym c.from_vec.ensures)
-    (whole g.L.Language.meaning g.L.Language.listed (all_asks c.args.requests.now) c.in_ok-shared.shared MOST_ENTRIES
-    c.args.workers c.args.site c.in_ok-claims.claims c.in_ok-shares.shares.items c.in_ok-works.works.items
-    c.in_ok-pass.pass c.in_ok-pass.seat c.in_ok-pass.answers.items c.in_ok-replies.replies.items
-    c.close.result.entries are c.requires.some c.in_ok-works.ensures c.in_ok-pass.ensures.gathered
-    (λ i. c.all_drawn.ensures i
-    ∙ ap (λ n. below n i) (c.in_ok-claims.ensures.0 ∙ c.len.ensures ∙ sym (asks_length _ c.args.requests.now)))
-    (subst (λ n. AreOrdered n c.in_ok-pass.answers.items c.in_ok-replies.replies.items)
-    (c.len-2.ensures ∙ sym (asks_length _ c.args.requests.now))
-    c.in_ok-replies.ensures) c.in_ok-pass.ensures.of.1 c.close.ensures.legal c.close.ensures.front
-    c.close.ensures.few c.close.ensures.own)
+    subst (λ (p : Known g.row.L-Site.Denot). IfOk c.answer_all.result (λ r. Continues g.L.Language.meaning
+    g.L.Language.listed p.terms.limit p.terms.base c.args.workers p.front (all_asks c.args.requests.now)
+    r.replies r.history.entries)) c.in_ok-shared.ensures c.answer_all.ensures

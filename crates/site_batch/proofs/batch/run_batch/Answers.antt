@@ -9,11 +9,11 @@ use Rattle.site_batch.proofs.Wholes.{first_seen}
 use Rattle.site_batch.proofs.batch.run_batch.Goals as goal
 
 pub answer_all-requires-clause-pass : goal.answer_all-requires-clause-pass
-answer_all-requires-clause-pass g c =
+answer_all-requires-clause-pass g c κs within =
     first_seen c.in_ok-shared.shared (opened c.args.site MOST_ENTRIES) c.in_ok-shared.pass c.in_ok-shared.ensures
 
 pub answer_all-requires-clause-given : goal.answer_all-requires-clause-given
-answer_all-requires-clause-given g c =
+answer_all-requires-clause-given g c κs within =
     ap (λ p. p.terms.given) c.in_ok-shared.ensures ∙ sym (ap (λ p. length p.front) c.in_ok-shared.ensures)
 
 pub returns : goal.returns

@@ -1,6 +1,8 @@
-//! The tests of what the language is made of: values, tokens, manifests with their trees, resources.
+//! The tests of what the language is made of (values, tokens, manifests with their trees, resources), and of machines.
 #![tactic(auto)]
 
+#[cfg(test)]
+mod attributes;
 #[cfg(test)]
 mod copies;
 #[cfg(test)]
@@ -11,6 +13,8 @@ mod definitions;
 mod forms;
 #[cfg(test)]
 mod levels;
+#[cfg(test)]
+mod machines;
 #[cfg(test)]
 mod manifests;
 #[cfg(test)]
@@ -23,6 +27,8 @@ mod overriding;
 mod queries;
 #[cfg(test)]
 mod reading;
+#[cfg(test)]
+mod reports;
 #[cfg(test)]
 mod resources;
 #[cfg(test)]

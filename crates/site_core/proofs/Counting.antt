@@ -1,5 +1,5 @@
 -- The counts when one more entry comes.
-use Rattle.std.proofs.Common.{◌≡◌, ℕ, ◌+◌, ◌<◌, ◌≤◌, Bool, true, false, cond, List, [], ◌∷◌, ◌++◌, length, None, Some, refl, sym, ◌∙◌, ap, arith}
+use Rattle.std.proofs.Common.{◌≡◌, ℕ, ◌+◌, ◌<◌, ◌≤◌, Bool, true, false, cond, List, [], ◌∷◌, ◌++◌, length, Some, refl, sym, ◌∙◌, ap, arith}
 use Rattle.std.specs.Prelude.{◌==◌, ◌^◌, IsTrue}
 use Rattle.std.specs.Option.{unwrap_or}
 use Rattle.std.specs.BTreeMap.{BTreeMap}
@@ -12,10 +12,6 @@ use Rattle.site_core.specs.declared.history.TheConstants.{MOST_ENTRIES}
 one_more : (b : Bool) (n : ℕ) → n + (0 + cond b 1 0) ≡ cond b (n + 1) n
 one_more true n = omega arith
 one_more false n = omega arith
-
-raise_is : (b : Bool) (n : ℕ) → cond b (n + 1) n ≡ n + cond b 1 0
-raise_is true n = refl
-raise_is false n = omega arith
 
 module _ {S : Type 0} where
   calls_of-push : (author : ℕ) (h : List (Event S)) (e : Event S) →
@@ -47,12 +43,7 @@ module _ {S : Type 0} where
   pub record CountOn (counts : BTreeMap ℕ ℕ) (left all : List (Event S)) : Type 0 where
     pub sum : (author : ℕ) → count_in counts author + calls_of author left ≡ calls_of author all
 
-  -- an entry without an author is no one's
-  no_ones : (author : ℕ) (e : Event S) → author_of e ≡ None → is_by author e ≡ false
-  no_ones author (opens site) none = refl
-  no_ones author (publishes p) none = absurd cc
-  no_ones author (adds adder call what) none = absurd cc
-
+  -- an entry with an author is theirs alone
   its_own : (author other : ℕ) (e : Event S) → author_of e ≡ Some author → is_by other e ≡ (author == other)
   its_own author other (opens site) is = absurd cc
   its_own author other (publishes p) is = ap (λ o. unwrap_or o 0 == other) is
@@ -62,29 +53,12 @@ module _ {S : Type 0} where
       CountOn counts all all
   count_nothing counts all none = record { sum = λ author. let zero = none author in omega (arith, zero) }
 
-  pub count_skips : (counts : BTreeMap ℕ ℕ) (e : Event S) (left all : List (Event S)) → author_of e ≡ None →
-      CountOn counts (e ∷ left) all → CountOn counts left all
-  count_skips counts e left all none on = record {
-    sum = λ author. let sum = on.sum author in let no = ap (λ b. cond b 1 0) (no_ones author e none) in
-        omega (arith, sum, no);
-  }
-
-  pub count_takes : (old room new : BTreeMap ℕ ℕ) (author : ℕ) (e : Event S) (left all : List (Event S)) →
-      author_of e ≡ Some author → SameCounts old room →
-      ((other : ℕ) → count_in new other ≡ cond (author == other) (count_in room other + 1) (count_in room other)) →
-      CountOn old (e ∷ left) all → CountOn new left all
-  count_takes old room new author e left all is same raised on = record {
-    sum = λ other. let sum = on.sum other in let by = ap (λ b. cond b 1 0) (its_own author other e is) in
-        let now = raised other in let before = same other in
-        let step = raise_is (author == other) (count_in room other) in omega (arith, sum, by, now, before, step);
-  }
-
-  -- so there is room for one more in the count
+  -- there is room for one more in the count
   pub count_fits : (old room : BTreeMap ℕ ℕ) (author : ℕ) (e : Event S) (left all : List (Event S)) →
       author_of e ≡ Some author → SameCounts old room → length all ≤ MOST_ENTRIES → CountOn old (e ∷ left) all →
       count_in room author + 1 < 2 ^ 32
   count_fits old room author e left all is same few on =
-      let sum = on.sum author in let by = ap (λ b. cond b 1 0) (its_own author author e is ∙ eq-eqb author author refl) in
+      let sum = on.sum author in let by = ap {B = ℕ} (λ b. cond b 1 0) (its_own author author e is ∙ eq-eqb author author refl) in
       let before = same author in let most = count_by-le-length (is_by author) all in omega (arith, sum, by, before, most, few)
 
   pub counted_all : (counts : BTreeMap ℕ ℕ) (left all : List (Event S)) → length left < 1 → CountOn counts left all →

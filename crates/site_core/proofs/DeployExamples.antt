@@ -1,24 +1,19 @@
 -- A site that takes another one's place, reports, and a history that is gone on with.
-use Rattle.std.proofs.Common.{◌≡◌, ℕ, ◌+◌, ◌≤◌, [], ◌∷◌, List, Option, None, Some, Ok, Err, length, refl, ap, arith}
-use Rattle.std.specs.Prelude.{codes, slice_get, if◌then◌else◌, nat_eq}
+use Rattle.std.proofs.Common.{◌≡◌, ℕ, ◌≤◌, [], ◌∷◌, List, Option, None, Some, Result, Ok, Err, length, refl, ap, arith}
+use Rattle.std.specs.Prelude.{codes, if◌then◌else◌, nat_eq}
 use Rattle.std.proofs.Math.Dec.{lit≤}
 use Rattle.std.specs.FinMap as fin
-use Rattle.list_sums.specs.Counts.{total, times, below}
-use Rattle.list_sums.proofs.Marks.{below_next, below_no}
 use Rattle.pp_values.specs.Datum.{Datum, hash, no_entries}
-use Rattle.res_core.specs.Asked.{Wanted}
 use Rattle.res_core.specs.declared.export_set.ExportSet.{ExportSet}
 use Rattle.agent_machine.specs.declared.report.Report.{Report}
 use Rattle.site_core.specs.Asked.{Asked, compile, plain, filed}
 use Rattle.site_core.specs.Meaning.{Meaning}
-use Rattle.site_core.specs.Events.{Event, opens, publishes, adds, calls_of, next_entry}
+use Rattle.site_core.specs.Events.{Event, opens, publishes, adds}
 use Rattle.site_core.specs.Fits.{Fits, had, named}
 use Rattle.site_core.specs.Legal.{Legal}
 use Rattle.site_core.specs.Resuming.{base_of, Resumes}
-use Rattle.site_core.specs.Runs.{Hand, is_hand_of, times_in, Continues}
 use Rattle.site_core.specs.Sets.{sets_at, site_at}
 use Rattle.site_core.specs.Steps.{snap, done, add, resumed_state, after_steps}
-use Rattle.site_core.specs.declared.plain.Plain.{Plain}
 use Rattle.site_core.specs.declared.plain.Plain.TheVariants as ask
 use Rattle.site_core.specs.declared.reply.ReplyOf.{ReplyOf}
 use Rattle.site_core.specs.declared.reply.ReplyOf.TheVariants as r
@@ -124,6 +119,10 @@ served_by_the_old_site = (
   },
 )
 
+abbrev catalog_in : Result (ℕ × ExportSet) (List ℕ) → ℕ
+catalog_in (Ok made) = made.0
+catalog_in (Err fault) = 9
+
 abbrev or_nine : Option ℕ → ℕ
 or_nine None = 9
 or_nine (Some n) = n
@@ -143,21 +142,25 @@ full_for_a_deployment = (refl, refl)
 
 -- what doesn't
 
+abbrev author_in : Option (Event ℕ) → ℕ
+author_in (Some (adds author call what)) = author
+author_in e = 9
+
 abbrev site_in : Option (Event ℕ) → ℕ
 site_in (Some (adds author call (ask.Deploy site))) = site
 site_in e = 9
 
 another_site : FitsFive 1 1 (plain (ask.Deploy 7)) (r.Deployed 2) → ⊥
-another_site (kind, had, is) = omega (arith, ap site_in is.at)
+another_site (kind, low, is) = omega (arith, ap site_in is.at)
 
 no_removal : FitsFive 1 1 (plain (ask.Deploy 6)) (r.Deactivated 2) → ⊥
-no_removal (kind, had, is) = absurd (cc kind)
+no_removal (kind, low, is) = absurd (cc kind)
 
 no_report : FitsFive 0 1 (plain (filed report)) (r.Deployed 4) → ⊥
-no_report (kind, had, is) = absurd (cc kind)
+no_report (kind, low, is) = absurd (cc kind)
 
 another_authors_deployment : FitsFive 0 1 (plain (ask.Deploy 6)) (r.Deployed 2) → ⊥
-another_authors_deployment (kind, had, is) = omega (arith, ap author_in is.at)
+another_authors_deployment (kind, low, is) = omega (arith, ap author_in is.at)
 
 -- what was seen and named
 
@@ -178,7 +181,7 @@ named_by_a_report = refl
 base_is_past_all_authors : base_of five ≡ 2
 base_is_past_all_authors = refl
 
-base_of_an_opening : base_of (opens 5 ∷ []) ≡ 0
+base_of_an_opening : base_of {S = ℕ} (opens 5 ∷ []) ≡ 0
 base_of_an_opening = refl
 
 -- each author's entries are numbered on from those in the history
@@ -207,8 +210,8 @@ ends_behind_a_deployment = refl
 gone_on_with : Resumes five 9 (Ok (record { history = five; limit = 9 }))
 gone_on_with = (lit≤ tt, refl)
 
-too_great : Resumes (opens 5 ∷ adds 2147483649 0 (ask.Deploy 6) ∷ []) 9 (Err (stop.Authors 2147483649))
+too_great : Resumes {S = ℕ} (opens 5 ∷ adds 2147483649 0 (ask.Deploy 6) ∷ []) 9 (Err (stop.Authors 2147483649))
 too_great = (refl, lit≤ tt)
 
-not_too_great : Resumes (opens 5 ∷ adds 2147483648 0 (ask.Deploy 6) ∷ []) 9 (Err (stop.Authors 2147483648)) → ⊥
+not_too_great : Resumes {S = ℕ} (opens 5 ∷ adds 2147483648 0 (ask.Deploy 6) ∷ []) 9 (Err (stop.Authors 2147483648)) → ⊥
 not_too_great (is, wrong) = let less : 2147483649 ≤ 2147483648 = wrong in omega (arith, less)

@@ -11,15 +11,10 @@ use Rattle.pp_values.specs.Facts.{are_facts}
 use Rattle.site_core.specs.Meaning.{Meaning}
 use Rattle.site_core.specs.declared.history.TheConstants.{MOST_ENTRIES}
 use Rattle.site_core.specs.Events.{Event, opens, publishes, adds, calls_of}
-use Rattle.site_core.specs.Sets.{sets_at, site_at, latest_set, site_after}
+use Rattle.site_core.specs.Sets.{sets_at, site_at, latest_set}
 use Rattle.site_core.specs.Legal.{meaning_at, Legal}
-use Rattle.site_core.specs.Asked.{filed}
-use Rattle.site_core.specs.Steps.{snap, done, drop_call, add, opened_state, resumed_state, after_steps}
-use Rattle.site_core.specs.Core.{Core}
-use Rattle.site_core.specs.Resuming.{base_of, Resumes}
+use Rattle.site_core.specs.Steps.{snap, done, drop_call, add, opened_state, after_steps}
 use Rattle.site_core.specs.declared.plain.Plain.TheVariants as ask
-use Rattle.site_core.specs.declared.resume_stop.ResumeStop.TheVariants as stop
-use Rattle.agent_machine.specs.declared.report.Report.{Report}
 
 -- facts
 

@@ -7,7 +7,7 @@ use Rattle.list_sums.specs.Counts.{total, times, below}
 use Rattle.list_sums.proofs.Marks.{below_next, below_no}
 use Rattle.pp_values.specs.Datum.{Datum, hash, no_entries}
 use Rattle.res_core.specs.Asked.{Wanted}
-use Rattle.site_core.specs.Asked.{Asked, compile, plain, filed}
+use Rattle.site_core.specs.Asked.{Asked, compile, plain}
 use Rattle.res_core.specs.declared.export_set.ExportSet.{ExportSet}
 use Rattle.site_core.specs.Meaning.{Meaning}
 use Rattle.site_core.specs.Events.{Event, opens, publishes, adds}

@@ -39,13 +39,13 @@ said_plain kind.Deactivation entry = refl
 said_plain kind.Deployment entry = refl
 said_plain kind.Filing entry = refl
 
-pub had_plain : {C F : Type 0} (which : PlainKind) (s entry : ℕ) →
+pub had_plain : (C F : Type 0) (which : PlainKind) (s entry : ℕ) →
     had {C = C} {F = F} s (plain_reply which entry) ≡ entry + 1
-had_plain which s entry = ap (had_said s) (said_plain which entry)
+had_plain C F which s entry = ap (had_said {C = C} {F = F} s) (said_plain which entry)
 
-pub named_plain : {C F : Type 0} (which : PlainKind) (entry : ℕ) →
+pub named_plain : (C F : Type 0) (which : PlainKind) (entry : ℕ) →
     named {C = C} {F = F} (plain_reply which entry) ≡ entry ∷ []
-named_plain which entry = ap named_said (said_plain which entry)
+named_plain C F which entry = ap (named_said {C = C} {F = F}) (said_plain which entry)
 
 -- a plain entry that was added is what its reply names
 pub fits_plain : {S C F : Type 0} (meaning : Meaning S C F) (listed : Listed S) (h : List (Event S))

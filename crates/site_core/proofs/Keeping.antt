@@ -1,5 +1,5 @@
 -- What is kept stays right when one more entry comes.
-use Rattle.std.proofs.Common.{◌≡◌, ◌<◌, [], ◌∷◌, length, sym, ◌∙◌, ap, subst, arith}
+use Rattle.std.proofs.Common.{◌≡◌, ◌<◌, [], ◌∷◌, length, Some, sym, ◌∙◌, ap, subst, arith}
 use Rattle.std.proofs.lemmas.List.{length-append}
 use Rattle.export_store.specs.Sets.{Sets}
 use Rattle.site_core.specs.Meaning.{Meaning}
@@ -9,7 +9,6 @@ use Rattle.site_core.specs.Legal.{MayFollow}
 use Rattle.site_core.specs.Core.{Core, with_event, IsSound, IsKept}
 use Rattle.site_core.specs.Changes.{changed_sets, changed_site, IsChangeOf}
 use Rattle.site_core.specs.declared.change.Change.{Change}
-use Rattle.site_core.specs.declared.change.Change.TheVariants as v
 use Rattle.site_core.proofs.Sets.{sets_at-push, site_at-push}
 use Rattle.site_core.proofs.Legal.{Legal-push}
 
@@ -47,9 +46,11 @@ module _ {S C F : Type 0} (meaning : Meaning S C F) where
       (e : Event S) → IsKept meaning inside version site →
       MayFollow meaning seen.history e → length seen.history < seen.limit →
       IsChangeOf change (sets_at seen.history (length seen.history)) e →
-      IsKept meaning (with_event inside e) (changed_sets change version) (changed_site change site)
-  kept_change inside seen same version site change e kept =
+      (next : Sets) (now : S) → changed_sets change version ≡ next → changed_site change site ≡ now →
+      IsKept meaning (with_event inside e) next now
+  kept_change inside seen same version site change e kept follows room is next now next_is now_is =
       let P : Core S → Type 0 = λ core. MayFollow meaning core.history e → length core.history < core.limit →
       IsChangeOf change (sets_at core.history (length core.history)) e →
       IsKept meaning (with_event inside e) (changed_sets change version) (changed_site change site) in
-      subst P same (kept_by inside version site change e kept)
+      let kept_ = subst P same (kept_by inside version site change e kept) follows room is in
+      subst (λ (x : Sets × S). IsKept meaning (with_event inside e) x.0 x.1) (λ i. (next_is i, now_is i)) kept_

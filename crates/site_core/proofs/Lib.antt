@@ -9,7 +9,7 @@ pub mod Growing
 pub mod Fitting
 pub mod Running
 pub mod Each
-mod Resuming
+mod GoneOn
 mod Examples
 mod FitExamples
 mod DeployExamples

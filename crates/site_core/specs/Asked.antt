@@ -1,5 +1,5 @@
 -- What may be asked of a site, where S are sites.
-use Rattle.std.specs.Prelude.{ℕ, List, map}
+use Rattle.std.specs.Prelude.{List, map}
 use Rattle.res_core.specs.Asked as requests
 use Rattle.res_core.specs.Asked.{Wanted}
 use Rattle.agent_machine.specs.declared.report.Report.{Report}

@@ -7,9 +7,9 @@ ghost use Rattle.site_core.specs.Fits.{RepliesStay, RepliesFitForLess};
 
 use crate::language::Language;
 
-/// From the opening on, or from a legal history on, over whatever begins, ends, is dropped and is asked for: the history
-/// is legal and within its limit, the version and the site that are kept are those after all entries, and each call in
-/// flight began with entries of the history.
+/// From the opening on, or from a legal history on, over whatever begins, ends, is dropped and is asked for: the
+/// history is legal and within its limit, the version and the site that are kept are those after all entries, and each
+/// call in flight began with entries of the history.
 pub fn runs_are_sound<L: Language>()
     ensures opened { RunsAreSound L.meaning }
     ensures resumed { ResumedRunsAreSound L.meaning }

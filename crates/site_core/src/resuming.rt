@@ -2,7 +2,7 @@
 ghost use Rattle.std.specs.Prelude.{◌≡◌, length, IfOk, option_map};
 ghost use Rattle.std.specs.Arc.{arc_value};
 ghost use Rattle.site_core.specs.EntryViews.{event_of, events_of};
-ghost use Rattle.site_core.specs.Sets.{sets_at, sets_after, site_in, site_at};
+ghost use Rattle.site_core.specs.Sets.{sets_at, sets_after, first_of, site_in, site_at};
 
 use crate::entry::Entry;
 use export_store::version::Version;
@@ -38,21 +38,22 @@ pub fn latest_site<S>(entries: &[Entry<S>]) -> Option<&Arc<S>>
     ensures { option_map (λ a. arc_value a.now) result
         ≡ site_at (events_of entries.now) (length (events_of entries.now)) }
 {
+    let mut latest = None;
     let mut left = entries;
-    while let [before @ .., entry] = left {
-        if let Some(site) = site_of(entry) {
-            return Some(site);
-        }
-        left = before;
+    while let [entry, after @ ..] = left {
+        latest = later_of(latest, entry);
+        left = after;
     }
-    None
+    latest
 }
 
-fn site_of<S>(entry: &Entry<S>) -> Option<&Arc<S>>
-    ensures { option_map (λ a. arc_value a.now) result ≡ site_in (event_of entry.now) }
+// The site that the entry carries, else the latest so far.
+fn later_of<'a, S>(latest: Option<&'a Arc<S>>, entry: &'a Entry<S>) -> Option<&'a Arc<S>>
+    ensures { option_map (λ a. arc_value a.now) result
+        ≡ first_of (site_in (event_of entry.now)) (option_map (λ a. arc_value a.now) latest.entry) }
 {
     match entry {
         Entry::Open { site } | Entry::Deploy { site, .. } => Some(site),
-        Entry::Publish { .. } | Entry::Deactivate { .. } | Entry::Report { .. } => None,
+        Entry::Publish { .. } | Entry::Deactivate { .. } | Entry::Report { .. } => latest,
     }
 }

@@ -185,7 +185,8 @@ impl<L: Language> CoreState<L> {
     /// Another site takes the place of the one in force. The answer is the new entry's number.
     pub fn deploy(&mut self, alloc: Global, author: u32, site: L::Site) -> Result<u32, DoneStop>
         ensures stop { Stops self.old result }
-        ensures ok { OnOk result (self.new ≡ with_event self.old (next_entry self.old.history author (ask.Deploy site))) }
+        ensures ok { OnOk result (self.new ≡ with_event self.old
+            (next_entry self.old.history author (ask.Deploy site))) }
         ensures err { OnErr result (self.new ≡ self.old) }
     {
         self.add_plain(alloc, author, Plain::Deploy { site })
@@ -199,7 +200,8 @@ impl<L: Language> CoreState<L> {
         report: Report,
     ) -> Result<u32, DoneStop>
         ensures stop { Stops self.old result }
-        ensures ok { OnOk result (self.new ≡ with_event self.old (next_entry self.old.history author (filed report))) }
+        ensures ok { OnOk result (self.new ≡ with_event self.old
+            (next_entry self.old.history author (filed report))) }
         ensures err { OnErr result (self.new ≡ self.old) }
     {
         self.next_number()?;

@@ -6,8 +6,8 @@ use Rattle.site_core.specs.Resuming.{past_author, base_of}
 use Rattle.site_core.proofs.entries.greatest_of.Given as goal
 
 abbrev pub invariant-loop-left : goal.invariant-loop-left
-invariant-loop-left l =
+invariant-loop-left g l =
     max (past_author l.greatest) (base_of (events_of l.left)) ≡ base_of (events_of l.entries)
 
 abbrev pub decreases-loop-left : goal.decreases-loop-left
-decreases-loop-left l = length l.left
+decreases-loop-left g l = length l.left

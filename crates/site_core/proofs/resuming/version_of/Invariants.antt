@@ -6,7 +6,7 @@ use Rattle.site_core.specs.Sets.{sets_from}
 use Rattle.site_core.proofs.resuming.version_of.Given as goal
 
 abbrev pub invariant-loop-left : goal.invariant-loop-left
-invariant-loop-left l = sets_from l.version (events_of l.left) ≡ sets_from fin.empty (events_of l.entries)
+invariant-loop-left g l = sets_from l.version (events_of l.left) ≡ sets_from fin.empty (events_of l.entries)
 
 abbrev pub decreases-loop-left : goal.decreases-loop-left
-decreases-loop-left l = length l.left
+decreases-loop-left g l = length l.left

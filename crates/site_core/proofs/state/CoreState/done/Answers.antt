@@ -29,11 +29,14 @@ add-requires g c =
       };
       by = eq-eqb c.args.author c.args.author refl;
       room = c.in_ok-number.ensures.0;
-      version = c.in_ok-version.ensures ∙ ap (λ v. fin.insert v c.args.node (arc_value c.in_ok-clone.field-0))
-          c.self.invariant.0.version_is
-          ∙ ap (λ (core : Core g.row.L-Site.Denot). fin.insert (sets_at core.history (length core.history)) c.args.node
-          (arc_value c.in_ok-clone.field-0)) c.self.view_is
-          ∙ ap (fin.insert (sets_at c.args.self.now.history (length c.args.self.now.history)) c.args.node) shared;
+      change = record {
+        exports = c.in_ok-version.ensures ∙ ap (λ v. fin.insert v c.args.node (arc_value c.in_ok-clone.field-0))
+            c.self.invariant.0.version_is
+            ∙ ap (λ (core : Core g.row.L-Site.Denot). fin.insert (sets_at core.history (length core.history))
+            c.args.node (arc_value c.in_ok-clone.field-0)) c.self.view_is
+            ∙ ap (fin.insert (sets_at c.args.self.now.history (length c.args.self.now.history)) c.args.node) shared;
+        site = λ now. refl;
+      };
     }
 
 pub returns : goal.returns

@@ -1,8 +1,9 @@
 -- What the clauses of `site_main` rest on, and a reader has to believe: Meaning, Events, Sets, Legal, Asked, Said,
 -- Fits, Runs, Resuming
 -- What functions promise one another, what types keep, and what proofs read: EntryViews, Core, Answers, Snapshots,
--- Counts, Steps, Additions, Changes, Compiling, Each
+-- Counts, Steps, Additions, Changes, Compiling, Each, SitesRead
 pub mod Meaning
+pub mod SitesRead
 pub mod Events
 pub mod EntryViews
 pub mod Sets

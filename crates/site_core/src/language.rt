@@ -3,6 +3,7 @@ ghost use Rattle.pp_values.specs.Views.{view};
 ghost use Rattle.pp_values.specs.Facts.{are_facts};
 
 use crate::compile_stop::CompileStop;
+use crate::site_stop::SiteStop;
 use export_store::version::Version;
 use pp_values::memory::Memory;
 use pp_values::text::Text;
@@ -27,11 +28,15 @@ pub trait Language {
     ghost use Rattle.std.specs.Prelude.{ℕ, List, Option};
     ghost use Rattle.pp_values.specs.Datum.{Datum};
     ghost use Rattle.site_core.specs.Meaning.{Meaning, Compiles};
+    ghost use Rattle.site_core.specs.SitesRead.{ReadsSite};
 
     ghost meaning: { Meaning Self.Site Self.Catalog Self.Fault };
 
     // the facts that a site lists for a node, or none
     ghost listed: { Self.Site → List ℕ → Option Datum };
+
+    // the site that bytes say, or none
+    ghost said_site: { List ℕ → Option Self.Site };
 
     // the texts of a site, a catalog and a fault, without a line feed at their end
     ghost site_form: { Self.Site → List ℕ };
@@ -56,6 +61,10 @@ pub trait Language {
     fn facts_of<'a>(&self, site: &'a Self::Site, node: &Text) -> Option<&'a Value>
         ensures listed { option_map (λ v. view v.now) result ≡ listed site.now node.now }
         ensures facts { IfSome result (λ v. IsTrue (are_facts (view v.now))) };
+
+    /// The site that these bytes say, such as those that are sent to deploy it.
+    fn site_of(&self, alloc: Global, body: &[u8]) -> Result<Self::Site, SiteStop>
+        ensures { ReadsSite result (said_site body.now) };
 
     /// The text of a site, without a line feed at its end.
     fn site_text(&self, alloc: Global, site: &Self::Site) -> Result<Text, Memory>

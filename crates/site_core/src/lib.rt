@@ -16,6 +16,7 @@ pub mod plain;
 pub mod reply;
 pub mod resume_stop;
 mod resuming;
+pub mod site_stop;
 pub mod snapshot;
 pub mod state;
 
@@ -28,5 +29,6 @@ pub use language::Language;
 pub use plain::{Plain, PlainKind};
 pub use reply::{Reply, ReplyOf};
 pub use resume_stop::ResumeStop;
+pub use site_stop::SiteStop;
 pub use snapshot::Snapshot;
 pub use state::CoreState;

@@ -9,15 +9,17 @@ use Rattle.list_sums.proofs.Marks.{below_next, below_no}
 use Rattle.pp_values.specs.Datum.{Datum}
 use Rattle.res_core.specs.declared.export_set.ExportSet.{ExportSet}
 use Rattle.res_core.specs.Asked.{Wanted}
-use Rattle.site_core.specs.Asked.{Plain, deactivate, Asked, compile, plain, next_entry}
+use Rattle.site_core.specs.Asked.{Asked, compile, plain}
 use Rattle.site_core.specs.Meaning.{Meaning}
-use Rattle.site_core.specs.Events.{Event, opens, publication}
+use Rattle.site_core.specs.Events.{Event, opens, publication, next_entry}
 use Rattle.site_core.specs.Sets.{sets_at, site_at}
 use Rattle.site_core.specs.Fits.{Listed, facts_for, IsFresh, Means, Fits, had, named}
 use Rattle.site_core.specs.Runs.{picked, RiseFrom, Runs, all_named}
+use Rattle.site_core.specs.Said.{kind_of, plain_reply}
+use Rattle.site_core.specs.declared.plain.Plain.{Plain}
 use Rattle.site_core.specs.declared.reply.ReplyOf.{ReplyOf}
 use Rattle.site_core.specs.declared.reply.ReplyOf.TheVariants as a
-use Rattle.site_core.proofs.Fitting.{means_grows, fits_grows}
+use Rattle.site_core.proofs.Fitting.{means_grows, fits_grows, had_plain, named_plain, fits_plain}
 use Rattle.site_sequence.specs.Sequence.{Turn, turn, turn_meant, turn_added, turn_known, turn_for, Takes, AnsweredInTurn}
 use Rattle.site_sequence.specs.SequenceLaws.{TurnsAreWhole}
 use Rattle.site_sequence.specs.declared.sequence.TheConstants.{AUTHOR}
@@ -178,26 +180,29 @@ module _ {S C F : Type 0} (meaning : Meaning S C F) (listed : Listed S) (limit :
   unless_ahead h s w false t may ahead is =
       site_turn h s w (site_at h (length h)) t may (ltb-false (length h) w.seen ahead) refl is
 
-  added_turn : (h : List (Event S)) (s : ℕ) (p : Plain S) → MayAsk h s → IsTurn h s (plain p) (turn_added limit h p)
-  added_turn h s (deactivate node) may =
-      let p : Plain S = deactivate node in
-      let e = next_entry h AUTHOR p in let size = length-append h (e ∷ []) in
-      if_so (IsTurn h s (plain p)) (nat_lt (length h) limit) _ _
-      (λ room. adds_one h s (plain p) (a.Deactivated (length h)) e (ltb-true (length h) limit room)
-      (refl, may.had, record { inside = omega (arith, size); call = _; at = get_end h e [] }) refl refl)
+  added_turn : (h : List (Event S)) (s : ℕ) (what : Plain S) → MayAsk h s →
+      IsTurn h s (plain what) (turn_added limit h what)
+  added_turn h s what may =
+      let e = next_entry h AUTHOR what in let size = length-append h (e ∷ []) in
+      let which = kind_of what in
+      if_so (IsTurn h s (plain what)) (nat_lt (length h) limit) _ _
+      (λ room. adds_one h s (plain what) (plain_reply which (length h)) e (ltb-true (length h) limit room)
+      (fits_plain meaning listed (h ++ e ∷ []) limit AUTHOR s what (length h) may.had
+      (record { inside = omega (arith, size); call = _; at = get_end h e [] }))
+      (had_plain C F which s (length h)) (named_plain C F which (length h)))
       (λ past. let is = full h s may (ltb-false (length h) limit past) in
-      silent h s (plain p) (a.HistoryFull (length h)) may.few (is, is) (omega arith) refl)
+      silent h s (plain what) (a.HistoryFull (length h)) may.few (is, is) (omega arith) refl)
 
   turn_is : (h : List (Event S)) (s : ℕ) (asked : Asked S) (t : Turn S C F) → MayAsk h s →
       turn_for meaning listed limit h asked ≡ Some t → IsTurn h s asked t
   turn_is h s (compile w) t may is = unless_ahead h s w (nat_lt (length h) w.seen) t may refl is
-  turn_is h s (plain p) t may is =
-      let same_turn : turn_added limit h p ≡ t = cc in
-      subst (IsTurn h s (plain p)) same_turn (added_turn h s p may)
+  turn_is h s (plain what) t may is =
+      let same_turn : turn_added limit h what ≡ t = cc in
+      subst (IsTurn h s (plain what)) same_turn (added_turn h s what may)
 
   short : (h : List (Event S)) (s : ℕ) (asked : Asked S) → MayAsk h s → IsTurn h s asked (turn a.Memory h)
   short h s (compile w) may = silent h s (compile w) a.Memory may.few tt may.had refl
-  short h s (plain p) may = silent h s (plain p) a.Memory may.few tt may.had refl
+  short h s (plain what) may = silent h s (plain what) a.Memory may.few tt may.had refl
 
   taken : (h next : List (Event S)) (s : ℕ) (asked : Asked S) (reply : ReplyOf C F) → MayAsk h s →
       Takes meaning listed limit h asked reply next → IsTurn h s asked (turn reply next)
@@ -264,7 +269,7 @@ module _ {S C F : Type 0} (meaning : Meaning S C F) (listed : Listed S) (limit :
       let places = count_from 0 (length requests) in
       record {
         legal = legal;
-        opening = ap (λ l. slice_get l 0) turns.goes_on;
+        begins = (turns.more, sym turns.goes_on);
         few = turns.few;
         answered = turns.count_is;
         hands = record { author = AUTHOR; places = places } ∷ [];
@@ -283,6 +288,5 @@ module _ {S C F : Type 0} (meaning : Meaning S C F) (listed : Listed S) (limit :
               (picked_rest replies [] replies 0 refl refl))) turns.run),
           tt,
         );
-        once = λ entry. let all = turns.names entry in let next = below_next 0 entry in
-            let none = below_no 0 entry (omega arith) in omega (arith, all, next, none);
+        once = turns.names;
       }

@@ -8,19 +8,23 @@ use Rattle.list_sums.proofs.Marks.{same_yes, same_no, below_yes, below_no, below
 use Rattle.pp_values.specs.Datum.{Datum}
 use Rattle.res_core.specs.Asked.{Wanted}
 use Rattle.res_core.specs.declared.export_set.ExportSet.{ExportSet}
-use Rattle.site_core.specs.Asked.{Asked, compile, plain, deactivate, plain_entry}
-use Rattle.site_core.specs.Events.{Event, opens, publishes, deactivates}
-use Rattle.site_core.specs.Fits.{Listed, FitsSaid, Means, had, had_said, named, named_said}
+use Rattle.site_core.specs.Asked.{Asked, compile, plain}
+use Rattle.site_core.specs.Events.{Event, opens, publishes, adds}
+use Rattle.site_core.specs.Fits.{Listed, FitsPlain, FitsSaid, Means, had, had_said, named, named_said}
 use Rattle.site_core.specs.Legal.{MayFollow, EachFollows, Legal}
 use Rattle.site_core.specs.Meaning.{Meaning}
 use Rattle.site_core.specs.Runs.{Hand, is_hand_of, times_in, picked, RiseFrom, Runs, EachRuns, all_named}
 use Rattle.site_core.specs.Said as t
-use Rattle.site_core.specs.Said.{Said, said}
+use Rattle.site_core.specs.Said.{Said, said, kind_of, plain_reply}
 use Rattle.site_core.specs.Sets.{site_at}
+use Rattle.site_core.specs.declared.plain.Plain.{Plain}
+use Rattle.site_core.specs.declared.plain.PlainKind.{PlainKind}
+use Rattle.site_core.specs.declared.plain.PlainKind.TheVariants as kind
 use Rattle.site_core.specs.declared.reply.ReplyOf.{ReplyOf}
 use Rattle.site_core.specs.declared.reply.ReplyOf.TheVariants as a
+use Rattle.site_core.proofs.Fitting.{had_plain, named_plain}
 use Rattle.site_core.proofs.Sets.{sets_at-append, site_at-append}
-use Rattle.site_sequence.specs.Sequence.{Takes, AnsweredInTurn}
+use Rattle.site_sequence.specs.Sequence.{turn, Takes, AnsweredInTurn}
 use Rattle.site_sequence.specs.SequenceLaws.{WholeIsInTurn, OneResult}
 use Rattle.site_sequence.specs.declared.sequence.TheConstants.{AUTHOR}
 use Rattle.site_sequence.proofs.OneAuthor.{count_from, get_end, picked_rest}
@@ -98,7 +102,7 @@ module _ {S C F : Type 0} (meaning : Meaning S C F) where
   legal_at [] rest e some legal = absurd (omega (arith, some))
   legal_at (opens site ∷ front) rest e some legal = each_at (opens site ∷ []) front rest e legal
   legal_at (publishes p ∷ front) rest e some legal = absurd legal
-  legal_at (deactivates d ∷ front) rest e some legal = absurd legal
+  legal_at (adds author call what ∷ front) rest e some legal = absurd legal
 
 module _ {S C F : Type 0} (meaning : Meaning S C F) (listed : Listed S) (h : List (Event S)) (limit author : ℕ) where
   -- what a fitting reply tells of
@@ -118,19 +122,19 @@ module _ {S C F : Type 0} (meaning : Meaning S C F) (listed : Listed S) (h : Lis
       record { had = omega (arith, is, few, le); names = λ e under. refl }
   high s (compile w) (t.ahead n) (had, in_, past) few le = record { had = had; names = λ e under. refl }
   high s (compile w) (t.unknown k) (fresh, is) few le = record { had = fresh.had; names = λ e under. refl }
-  high s (compile w) (t.added kind entry) fits few le = absurd fits
+  high s (compile w) (t.added which entry) fits few le = absurd fits
   high s (compile w) t.short fits few le = record { had = omega arith; names = λ e under. refl }
-  high s (plain p) (t.served entry k catalog) fits few le = absurd fits
-  high s (plain p) (t.refused k fault) fits few le = absurd fits
-  high s (plain p) (t.full n) (is, all) few le =
+  high s (plain what) (t.served entry k catalog) fits few le = absurd fits
+  high s (plain what) (t.refused k fault) fits few le = absurd fits
+  high s (plain what) (t.full n) (is, all) few le =
       record { had = omega (arith, is, few, le); names = λ e under. refl }
-  high s (plain p) (t.ahead n) fits few le = absurd fits
-  high s (plain p) (t.unknown k) fits few le = absurd fits
-  high s (plain p) (t.added kind entry) (same_kind, low, is) few le = record {
+  high s (plain what) (t.ahead n) fits few le = absurd fits
+  high s (plain what) (t.unknown k) fits few le = absurd fits
+  high s (plain what) (t.added which entry) (same_kind, low, is) few le = record {
     had = omega (arith, low);
     names = λ e under. let apart = same_no e entry (λ same_. omega (arith, same_, under, low)) in omega (arith, apart);
   }
-  high s (plain p) t.short fits few le = record { had = omega arith; names = λ e under. refl }
+  high s (plain what) t.short fits few le = record { had = omega arith; names = λ e under. refl }
 
   within : (s : ℕ) (asked : Asked S) (told : Said C F) → FitsSaid meaning listed h limit author s asked told →
       s ≤ length h → had_said s told ≤ length h
@@ -139,15 +143,15 @@ module _ {S C F : Type 0} (meaning : Meaning S C F) (listed : Listed S) (h : Lis
   within s (compile w) (t.full n) (is, all, rest) le = omega (arith, is, all)
   within s (compile w) (t.ahead n) (had, in_, rest) le = in_
   within s (compile w) (t.unknown k) (fresh, is) le = fresh.high
-  within s (compile w) (t.added kind entry) fits le = absurd fits
+  within s (compile w) (t.added which entry) fits le = absurd fits
   within s (compile w) t.short fits le = le
-  within s (plain p) (t.served entry k catalog) fits le = absurd fits
-  within s (plain p) (t.refused k fault) fits le = absurd fits
-  within s (plain p) (t.full n) (is, all) le = omega (arith, is, all)
-  within s (plain p) (t.ahead n) fits le = absurd fits
-  within s (plain p) (t.unknown k) fits le = absurd fits
-  within s (plain p) (t.added kind entry) (same_kind, low, is) le = let in_ = is.inside in omega (arith, in_)
-  within s (plain p) t.short fits le = le
+  within s (plain what) (t.served entry k catalog) fits le = absurd fits
+  within s (plain what) (t.refused k fault) fits le = absurd fits
+  within s (plain what) (t.full n) (is, all) le = omega (arith, is, all)
+  within s (plain what) (t.ahead n) fits le = absurd fits
+  within s (plain what) (t.unknown k) fits le = absurd fits
+  within s (plain what) (t.added which entry) (same_kind, low, is) le = let in_ = is.inside in omega (arith, in_)
+  within s (plain what) t.short fits le = le
 
   -- replies that run name no entry that was seen before
   unnamed : (s : ℕ) (requests : List (Asked S)) (replies : List (ReplyOf C F)) (entry : ℕ) →
@@ -319,28 +323,30 @@ module _ {S C F : Type 0} (meaning : Meaning S C F) (listed : Listed S) (limit :
             (ap (λ n. n ∷ []) at);
       }
 
-  removed : (h front rest : List (Event S)) (node : List ℕ) (entry : ℕ) (requests : List (Asked S))
+  added : (h front rest : List (Event S)) (what : Plain S) (which : PlainKind) (entry : ℕ) (requests : List (Asked S))
       (replies : List (ReplyOf C F)) →
-      IsLeft h front rest (plain (deactivate node) ∷ requests) (a.Deactivated entry ∷ replies) →
-      entry ≡ length front → IsStep h front (plain (deactivate node)) (a.Deactivated entry) requests replies
-  removed h front [] node entry requests replies left at =
-      let all = size h front [] left.is in let inside = left.run.0.2.inside in absurd (omega (arith, all, inside, at))
-  removed h front (e ∷ rest) node entry requests replies left at =
+      IsLeft h front rest (plain what ∷ requests) (plain_reply which entry ∷ replies) →
+      FitsPlain meaning listed h limit AUTHOR (length front) what (t.added which entry) → entry ≡ length front →
+      IsStep h front (plain what) (plain_reply which entry) requests replies
+  added h front [] what which entry requests replies left (is_kind, low, is) at =
+      let all = size h front [] left.is in let inside = is.inside in absurd (omega (arith, all, inside, at))
+  added h front (e ∷ rest) what which entry requests replies left (is_kind, low, is) at =
       let all = size h front (e ∷ rest) left.is in
-      let (kind, low, is) = left.run.0 in
-      let e_is : e ≡ plain_entry (deactivate node) AUTHOR is.call =
+      let e_is : e ≡ adds AUTHOR is.call what =
       some_is e _ (sym (get_end front e rest) ∙ ap (slice_get (front ++ e ∷ rest)) (sym at)
       ∙ ap (λ l. slice_get l entry) (sym left.is) ∙ is.at) in
       let may = subst (MayFollow meaning front) e_is
       (legal_at meaning front rest e left.some (subst (Legal meaning) left.is left.legal)) in
+      let after = front ++ e ∷ [] in
+      let took = turn_plain meaning listed limit front after what entry
+      (let few = left.few in omega (arith, few, all)) at
+      (ap (λ x. front ++ x ∷ []) (e_is ∙ ap (λ call. adds AUTHOR call what) may)) in
       record {
-        next = front ++ e ∷ [];
+        next = after;
         rest = rest;
-        takes = inl (turn_plain meaning listed limit front (front ++ e ∷ []) (deactivate node) entry
-            (let few = left.few in omega (arith, few, all)) at
-            (ap (λ x. front ++ x ∷ []) (e_is ∙ ap (plain_entry (deactivate node) AUTHOR) may)));
-        left = goes_on h front rest e (plain (deactivate node)) (a.Deactivated entry) requests replies left
-            (omega (arith, at)) (ap (λ n. n ∷ []) at);
+        takes = inl (took ∙ ap (λ k. Some (turn (plain_reply k entry) after)) (sym is_kind));
+        left = goes_on h front rest e (plain what) (plain_reply which entry) requests replies left
+            (had_plain C F which (length front) entry ∙ ap (λ n. n + 1) at) (named_plain C F which entry ∙ ap (λ n. n ∷ []) at);
       }
 
   module _ (h front rest : List (Event S)) (requests : List (Asked S)) (replies : List (ReplyOf C F)) where
@@ -413,26 +419,38 @@ module _ {S C F : Type 0} (meaning : Meaning S C F) (listed : Listed S) (limit :
         (inl (turn_unknown meaning listed limit front w is.site k (let told = fresh.told in omega (arith, told, at))
         site_is is.none at))
     step (compile w) (a.Deactivated entry) left = absurd left.run.0
+    step (compile w) (a.Deployed entry) left = absurd left.run.0
+    step (compile w) (a.Reported entry) left = absurd left.run.0
     step (compile w) a.Memory left =
         silent_step (compile w) a.Memory (length front) left refl refl refl (inr (refl, refl))
-    step (plain p) (a.Served entry k catalog) left = absurd left.run.0
-    step (plain p) (a.Refused k fault) left = absurd left.run.0
-    step (plain p) (a.HistoryFull n) left =
+    step (plain what) (a.Served entry k catalog) left = absurd left.run.0
+    step (plain what) (a.Refused k fault) left = absurd left.run.0
+    step (plain what) (a.HistoryFull n) left =
         let (is, full) = left.run.0 in
         let all = size h front rest left.is in
         let at = silent meaning listed h limit AUTHOR (length front) n (omega (arith, is, full, all))
-        (next_here (plain p) (a.HistoryFull n) left).next in
-        silent_step (plain p) (a.HistoryFull n) n left refl refl at
-        (inl (turn_no_room meaning listed limit front p n (omega (arith, is, at)) at))
-    step (plain p) (a.SeenAhead n) left = absurd left.run.0
-    step (plain p) (a.UnknownNode k) left = absurd left.run.0
-    step (plain (deactivate node)) (a.Deactivated entry) left =
-        let (kind, low, is) = left.run.0 in
-        removed h front rest node entry requests replies left
+        (next_here (plain what) (a.HistoryFull n) left).next in
+        silent_step (plain what) (a.HistoryFull n) n left refl refl at
+        (inl (turn_no_room meaning listed limit front what n (omega (arith, is, at)) at))
+    step (plain what) (a.SeenAhead n) left = absurd left.run.0
+    step (plain what) (a.UnknownNode k) left = absurd left.run.0
+    step (plain what) (a.Deactivated entry) left =
+        let (is_kind, low, is) = left.run.0 in
+        added h front rest what kind.Deactivation entry requests replies left left.run.0
         (first meaning listed h limit AUTHOR (length front) entry low
-        (next_here (plain (deactivate node)) (a.Deactivated entry) left).next)
-    step (plain p) a.Memory left =
-        silent_step (plain p) a.Memory (length front) left refl refl refl (inr (refl, refl))
+        (next_here (plain what) (a.Deactivated entry) left).next)
+    step (plain what) (a.Deployed entry) left =
+        let (is_kind, low, is) = left.run.0 in
+        added h front rest what kind.Deployment entry requests replies left left.run.0
+        (first meaning listed h limit AUTHOR (length front) entry low
+        (next_here (plain what) (a.Deployed entry) left).next)
+    step (plain what) (a.Reported entry) left =
+        let (is_kind, low, is) = left.run.0 in
+        added h front rest what kind.Filing entry requests replies left left.run.0
+        (first meaning listed h limit AUTHOR (length front) entry low
+        (next_here (plain what) (a.Reported entry) left).next)
+    step (plain what) a.Memory left =
+        silent_step (plain what) a.Memory (length front) left refl refl refl (inr (refl, refl))
 
   steps : (requests : List (Asked S)) (replies : List (ReplyOf C F)) (h front rest : List (Event S)) →
       IsLeft h front rest requests replies → AnsweredInTurn meaning listed limit front requests replies h
@@ -443,15 +461,12 @@ module _ {S C F : Type 0} (meaning : Meaning S C F) (listed : Listed S) (limit :
   steps [] (reply ∷ replies) h front rest left = absurd left.run
   steps (asked ∷ requests) [] h front rest left = absurd left.run
 
-  opened_first : (h : List (Event S)) (site : S) → slice_get h 0 ≡ Some (opens site) →
-      (rest : List (Event S)) × (h ≡ opens site ∷ rest)
-  opened_first [] site at = absurd cc
-  opened_first (e ∷ rest) site at = (rest, ap (λ x. x ∷ rest) (some_is e (opens site) at))
-
   pub whole_in_turn : WholeIsInTurn meaning listed limit
   whole_in_turn site after requests replies w =
-      let (places, hands_are) = one_hand w.hands w.authors in
-      let run = subst (EachRuns meaning listed after limit requests replies) hands_are w.run in
+      let authors : (author : ℕ) → total (is_hand_of author) w.hands ≡ below 1 author =
+      λ author. let all = w.authors author in let none = below_no 0 author (omega arith) in omega (arith, all, none) in
+      let (places, hands_are) = one_hand w.hands authors in
+      let run = subst (EachRuns meaning listed after limit 1 requests replies) hands_are w.run in
       let shares = subst (λ l. (k : ℕ) → total (times_in k) l ≡ below (length requests) k) hands_are w.shares in
       let places_are : places ≡ count_from 0 (length requests) =
       in_turn 0 (length requests) places run.0 (λ k. let all = shares k in let none = below_no 0 k (omega arith) in
@@ -462,16 +477,14 @@ module _ {S C F : Type 0} (meaning : Meaning S C F) (listed : Listed S) (limit :
       let replies_are : picked replies places ≡ replies =
       ap (picked replies) (places_are ∙ ap (count_from 0) (sym w.answered))
       ∙ picked_rest replies [] replies 0 refl refl in
-      let (rest, opened) = opened_first after site w.opening in
-      steps requests replies after (opens site ∷ []) rest (record {
+      steps requests replies after (opens site ∷ []) w.begins.0 (record {
         legal = w.legal;
         few = w.few;
-        is = opened;
+        is = sym w.begins.1;
         some = omega arith;
         run = subst (λ (x : List (Asked S) × List (ReplyOf C F)). Runs meaning listed after limit AUTHOR 1 x.0 x.1)
             (λ i. (asked_are i, replies_are i)) run.1;
-        names = λ entry. let all = w.once entry in let next = below_next 0 entry in
-            let none = below_no 0 entry (omega arith) in omega (arith, all, next, none);
+        names = w.once;
       })
 
   pub one_result : OneResult meaning listed limit

@@ -8,10 +8,10 @@ use Rattle.res_core.specs.Asked.{Wanted}
 use Rattle.res_core.specs.declared.export_set.ExportSet.{ExportSet}
 use Rattle.site_core.specs.Additions.{entry_of}
 use Rattle.site_core.specs.Answers.{Stops}
-use Rattle.site_core.specs.Asked.{Plain, compile, plain, next_entry}
+use Rattle.site_core.specs.Asked.{compile, plain}
 use Rattle.site_core.specs.Compiling.{IsMeant, IsPublication, IsTold, served_reply, added_reply}
 use Rattle.site_core.specs.Core.{Core, with_event}
-use Rattle.site_core.specs.Events.{Event, publication}
+use Rattle.site_core.specs.Events.{Event, publication, next_entry}
 use Rattle.site_core.specs.Fits.{Listed, facts_for}
 use Rattle.site_core.specs.Meaning.{Meaning}
 use Rattle.site_core.specs.Said.{said, kind_of, plain_reply}
@@ -21,6 +21,7 @@ use Rattle.site_core.specs.declared.addition.Addition.{Addition}
 use Rattle.site_core.specs.declared.addition.Addition.TheVariants as v
 use Rattle.site_core.specs.declared.done_stop.DoneStop.{DoneStop}
 use Rattle.site_core.specs.declared.done_stop.DoneStop.TheVariants as stop
+use Rattle.site_core.specs.declared.plain.Plain.{Plain}
 use Rattle.site_core.specs.declared.reply.ReplyOf.{ReplyOf}
 use Rattle.site_core.specs.declared.reply.ReplyOf.TheVariants as a
 use Rattle.site_core.specs.declared.snapshot.Snapshot.{Snapshot}
@@ -112,6 +113,8 @@ module _ {S C F : Type 0} (meaning : Meaning S C F) (listed : Listed S) where
       inl (turn_unknown meaning listed limit h w (arc_value s.site) k (omega (arith, is, seen)) (site_shown h s of is)
       none (k_is ∙ is))
   told limit h s w (a.Deactivated entry) of is why = absurd why
+  told limit h s w (a.Deployed entry) of is why = absurd why
+  told limit h s w (a.Reported entry) of is why = absurd why
   told limit h s w a.Memory of is why = inr (refl, refl)
 
   -- what came of the publication
@@ -147,7 +150,7 @@ module _ {S C F : Type 0} (meaning : Meaning S C F) (listed : Listed S) where
       ended old new s w (view facts) catalog set answer of is m stops
       (subst (λ (x : List ℕ × ℕ).
       OnOk answer (new ≡ with_event old (publication old.history AUTHOR x.0 (view facts) x.1 set))) both ok) err
-  published old new s w catalog (v.Deactivation node) answer of is none stops ok err = absurd none
+  published old new s w catalog (v.Plain what) answer of is none stops ok err = absurd none
 
   -- a plain entry was to be added
   pub added : (old new : Core S) (one : Plain S) (answer : Result ℕ DoneStop) → Stops old answer →

@@ -3,10 +3,11 @@ use Rattle.std.proofs.Common.{◌≡◌, ℕ, false, List, [], ◌∷◌, Option
 use Rattle.std.specs.Prelude.{codes, if◌then◌else◌}
 use Rattle.std.specs.Str.{bytes_eq}
 use Rattle.pp_values.specs.Datum.{Datum, hash, no_entries}
-use Rattle.site_core.specs.Asked.{Asked, compile, plain, deactivate}
+use Rattle.site_core.specs.Asked.{Asked, compile, plain}
 use Rattle.res_core.specs.declared.export_set.ExportSet.{ExportSet}
 use Rattle.site_core.specs.Meaning.{Meaning}
-use Rattle.site_core.specs.Events.{Event, opens, publishes, deactivates}
+use Rattle.site_core.specs.Events.{Event, opens, publishes, adds}
+use Rattle.site_core.specs.declared.plain.Plain.TheVariants as ask
 use Rattle.site_core.specs.declared.reply.ReplyOf.TheVariants as r
 use Rattle.site_sequence.specs.Sequence.{turn, turn_for, outcome_of}
 use Rattle.site_sequence.specs.SequenceLaws.{are_made_in_turn}
@@ -62,12 +63,21 @@ refused_before_full : turn_for toy listed 1 start (asks_with_facts (codes "bad")
     (turn (r.Refused 1 (codes "bad")) start)
 refused_before_full = refl
 
-removed : turn_for toy listed 2 start (plain (deactivate (codes "b")))
-    ≡ Some (turn (r.Deactivated 1) (opens 5 ∷ deactivates (record { author = 0; call = 0; node = codes "b" }) ∷ []))
+removed : turn_for toy listed 2 start (plain (ask.Deactivate (codes "b")))
+    ≡ Some (turn (r.Deactivated 1) (opens 5 ∷ adds 0 0 (ask.Deactivate (codes "b")) ∷ []))
 removed = refl
 
-no_room_to_remove : turn_for toy listed 1 start (plain (deactivate (codes "b"))) ≡ Some (turn (r.HistoryFull 1) start)
+no_room_to_remove : turn_for toy listed 1 start (plain (ask.Deactivate (codes "b"))) ≡ Some (turn (r.HistoryFull 1) start)
 no_room_to_remove = refl
+
+deployed : turn_for toy listed 2 start (plain (ask.Deploy 6))
+    ≡ Some (turn (r.Deployed 1) (opens 5 ∷ adds 0 0 (ask.Deploy 6) ∷ []))
+deployed = refl
+
+served_by_the_site_in_force :
+    turn_for toy listed 3 (opens 5 ∷ adds 0 0 (ask.Deploy 6) ∷ []) (asks (codes "a") 0)
+    ≡ Some (turn (r.Served 2 2 6) (opens 5 ∷ adds 0 0 (ask.Deploy 6) ∷ published 1 2 (codes "a") ∷ []))
+served_by_the_site_in_force = refl
 
 no_site_no_turn : turn_for toy listed 2 [] (asks (codes "a") 0) ≡ None
 no_site_no_turn = refl

@@ -6,16 +6,19 @@ use Rattle.std.proofs.lemmas.Bool.{and_from, and_parts, or_parts, eq-eqb}
 use Rattle.std.proofs.lemmas.List.{length-append}
 use Rattle.pp_values.specs.Datum.{Datum}
 use Rattle.res_core.specs.declared.export_set.ExportSet.{ExportSet}
-use Rattle.site_core.specs.Asked.{Plain, deactivate, Asked, compile, plain}
+use Rattle.site_core.specs.Asked.{Asked, compile, plain}
 use Rattle.site_core.specs.Meaning.{Meaning}
 use Rattle.site_core.specs.Events.{Event}
 use Rattle.site_core.specs.Sets.{sets_at, site_at}
 use Rattle.site_core.specs.Fits.{facts_for, named}
 use Rattle.site_core.specs.Runs.{all_named}
+use Rattle.site_core.specs.Said.{kind_of as kind_asked, plain_reply}
+use Rattle.site_core.specs.declared.plain.Plain.{Plain}
 use Rattle.site_core.specs.declared.reply.ReplyOf.{ReplyOf}
 use Rattle.site_core.specs.declared.reply.ReplyOf.TheVariants as a
+use Rattle.site_core.proofs.Fitting.{said_plain, named_plain}
 use Rattle.site_sequence.specs.Sequence.{Turn, turn, turn_meant, turn_added, turn_known, turn_for, Takes, AnsweredInTurn, Outcome, with_turn, outcome_of}
-use Rattle.site_sequence.specs.SequenceLaws.{is_memory, CountUp, is_made_from, are_made_in_turn, AnswersAreMeant, MeantIsAnswered, RepliesNameEntries, PublicationsAreInTurn}
+use Rattle.site_sequence.specs.SequenceLaws.{says_memory, is_memory, CountUp, is_made_from, are_made_in_turn, AnswersAreMeant, MeantIsAnswered, RepliesNameEntries, PublicationsAreInTurn}
 
 module _ {S C F : Type 0} where
   -- the history stays, and no entry is named
@@ -58,9 +61,12 @@ module _ {S C F : Type 0} where
       (eq-eqb (length h) (length h) refl))
       (stays h (a.HistoryFull (length h)) refl refl)
 
-  comes_added : (limit : ℕ) (h : List (Event S)) (p : Plain S) → Comes h (turn_added {C = C} {F = F} limit h p)
-  comes_added limit h (deactivate node) =
-      comes_if h (nat_lt (length h) limit) _ _ (adds h (a.Deactivated (length h)) _ refl refl refl)
+  comes_added : (limit : ℕ) (h : List (Event S)) (what : Plain S) → Comes h (turn_added {C = C} {F = F} limit h what)
+  comes_added limit h what =
+      let which = kind_asked what in
+      comes_if h (nat_lt (length h) limit) _ _
+      (adds h (plain_reply which (length h)) _ (ap says_memory (said_plain which (length h)))
+      (named_plain C F which (length h)) refl)
       (stays h (a.HistoryFull (length h)) refl refl)
 
 module _ {S C F : Type 0} (meaning : Meaning S C F) (listed : S → List ℕ → Option Datum) (limit : ℕ) where
@@ -88,7 +94,7 @@ module _ {S C F : Type 0} (meaning : Meaning S C F) (listed : S → List ℕ →
       (comes_at h (λ site. turn_known meaning listed limit h site w.node (facts_for listed site w))
       (site_at h (length h)) t
       (λ site. comes_known h site w.node (facts_for listed site w))) is
-  comes h (plain p) t is = let e : turn_added limit h p ≡ t = cc in subst (Comes h) e (comes_added limit h p)
+  comes h (plain what) t is = let e : turn_added limit h what ≡ t = cc in subst (Comes h) e (comes_added limit h what)
 
   -- each answer names the one entry that came, or none came
   kind_of : (h next : List (Event S)) (asked : Asked S) (reply : ReplyOf C F) →

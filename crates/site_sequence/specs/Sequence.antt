@@ -3,12 +3,13 @@ use Rattle.std.specs.Prelude.{◌≡◌, ◌⊎◌, ℕ, nat_lt, if◌then◌els
 use Rattle.std.specs.Prelude.{Result, Ok, Err, option_map, option_and_then}
 use Rattle.pp_values.specs.Datum.{Datum}
 use Rattle.res_core.specs.declared.export_set.ExportSet.{ExportSet}
-use Rattle.site_core.specs.Asked.{Plain, Asked, compile, plain, next_entry}
+use Rattle.site_core.specs.Asked.{Asked, compile, plain}
 use Rattle.site_core.specs.Meaning.{Meaning}
-use Rattle.site_core.specs.Events.{Event, publication}
+use Rattle.site_core.specs.Events.{Event, publication, next_entry}
 use Rattle.site_core.specs.Sets.{sets_at, site_at}
 use Rattle.site_core.specs.Fits.{Listed, facts_for}
 use Rattle.site_core.specs.Said.{kind_of, plain_reply}
+use Rattle.site_core.specs.declared.plain.Plain.{Plain}
 use Rattle.site_core.specs.declared.reply.ReplyOf.{ReplyOf}
 use Rattle.site_core.specs.declared.reply.ReplyOf.TheVariants as a
 use Rattle.site_sequence.specs.declared.sequence.TheConstants.{AUTHOR}
@@ -32,9 +33,9 @@ module _ {S C F : Type 0} where
 
   -- where a plain entry is asked for
   abbrev pub turn_added : ℕ → List (Event S) → Plain S → Turn S C F
-  turn_added limit h p =
+  turn_added limit h what =
       if nat_lt (length h) limit
-      then turn (plain_reply (kind_of p) (length h)) (h ++ next_entry h AUTHOR p ∷ [])
+      then turn (plain_reply (kind_of what) (length h)) (h ++ next_entry h AUTHOR what ∷ [])
       else turn (a.HistoryFull (length h)) h
 
 module _ {S C F : Type 0} (meaning : Meaning S C F) (listed : Listed S) (limit : ℕ) where
@@ -49,7 +50,7 @@ module _ {S C F : Type 0} (meaning : Meaning S C F) (listed : Listed S) (limit :
       if nat_lt (length h) w.seen
       then Some (turn (a.SeenAhead (length h)) h)
       else option_map (λ site. turn_known h site w.node (facts_for listed site w)) (site_at h (length h))
-  turn_for h (plain p) = Some (turn_added limit h p)
+  turn_for h (plain what) = Some (turn_added limit h what)
 
   -- The request is answered so, and this is the history after it. Want of memory may be the answer to any request, and
   -- leaves the history as it was.

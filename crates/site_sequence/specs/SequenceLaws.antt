@@ -4,7 +4,7 @@ use Rattle.std.specs.List.{list_any}
 use Rattle.pp_values.specs.Datum.{Datum}
 use Rattle.site_core.specs.Asked.{Asked}
 use Rattle.site_core.specs.Meaning.{Meaning}
-use Rattle.site_core.specs.Events.{Event, opens, publishes, deactivates}
+use Rattle.site_core.specs.Events.{Event, opens, publishes, adds}
 use Rattle.site_core.specs.Legal.{Legal}
 use Rattle.site_core.specs.Runs.{all_named, Whole}
 use Rattle.site_core.specs.declared.reply.ReplyOf.{ReplyOf}
@@ -31,7 +31,7 @@ module _ {S : Type 0} where
   abbrev pub is_made_from : ℕ → Event S → Bool
   is_made_from n (opens site) = true
   is_made_from n (publishes p) = p.k == n
-  is_made_from n (deactivates d) = true
+  is_made_from n (adds author call what) = true
 
   -- each publication was made from all entries before it, where the first entry has the number n
   abbrev pub are_made_in_turn : ℕ → List (Event S) → Bool

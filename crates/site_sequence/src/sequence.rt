@@ -2,10 +2,11 @@
 ghost use Rattle.std.specs.Prelude.{◌≡◌, [], ◌∷◌, IfOk, IsTrue};
 ghost use Rattle.res_core.specs.AskedFacts.{has_facts, asks_with_facts, give_facts};
 ghost use Rattle.res_core.specs.RequestViews.{asked, wanted};
-ghost use Rattle.site_core.specs.Asked.{compile as wants, plain, deactivate as ends, asks, all_asks};
+ghost use Rattle.site_core.specs.Asked.{compile as wants, plain, asks, all_asks};
 ghost use Rattle.site_core.specs.Events.{opens};
 ghost use Rattle.site_core.specs.Legal.{Legal};
 ghost use Rattle.site_core.specs.Runs.{Whole};
+ghost use Rattle.site_core.specs.declared.plain.Plain.TheVariants as ask;
 ghost use Rattle.site_sequence.specs.Sequence.{Takes, AnsweredInTurn};
 
 use pp_values::memory::Memory;
@@ -13,9 +14,10 @@ use pp_values::text::Text;
 use res_core::request::{CompileRequest, Request};
 use res_core::requests::Requests;
 use site_core::addition::add;
-use site_core::compiling::{compile_under, deactivated, served};
+use site_core::compiling::{added, compile_under, served};
 use site_core::history::{History, MOST_ENTRIES};
 use site_core::language::Language;
+use site_core::plain::PlainKind;
 use site_core::reply::{Reply, ReplyOf};
 use site_core::state::CoreState;
 use site_replies::Replies;
@@ -105,12 +107,15 @@ fn serve<L: Language>(
 
 /// Takes away what the node exports.
 fn deactivate<L: Language>(alloc: Global, core: &mut CoreState<L>, node: &Text) -> Reply<L>
-    ensures turn { Takes L.meaning L.listed core.old.limit core.old.history (plain (ends node.now)) result
+    ensures turn { Takes L.meaning L.listed core.old.limit core.old.history (plain (ask.Deactivate node.now)) result
         core.new.history }
     ensures limit { core.new.limit ≡ core.old.limit }
 {
     let Ok(node) = node.copy(alloc) else {
         return ReplyOf::Memory;
     };
-    deactivated(core.deactivate(alloc, AUTHOR, node))
+    added(
+        PlainKind::Deactivation,
+        core.deactivate(alloc, AUTHOR, node),
+    )
 }

@@ -13,6 +13,8 @@ pub fn write_reply(out: &mut String, reply: &Reply<Toy>) -> Result<(), AllocErro
         ReplyOf::SeenAhead { length } => write!(out, "ahead {length};"),
         ReplyOf::UnknownNode { k } => write!(out, "unknown {k};"),
         ReplyOf::Deactivated { entry } => write!(out, "deactivated {entry};"),
+        ReplyOf::Deployed { entry } => write!(out, "deployed {entry};"),
+        ReplyOf::Reported { entry } => write!(out, "reported {entry};"),
         ReplyOf::Memory => out.push_str("memory;"),
     }
 }
@@ -28,6 +30,10 @@ fn write_entry(out: &mut String, entry: &Entry<ToySite>) -> Result<(), AllocErro
             ..
         } => write!(out, "publish {author} {call} {node} {k};"),
         Entry::Deactivate { author, call, node } => write!(out, "gone {author} {call} {node};"),
+        Entry::Deploy { author, call, .. } => write!(out, "deploy {author} {call};"),
+        Entry::Report {
+            author, call, node, ..
+        } => write!(out, "report {author} {call} {node};"),
     }
 }
 

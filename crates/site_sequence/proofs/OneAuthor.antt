@@ -189,7 +189,7 @@ module _ {S C F : Type 0} (meaning : Meaning S C F) (listed : Listed S) (limit :
       (λ room. adds_one h s (plain what) (plain_reply which (length h)) e (ltb-true (length h) limit room)
       (fits_plain meaning listed (h ++ e ∷ []) limit AUTHOR s what (length h) may.had
       (record { inside = omega (arith, size); call = _; at = get_end h e [] }))
-      (had_plain which s (length h)) (named_plain which (length h)))
+      (had_plain C F which s (length h)) (named_plain C F which (length h)))
       (λ past. let is = full h s may (ltb-false (length h) limit past) in
       silent h s (plain what) (a.HistoryFull (length h)) may.few (is, is) (omega arith) refl)
 

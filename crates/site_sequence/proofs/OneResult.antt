@@ -346,7 +346,7 @@ module _ {S C F : Type 0} (meaning : Meaning S C F) (listed : Listed S) (limit :
         rest = rest;
         takes = inl (took ∙ ap (λ k. Some (turn (plain_reply k entry) after)) (sym is_kind));
         left = goes_on h front rest e (plain what) (plain_reply which entry) requests replies left
-            (had_plain which (length front) entry ∙ ap (λ n. n + 1) at) (named_plain which entry ∙ ap (λ n. n ∷ []) at);
+            (had_plain C F which (length front) entry ∙ ap (λ n. n + 1) at) (named_plain C F which entry ∙ ap (λ n. n ∷ []) at);
       }
 
   module _ (h front rest : List (Event S)) (requests : List (Asked S)) (replies : List (ReplyOf C F)) where

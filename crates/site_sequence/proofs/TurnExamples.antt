@@ -3,11 +3,10 @@ use Rattle.std.proofs.Common.{◌≡◌, ℕ, false, List, [], ◌∷◌, Option
 use Rattle.std.specs.Prelude.{codes, if◌then◌else◌}
 use Rattle.std.specs.Str.{bytes_eq}
 use Rattle.pp_values.specs.Datum.{Datum, hash, no_entries}
-use Rattle.site_core.specs.Asked.{Asked, compile, plain, filed}
+use Rattle.site_core.specs.Asked.{Asked, compile, plain}
 use Rattle.res_core.specs.declared.export_set.ExportSet.{ExportSet}
 use Rattle.site_core.specs.Meaning.{Meaning}
 use Rattle.site_core.specs.Events.{Event, opens, publishes, adds}
-use Rattle.agent_machine.specs.declared.report.Report.{Report}
 use Rattle.site_core.specs.declared.plain.Plain.TheVariants as ask
 use Rattle.site_core.specs.declared.reply.ReplyOf.TheVariants as r
 use Rattle.site_sequence.specs.Sequence.{turn, turn_for, outcome_of}
@@ -79,13 +78,6 @@ served_by_the_site_in_force :
     turn_for toy listed 3 (opens 5 ∷ adds 0 0 (ask.Deploy 6) ∷ []) (asks (codes "a") 0)
     ≡ Some (turn (r.Served 2 2 6) (opens 5 ∷ adds 0 0 (ask.Deploy 6) ∷ published 1 2 (codes "a") ∷ []))
 served_by_the_site_in_force = refl
-
-abbrev report : Report
-report = record { node = codes "a"; lines = [] }
-
-reported : turn_for toy listed 2 start (plain (filed report))
-    ≡ Some (turn (r.Reported 1) (opens 5 ∷ adds 0 0 (ask.Report (codes "a") report) ∷ []))
-reported = refl
 
 no_site_no_turn : turn_for toy listed 2 [] (asks (codes "a") 0) ≡ None
 no_site_no_turn = refl

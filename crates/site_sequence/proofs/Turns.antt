@@ -66,7 +66,7 @@ module _ {S C F : Type 0} where
       let which = kind_asked what in
       comes_if h (nat_lt (length h) limit) _ _
       (adds h (plain_reply which (length h)) _ (ap says_memory (said_plain which (length h)))
-      (named_plain which (length h)) refl)
+      (named_plain C F which (length h)) refl)
       (stays h (a.HistoryFull (length h)) refl refl)
 
 module _ {S C F : Type 0} (meaning : Meaning S C F) (listed : S → List ℕ → Option Datum) (limit : ℕ) where

@@ -1,7 +1,6 @@
 -- Own entries and longer fronts, seen as events.
-use Rattle.std.proofs.Common.{◌≡◌, ℕ, zero, suc, ◌+◌, ◌-◌, ◌≤◌, ◌<◌, List, [], ◌∷◌, ◌++◌, map, length, Option, Some, None, refl, sym, ap, ◌∙◌, arith}
+use Rattle.std.proofs.Common.{◌≡◌, ℕ, zero, suc, ◌+◌, ◌-◌, ◌≤◌, ◌<◌, List, [], ◌∷◌, map, length, Option, Some, None, refl, sym, ap, ◌∙◌, arith}
 use Rattle.std.specs.Prelude.{slice_get}
-use mathlib.Core.List.{IsPrefix}
 use mathlib.Core.Logic.{dite}
 use native.Mathlib.Decide.{ℕ_discrete, dec_le}
 use Rattle.list_sums.specs.Counts.{times, same}
@@ -38,6 +37,12 @@ stands_moved base numbers (Some author) = dite (dec_le base author)
     (λ own. ap (stands numbers) (counted_own base author own) ∙ times_moved base author numbers own)
     (λ other. let earlier : author < base = omega (arith, other) in
     ap (stands numbers) (counted_none base author earlier) ∙ sym (times_below base author numbers earlier))
+
+-- the first number of a pass is its own
+pub first_moved : (base author : ℕ) (numbers : List ℕ) → slice_get numbers 0 ≡ Some author →
+    slice_get (map (λ n. base + n) numbers) 0 ≡ Some (base + author)
+first_moved base author [] at = absurd cc
+first_moved base author (x ∷ numbers) at = let is : x ≡ author = cc in ap (λ n. Some (base + n)) is
 
 module _ {S : Type 0} where
   pub authored : (terms : Terms) (h : List (Event S)) (k : ℕ) →

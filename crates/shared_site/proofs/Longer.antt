@@ -1,17 +1,16 @@
 -- What contracts see of passes that are split, meet and are joined.
-use Rattle.std.proofs.Common.{◌≡◌, ℕ, ◌+◌, ◌-◌, ◌≤◌, List, [], ◌∷◌, ◌++◌, map, length, sym, ap, subst, ◌∙◌, arith}
+use Rattle.std.proofs.Common.{◌≡◌, ℕ, ◌+◌, ◌-◌, max, List, [], ◌∷◌, ◌++◌, map, length, sym, ap, subst, ◌∙◌, arith}
 use Rattle.std.proofs.lemmas.List.{map-append}
 use mathlib.Core.List.{IsPrefix}
 use mathlib.Core.Logic.{dite}
 use native.Mathlib.Decide.{dec_le}
 use Rattle.hist_lock.specs.Calls.{IsLonger}
-use Rattle.hist_lock.specs.Held.{Held, Noted, taking, giving_back, splitting, split_off, meeting, joining}
+use Rattle.hist_lock.specs.Held.{Held, taking, splitting, split_off, meeting, joining}
 use Rattle.site_core.specs.Meaning.{Meaning}
-use Rattle.shared_site.specs.Shows.{Terms, Shared, Shown, shown, events_in, terms_in, Lasts}
-use Rattle.shared_site.specs.Known.{Known, cut, cut_off, seeing, joined_to}
-use Rattle.shared_site.specs.Seats.{known, IsFront, IsReady, IsHeard}
+use Rattle.shared_site.specs.Shows.{Shared, Shown, shown, events_in, terms_in, Lasts}
+use Rattle.shared_site.specs.Known.{cut, cut_off, seeing, joined_to}
+use Rattle.shared_site.specs.Seats.{known, IsFront, IsReady}
 use Rattle.shared_site.proofs.Calls.{longer_terms}
-use Rattle.shared_site.proofs.Shown.{Begins}
 use Rattle.shared_site.proofs.Turns.{some_seen, found, Looked}
 
 module _ {S C F : Type 0} (meaning : Meaning S C F) where
@@ -26,14 +25,20 @@ module _ {S C F : Type 0} (meaning : Meaning S C F) where
   both_terms xs ys now one other longer =
       longer_terms xs ys now (some_seen meaning xs one) (some_seen meaning ys other) longer
 
+  longer_count : (xs ys now : List (Shown S)) (m n : ℕ) → IsLonger xs ys now → m ≡ length xs → n ≡ length ys →
+      max m n ≡ length now
+  longer_count xs ys now m n longer one other = dite (dec_le (length ys) (length xs))
+      (λ le. let is = ap length (longer.0 le).0 in omega (arith, is, le, one, other))
+      (λ not_le. let is = ap length (longer.1 (omega (arith, not_le))).0 in omega (arith, is, not_le, one, other))
+
   -- a pass that met what another one or a note had seen
   pub met_ready : (p q : Held (Shown S)) (other : List (Shown S)) (m n a count : ℕ) → IsReady meaning p m a →
-      IsFront meaning other → q.turn ≡ p.turn → q.author ≡ p.author → IsLonger p.front other q.front →
-      count ≡ length q.front → IsReady meaning q count a
-  met_ready p q other m n a count ready seen turn author longer is = record {
+      IsFront meaning other → n ≡ length other → q.turn ≡ p.turn → q.author ≡ p.author →
+      IsLonger p.front other q.front → count ≡ max m n → IsReady meaning q count a
+  met_ready p q other m n a count ready seen long turn author longer is = record {
     idle = turn ∙ ready.idle;
     seen = longer_front p.front other q.front ready.seen seen longer;
-    count_is = is;
+    count_is = is ∙ longer_count p.front other q.front m n longer ready.count_is long;
     author_is = ready.author_is
         ∙ ap (λ t. t.base + p.author) (sym (both_terms p.front other q.front ready.seen seen longer).0)
         ∙ ap (λ x. (terms_in q.front).base + x) (sym author);

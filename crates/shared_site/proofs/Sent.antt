@@ -5,7 +5,6 @@ use denote.Struct.Declared as declared
 use Rattle.std.proofs.Crossing.{crosses}
 use Rattle.export_store.proofs.Sent as versions
 use Rattle.export_store.proofs.Sent.{set_send, set_sync, version_send, version_sync}
-use Rattle.agent_machine.proofs.status.Status.TheSendSync as status
 use Rattle.agent_machine.specs.contracts.report_line.ReportLine as line
 use Rattle.agent_machine.specs.contracts.report.Report as report
 use Rattle.site_core.specs.contracts.entry.Entry as entry
@@ -22,10 +21,10 @@ use Rattle.shared_site.specs.contracts.site.SharedSite as site
 pub ruleset parts = (versions.parts, sendable)
 
 pub line_send : IsSend (declared.row line.the_type)
-line_send = search (parts, status.the_send) depth 60
+line_send = search parts depth 60
 
 pub line_sync : IsSync (declared.row line.the_type)
-line_sync = search (parts, status.the_sync) depth 60
+line_sync = search parts depth 60
 
 pub report_send : IsSend (declared.row report.the_type)
 report_send = search (parts, line_send) depth 60

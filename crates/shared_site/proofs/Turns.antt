@@ -1,12 +1,13 @@
 -- What a turn makes of a pass.
 use Rattle.std.proofs.Common.{◌≡◌, ℕ, ◌+◌, ◌≤◌, List, [], ◌∷◌, ◌++◌, map, length, Some, Ok, Err, refl, sym, ap, subst, ◌∙◌, arith}
-use Rattle.std.specs.Prelude.{Result, false}
+use Rattle.std.specs.Prelude.{Result, OnOk, OnErr, false}
 use mathlib.Core.List.{IsPrefix}
-use Rattle.hist_lock.specs.Held.{Held, taking, giving_back, adding, splitting, split_off}
+use Rattle.hist_lock.specs.Held.{Held, LockId, first_pass as lock_pass, taking, giving_back, adding, splitting, split_off}
 use Rattle.site_core.specs.Meaning.{Meaning}
 use Rattle.site_core.specs.Events.{Event, author_of}
 use Rattle.site_core.specs.Legal.{Legal}
 use Rattle.site_core.specs.Snapshots.{Of}
+use Rattle.site_core.specs.Core.{Core, with_event}
 use Rattle.site_core.specs.Answers.{Stops}
 use Rattle.site_core.specs.declared.done_stop.DoneStop.{DoneStop}
 use Rattle.site_core.specs.declared.done_stop.DoneStop.TheVariants as stop
@@ -15,10 +16,10 @@ use Rattle.site_core.proofs.Growing.{stays}
 use Rattle.site_core.specs.declared.addition.Addition.{Addition}
 use Rattle.site_core.specs.declared.addition.Addition.TheVariants as v
 use Rattle.site_core.specs.Additions.{entry_of, MayAdd}
-use Rattle.shared_site.specs.Shows.{Shared, Shown, counted_from, core_of, with_entry, mark, shown, events_in, terms_in, told, author_shown, Lasts}
-use Rattle.shared_site.specs.Known.{Known, IsLater, HasAsked}
+use Rattle.shared_site.specs.Shows.{Terms, Shared, Shown, counted_from, core_of, with_entry, mark, shown, events_in, terms_in, told, author_shown, IsParted, Lasts}
+use Rattle.shared_site.specs.Known.{Known, first_pass, IsLater, HasAsked}
 use Rattle.shared_site.specs.Seats.{known, IsFront, IsReady}
-use Rattle.shared_site.proofs.Parted.{counted_own}
+use Rattle.shared_site.proofs.Parted.{counted_own, parted_push}
 use Rattle.shared_site.proofs.Shown.{told_shown, length_shown, shown_with, Begins, begins, prefix_more}
 
 module _ {S C F : Type 0} (meaning : Meaning S C F) where
@@ -42,7 +43,7 @@ module _ {S C F : Type 0} (meaning : Meaning S C F) where
   }
 
   -- a pass without the turn that sees just this
-  sees : (q : Held (Shown S)) (n a : ℕ) (s : Shared S) → Lasts meaning s → n ≡ length s.history →
+  pub sees : (q : Held (Shown S)) (n a : ℕ) (s : Shared S) → Lasts meaning s → n ≡ length s.history →
       a ≡ s.terms.base + q.author → q.front ≡ shown s → q.turn ≡ false → IsReady meaning q n a
   sees q n a s lasts count author front idle = record {
     idle = idle;
@@ -234,3 +235,31 @@ module _ {S : Type 0} where
             ∙ counted_own s.terms.base author low
             ∙ ap Some (omega (arith, mine, ap (λ x. x.author) taken)),
       )
+
+  -- entries of own authors alone come behind those that were given
+  pub added_parted : (terms : Terms) (old new : Core S) (addition : Addition S) (author : ℕ)
+      (result : Result ℕ DoneStop) → IsParted terms old.history → terms.base ≤ author →
+      OnOk result (new ≡ with_event old (entry_of addition author old.history)) → OnErr result (new ≡ old) →
+      IsParted terms new.history
+  added_parted terms old new addition author (Ok number) parted low ok err =
+      subst (λ (core : Core S). IsParted terms core.history) (sym ok)
+      (parted_push terms old.history (entry_of addition author old.history) author parted
+      (author_of_entry addition author old.history) low)
+  added_parted terms old new addition author (Err why) parted low ok err =
+      subst (λ (core : Core S). IsParted terms core.history) (sym err) parted
+
+  -- the first pass of the lock is the first pass of the site
+  pub first_known : (id : LockId) (s : Shared S) (p : Held (Shown S)) → 1 ≤ length s.history →
+      p ≡ lock_pass id (shown s) → known p ≡ first_pass id s
+  first_known id s p some is =
+      let all = told_shown s some in
+      let base : (terms_in (shown s)).base + 0 ≡ s.terms.base = omega (arith, ap (λ x. x.terms.base) all) in
+      ap known is ∙ (λ i. record {
+        site = id;
+        terms = (all i).terms;
+        front = (all i).history;
+        own = [];
+        numbers = (base i) ∷ [];
+        room = 65535;
+        author = base i;
+      })

@@ -1,5 +1,5 @@
 -- What a pass of the lock says of its site.
-use Rattle.std.specs.Prelude.{ℕ, ◌≡◌, ◌+◌, length, false, map}
+use Rattle.std.specs.Prelude.{ℕ, ◌≡◌, ◌+◌, List, length, false, map}
 use Rattle.hist_lock.specs.Held.{Held, Noted}
 use Rattle.site_core.specs.Meaning.{Meaning}
 use Rattle.shared_site.specs.Shows.{Shown, events_in, terms_in, shown, told, Lasts}

@@ -1,4 +1,4 @@
--- A history that threads share, as the list behind the lock, each of whose entries tells the terms on which it was opened.
+-- A history that threads share, and the list behind the lock, each entry of which tells the terms.
 use Rattle.std.specs.Prelude.{◌≡◌, ℕ, ◌+◌, ◌-◌, ◌≤◌, if◌then◌else◌, nat_lt, List, [], ◌∷◌, ◌++◌, length, map, slice_get, Option, None, Some, refl}
 use Rattle.std.specs.List.{All}
 use Rattle.std.specs.Coded.{Coded, code_by, coded×, coded_ℕ}

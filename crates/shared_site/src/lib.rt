@@ -5,8 +5,8 @@ mod locked;
 mod pass;
 mod site;
 
-pub use pass::{SiteNote, SitePass};
 pub use agent_machine::Report;
+pub use pass::{SiteNote, SitePass};
 pub use res_core::request::CompileRequest;
 pub use site::SharedSite;
 pub use site_core::reply::{Reply, ReplyOf};

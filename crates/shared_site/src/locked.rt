@@ -40,8 +40,8 @@ impl<S> Model for Marked<S> {
     ghost use Rattle.site_core.specs.EntryViews.{event_of};
 
     ghost view = { λ m. record {
-        event = event_of m.entry;
-        terms = record { limit = m.limit; base = m.base; given = m.given };
+      event = event_of m.entry;
+      terms = record { limit = m.limit; base = m.base; given = m.given };
     } };
 }
 
@@ -65,8 +65,8 @@ impl<L: Language> Model for Locked<L> {
     ghost use Rattle.shared_site.specs.Shows.{IsParted};
 
     ghost view = { λ s. record {
-        history = s.state.history;
-        terms = record { limit = s.state.limit; base = s.base; given = s.given };
+      history = s.state.history;
+      terms = record { limit = s.state.limit; base = s.base; given = s.given };
     } };
 
     ghost invariant = { λ s.

@@ -1,4 +1,4 @@
-use Rattle.std.proofs.Common.{subst, omega, arith}
+use Rattle.std.proofs.Common.{subst, arith}
 use mathlib.Core.List.{IsPrefix}
 use Rattle.site_core.specs.Additions.{entry_of}
 use Rattle.shared_site.proofs.Turns.{found, has_added, has_refused, may_add_still, own_number, one_entry}

@@ -1,4 +1,4 @@
-use Rattle.std.proofs.Common.{subst}
+use Rattle.std.proofs.Common.{◌+◌, ◌∙◌, ap, subst}
 use mathlib.Core.List.{IsPrefix}
 use Rattle.shared_site.specs.Shows.{events_in}
 use Rattle.shared_site.proofs.Turns.{parted, part_ready}
@@ -8,7 +8,9 @@ pub invariant_of-result : goal.invariant_of-result
 invariant_of-result g c =
     part_ready g.L.Language.meaning c.pass.inside.pass c.take-turn.new.pass _ c.len-pass-inside.result
     c.author-author.result c.take-turn.result.value c.len-pass-inside.ensures.lasts c.len-pass-inside.ensures.len
-    c.take-turn.ensures.pass c.in-Ok.ensures.new c.author-author.ensures
+    c.take-turn.ensures.pass c.in-Ok.ensures.new
+    (c.author-author.ensures ∙ ap (λ t. t.value.terms.base + c.author.result) c.in-Ok.ensures.turn
+    ∙ ap (λ n. c.take-turn.result.value.terms.base + n) c.author.ensures)
 
 pub invariant_of-pass : goal.invariant_of-pass
 invariant_of-pass g c =

@@ -10,7 +10,7 @@ use Rattle.site_bundle.specs.SiteView.{SiteView, facts_for, main_text, text_at, 
 use Rattle.site_bundle.specs.Given.{are_distinct, has_main, is_manifest_path}
 use Rattle.site_bundle.specs.declared.limits.TheConstants.{MOST_BUNDLE_BYTES, MOST_FILES, MOST_FILE_BYTES, MOST_NAME_CHARACTERS, MOST_REQUESTS}
 use Rattle.site_bundle.specs.Refusals.{not_json, bad_shape, too_large, result_and_then}
-use Rattle.site_bundle.specs.Bundles.{bundle_of}
+use Rattle.site_bundle.specs.Bundles.{bundle_of, site_said}
 use Rattle.site_bundle.specs.Files.{content_of, has_room, with_file, with_files}
 use Rattle.site_bundle.specs.Keeping.{with_text}
 use Rattle.site_bundle.specs.declared.kept_files.KeptFiles.{KeptFiles}
@@ -186,6 +186,31 @@ machine = refl
 twice : bundle_of (codes "{\"bundle\":2,\"bundle\":1,\"files\":{\"manifests/site.pp\":\"\"}}") ≡ Ok (record { site = record { manifests = (MAIN_MANIFEST.now, []) ∷ []; «data» = []; nodes = [] }; requests = [] })
 unfolding bundle_on_literals with_files
 twice = refl
+
+-- ---- a site without anything that is asked of it
+
+-- files alone
+site_alone : site_said (codes "{\"files\":{\"manifests/site.pp\":\"notify { 'hi': }\"}}") ≡ Ok (record { manifests = (MAIN_MANIFEST.now, codes "notify { 'hi': }") ∷ []; «data» = []; nodes = [] })
+unfolding bundle_on_literals with_files
+site_alone = refl
+
+-- files of either kind and nodes; what else a bundle has does not count, whatever it is
+site_among_others : site_said (codes "{\"bundle\":2,\"machine\":1,\"requests\":{},\"nodes\":{\"a\":{}},\"files\":{\"manifests/site.pp\":\"\",\"hiera.yaml\":\"{\"}}") ≡ Ok (record {
+  manifests = (MAIN_MANIFEST.now, []) ∷ [];
+  «data» = (codes "hiera.yaml", codes "{") ∷ [];
+  nodes = (codes "a", hash no_entries) ∷ [];
+})
+unfolding bundle_on_literals with_files
+site_among_others = refl
+
+-- no object, no files, no main manifest, a node without facts, and no JSON
+no_sites : (site_said (codes "[]") ≡ Err (bad_shape (codes "files")))
+    × (site_said (codes "{}") ≡ Err (bad_shape (codes "files")))
+    × (site_said (codes "{\"files\":{}}") ≡ Err (bad_shape (codes "files.manifests/site.pp")))
+    × (site_said (codes "{\"files\":{\"manifests/site.pp\":\"\"},\"nodes\":{\"a\":1}}") ≡ Err (bad_shape (codes "nodes.a")))
+    × (site_said (codes "{\"files\"") ≡ Err not_json)
+unfolding bundle_on_literals with_files
+no_sites = (refl, refl, refl, refl, refl)
 
 empty_name : is_node_name [] ≡ false
 empty_name = refl

@@ -1,5 +1,5 @@
 -- What the bytes of a bundle say.
-use Rattle.std.specs.Prelude.{ℕ, ◌==◌, Bool, false, if◌then◌else◌, codes, is_some, List, [], ◌∷◌, Option, Some, None, option_and_then, Result, Ok, Err}
+use Rattle.std.specs.Prelude.{ℕ, ◌==◌, Bool, false, if◌then◌else◌, codes, is_some, List, Option, Some, None, option_and_then, Result, Ok, Err}
 use Rattle.serde_json.specs.Data.{Data}
 use Rattle.serde_json.specs.Find.{get, as_number, as_u64}
 use Rattle.site_bundle.specs.declared.bundle.Bundle.{Bundle}
@@ -26,12 +26,15 @@ unless_machine d bundle = if is_some (get (codes "machine") d) then Err (bad_sha
 abbrev pub site_with : KeptFiles → List Listed → SiteView
 site_with files nodes = record { manifests = files.manifests; «data» = files.data; nodes = nodes }
 
--- its members in their order, so that the first one that is bad decides
+-- the site that a document says: its files and then its nodes, so that the first one that is bad decides
+unfoldable pub site_in : Data → Result SiteView Refusal
+site_in d = result_and_then (λ files. result_and_then (λ nodes. Ok (site_with files nodes)) (nodes_of d)) (files_of d)
+
+-- its members in their order, in the same way
 unfoldable pub members_of : Data → Result Bundle Refusal
 members_of d =
-    result_and_then (λ files. result_and_then (λ nodes. result_and_then (λ requests.
-    unless_machine d (record { site = site_with files nodes; requests = requests }))
-    (requests_of d)) (nodes_of d)) (files_of d)
+    result_and_then (λ site. result_and_then (λ requests. unless_machine d (record { site = site; requests = requests }))
+    (requests_of d)) (site_in d)
 
 abbrev pub bundle_in : Data → Result Bundle Refusal
 bundle_in d = if is_bundle d then members_of d else Err (bad_shape (codes "bundle"))
@@ -39,3 +42,8 @@ bundle_in d = if is_bundle d then members_of d else Err (bad_shape (codes "bundl
 -- the site and the requests that the bytes say, or the first thing that is wrong with them
 unfoldable pub bundle_of : List ℕ → Result Bundle Refusal
 bundle_of bytes = result_and_then bundle_in (document_of bytes)
+
+-- The site that the bytes say, or the first thing that is wrong with them: a document as a bundle is one, of which no
+-- other members count.
+unfoldable pub site_said : List ℕ → Result SiteView Refusal
+site_said bytes = result_and_then site_in (document_of bytes)

@@ -4,7 +4,7 @@ ghost use Rattle.serde_json.specs.View.{view};
 ghost use Rattle.site_bundle.specs.declared.limits.TheConstants.{MOST_REQUESTS};
 ghost use Rattle.site_bundle.specs.Refusals.{Reads};
 ghost use Rattle.res_core.specs.AskedFacts.{give_facts};
-ghost use Rattle.site_bundle.specs.Bundles.{is_bundle, members_of, bundle_in, bundle_of};
+ghost use Rattle.site_bundle.specs.Bundles.{is_bundle, site_in, members_of, bundle_in, bundle_of, site_said};
 
 use crate::bundle::Bundle;
 use crate::bundle_stop::BundleStop;
@@ -14,7 +14,7 @@ use crate::kept_files::KeptFiles;
 use crate::nodes::read_nodes;
 use crate::refusing::bad_shape;
 use crate::requests::read_requests;
-use crate::site::site_with;
+use crate::site::{Site, site_with};
 use serde_json::Value;
 use std::alloc::Global;
 
@@ -57,12 +57,30 @@ fn members_of(alloc: Global, document: &Value) -> Result<Bundle, BundleStop>
     ensures facts { IfOk result (λ b. IsTrue (give_facts b.requests)) }
     ensures few { IfOk result (λ b. length b.requests ≤ MOST_REQUESTS) }
 {
-    let KeptFiles { manifests, data } = read_files(alloc, document)?;
-    let nodes = read_nodes(alloc, document)?;
+    let site = site_in(alloc, document)?;
     let requests = read_requests(alloc, document)?;
     if document.get("machine").is_some() {
         return Err(bad_shape(alloc, "machine"));
     }
-    let site = site_with(alloc, manifests, data, nodes)?;
     Ok(Bundle { site, requests })
+}
+
+#[tactic(auto, unfolding(crate::specs::Bundles::site_in))]
+fn site_in(alloc: Global, document: &Value) -> Result<Site, BundleStop>
+    ensures { Reads result (site_in (view document.now)) }
+{
+    let KeptFiles { manifests, data } = read_files(alloc, document)?;
+    let nodes = read_nodes(alloc, document)?;
+    let site = site_with(alloc, manifests, data, nodes)?;
+    Ok(site)
+}
+
+/// The site that these bytes say without anything that is asked of it, or the first thing that is wrong with them: a
+/// JSON object with `files` and, where there are any, `nodes`, as in a bundle. Its other members do not count.
+#[tactic(auto, unfolding(crate::specs::Bundles::site_said))]
+pub fn read_site_text(alloc: Global, bytes: &[u8]) -> Result<Site, BundleStop>
+    ensures { Reads result (site_said bytes.now) }
+{
+    let document = read_document(alloc, bytes)?;
+    site_in(alloc, &document)
 }

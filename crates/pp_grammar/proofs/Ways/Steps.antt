@@ -275,7 +275,7 @@ first_each P R M = record { holds = bind_holds 1 P.holds R (λ a. omega arith) M
 
 -- ---- the steps
 
-pub pure_goes : {A : Type 0} {n : ℕ} {E : A → Option Kind → Bool} (a : A) → Rule n None E (pure a) (λ m. pure a)
+unfoldable pub pure_goes : {A : Type 0} {n : ℕ} {E : A → Option Kind → Bool} (a : A) → Rule n None E (pure a) (λ m. pure a)
 pure_goes a = record {
   holds = record { falls = λ i. omega arith; goes = λ i rest other i2 m h alike reached. (i2, refl, alike) };
   fresh = record { way = []; begins = refl; enough = 0; found = a; reads = λ i r m h e f. (i, refl, e) };

@@ -2,9 +2,11 @@
 use Rattle.std.proofs.Common.{◌≡◌, true, false, [], ◌∷◌, ◌++◌, Some, None, refl}
 use Rattle.std.specs.Prelude.{codes}
 use Rattle.std.specs.Fmt.{digits}
-use Rattle.httparse.specs.Grammar.{crlf, Field, RequestHead, print_request, trim_ows}
+use Rattle.httparse.specs.Grammar.{crlf, Field, RequestHead, print_request, is_token_byte, trim_ows}
 use Rattle.httparse.proofs.OnLiterals.{httparse_on_literals}
+use Rattle.http_wire.specs.declared.places.Place.TheVariants as place
 use Rattle.http_wire.specs.Fields.{body_length, closes, seen, fields_of}
+use Rattle.http_wire.specs.Places.{after}
 use Rattle.http_wire.specs.Responses.{response_text}
 
 -- ---- fields
@@ -49,6 +51,23 @@ past_ascii = refl
 
 unseen : seen ((codes "Host", codes "s") ∷ []) ≡ None
 unseen = refl
+
+-- ---- places
+
+empty_lines : after place.Blank (13 ∷ 10 ∷ 10 ∷ []) ≡ place.Blank
+empty_lines = refl
+
+in_a_target : after place.Blank (10 ∷ codes "GET /a") ≡ place.Target
+unfolding is_token_byte
+in_a_target = refl
+
+within : after place.Blank (codes "GET / HTTP/1.1" ++ 13 ∷ 10 ∷ codes "Host: s" ++ 13 ∷ 10 ∷ 13 ∷ []) ≡ place.LineReturn
+unfolding is_token_byte
+within = refl
+
+ended : after place.Blank (codes "GET / HTTP/1.1" ++ 10 ∷ 10 ∷ codes "more") ≡ place.Ended
+unfolding is_token_byte
+ended = refl
 
 -- ---- a request
 

@@ -1,11 +1,10 @@
 -- What the steps of reading come to.
-use Rattle.std.proofs.Common.{◌≡◌, ◌≢◌, ◌⊎◌, inl, inr, ℕ, ◌+◌, ◌<◌, ◌≤◌, List, [], ◌∷◌, ◌++◌, length, take, Option, Some, None, Result, Ok, Err, refl, sym, ap, ◌∙◌, subst, arith}
+use Rattle.std.proofs.Common.{◌≡◌, ◌≢◌, ◌⊎◌, inl, inr, ℕ, ◌+◌, ◌<◌, ◌≤◌, List, [], ◌∷◌, ◌++◌, length, take, Option, Some, None, Result, Ok, Err, refl, sym, ◌∙◌, subst, arith}
 use Rattle.std.proofs.lemmas.List.{take_all}
-use Rattle.site_io.specs.Stream.{Stream, Rose, HasRead}
+use Rattle.site_io.specs.Stream.{Stream, Rose}
 use Rattle.site_io.proofs.Streams.{read_then_read, Rose-after}
 use Rattle.http_wire.specs.declared.heads.Head.{Head}
 use Rattle.http_wire.specs.declared.request.HttpRequest.{HttpRequest}
-use Rattle.http_wire.specs.declared.request.H.{H}
 use Rattle.http_wire.specs.declared.request.H.TheVariants as h
 use Rattle.http_wire.specs.declared.request.WireStop.{WireStop}
 use Rattle.http_wire.specs.declared.request.WireStop.TheVariants as stop
@@ -108,11 +107,13 @@ module _ {bytes rest : List ℕ} {s t : Stream} {kept : Head} (n : ℕ) (is : Is
 
   pub answered : (r : HttpRequest) (behind : List ℕ) → kept.size + n ≤ length rest → IsTaken kept n rest r behind
       → (all : List ℕ) × HasGathered HasNone bytes all s t × HasNext all r behind
-  answered r behind whole taken =
-      (rest, gathered_body,
-        subst (λ l. HasNext l r behind) (sym gathered.grown)
-            (request_taken bytes gathered.more kept n r behind is says fits (subst (λ l. kept.size + n ≤ length l) gathered.grown whole)
-            (subst (λ l. IsTaken kept n l r behind) gathered.grown taken)))
+  answered r behind whole taken = (
+    rest,
+    gathered_body,
+    subst (λ l. HasNext l r behind) (sym gathered.grown)
+        (request_taken bytes gathered.more kept n r behind is says fits (subst (λ l. kept.size + n ≤ length l) gathered.grown whole)
+        (subst (λ l. IsTaken kept n l r behind) gathered.grown taken)),
+  )
 
 -- the head's bytes, and then those of the body
 stops_then : (unread bytes rest : List ℕ) (s t u : Stream) → HasGathered HasNone unread bytes s t → (why : WireStop) → StopsBy bytes rest why t u

@@ -1,23 +1,22 @@
 -- What stands at the front of bytes, and how it stays while they grow.
-use Rattle.std.proofs.Common.{◌≡◌, ◌≢◌, ◌⊎◌, inl, inr, ℕ, suc, ◌+◌, ◌-◌, ◌*◌, ◌<◌, ◌≤◌, List, [], ◌∷◌, ◌++◌, length, map, take, drop, Option, Some, None, refl, sym, ap, ◌∙◌, subst, arith, append_assoc, append-nil, length-append}
-use Rattle.std.specs.Prelude.{All, Bool, true, false, option_copied}
+use Rattle.std.proofs.Common.{◌≡◌, ◌⊎◌, inl, inr, ℕ, suc, ◌+◌, ◌-◌, ◌*◌, ◌<◌, ◌≤◌, List, [], ◌∷◌, ◌++◌, length, map, take, drop, Option, Some, refl, sym, ap, ◌∙◌, subst, arith, append_assoc, append-nil, length-append}
+use Rattle.std.specs.Prelude.{All, true, false, option_copied}
 use Rattle.std.proofs.lemmas.List.{take-append-drop, length-take-le, take_rest, length-map}
 use Rattle.std.proofs.lemmas.List.Elements.{All-head, All-tail}
 use Rattle.std.specs.List.{flat_map}
-use Rattle.httparse.specs.Grammar.{RequestHead, IsRequestHead, print_request, print_blank, print_end, print_field, print_section, print_version, Field, IsField, LineEnd, crlf, lf, ReadsRequest, HasNoRequest, NeverHasRequest, EndsInTarget}
+use Rattle.httparse.specs.Grammar.{RequestHead, print_request, print_blank, print_end, print_field, print_section, print_version, Field, IsField, LineEnd, crlf, lf, ReadsRequest, HasNoRequest, NeverHasRequest}
 use Rattle.httparse.specs.declared.borrowed.Header.{Header}
 use Rattle.httparse.specs.declared.borrowed.Request.{Request}
 use Rattle.httparse.specs.Borrowed.{header_parts, HoldsSomeRequest}
 use Rattle.httparse.specs.Spans.{RequestExceeds, name_and_value}
 use Rattle.httparse.proofs.GrammarLemmas.{request_unique, print_request-append, cons-append}
-use Rattle.site_io.specs.Stream.{Stream, HasRead}
 use Rattle.http_wire.specs.declared.heads.Head.{Head}
 use Rattle.http_wire.specs.declared.request.HttpRequest.{HttpRequest}
 use Rattle.http_wire.specs.declared.places.Place.{Place}
 use Rattle.http_wire.specs.declared.places.Place.TheVariants.{Blank}
 use Rattle.http_wire.specs.Places.{next, after, is_target}
 use Rattle.http_wire.specs.Fields.{fields_of, body_length, closes, seen}
-use Rattle.http_wire.specs.Messages.{most_head, most_body, most_fields, IsMessage, HasNext, HasNone, HasHead, Announces, IsOpenBody, IsOpenHead, IsNoHead, IsCrowded}
+use Rattle.http_wire.specs.Messages.{most_head, most_body, most_fields, HasNext, HasNone, HasHead, Announces, IsOpenBody, IsOpenHead, IsNoHead, IsCrowded}
 use Rattle.http_wire.specs.Reading.{IsKept, IsHeadOf, IsTaken}
 use Rattle.http_wire.proofs.Watching.{in_target, target_in}
 
@@ -112,8 +111,7 @@ request_taken bytes more kept n r rest is says fits whole taken =
     taken.body ∙ ap (λ l. take n (drop kept.size l)) has.2 ∙ ap (λ k. take n (drop k (printed ++ back))) start ∙ ap (take n) (drop_front printed back 0) in
     let count : length r.body ≡ n = ap length body ∙ length-take-le n back enough in
     let behind : rest ≡ drop n back =
-    taken.rest_is ∙ ap (drop (kept.size + n)) has.2 ∙ ap (λ k. drop (k + n) (printed ++ back)) size ∙ drop_front printed back n in
-    (
+    taken.rest_is ∙ ap (drop (kept.size + n)) has.2 ∙ ap (λ k. drop (k + n) (printed ++ back)) size ∙ drop_front printed back n in (
       printed ++ r.body,
       record {
         head = is.head;

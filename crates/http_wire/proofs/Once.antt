@@ -1,15 +1,14 @@
 -- What stands at the front of bytes is one thing, whatever follows: so the answer to bytes does not depend on how they are cut.
-use Rattle.std.proofs.Common.{◌≡◌, ◌≢◌, ◌⊎◌, inl, inr, ℕ, ◌+◌, ◌-◌, ◌<◌, ◌≤◌, Bool, List, [], ◌∷◌, ◌++◌, length, take, drop, Option, Some, None, refl, sym, ap, ◌∙◌, subst, arith, append_assoc, append-nil, length-append}
-use Rattle.std.proofs.lemmas.List.{take-append-drop, take_all, length-take-le}
+use Rattle.std.proofs.Common.{◌≡◌, inl, inr, ℕ, ◌+◌, ◌-◌, Bool, List, [], ◌∷◌, ◌++◌, length, take, Option, Some, None, refl, sym, ap, ◌∙◌, subst, arith, append_assoc, append-nil, length-append}
 use Rattle.std.proofs.Math.Seq.{take-append-add}
-use Rattle.httparse.specs.Grammar.{RequestHead, print_request, ReadsRequest, HasNoRequest, NeverHasRequest, EndsInTarget}
-use Rattle.httparse.proofs.GrammarLemmas.{request_unique, ReadsRequest-append}
+use Rattle.httparse.specs.Grammar.{RequestHead, print_request, ReadsRequest}
+use Rattle.httparse.proofs.GrammarLemmas.{request_unique}
 use Rattle.http_wire.specs.declared.request.HttpRequest.{HttpRequest}
 use Rattle.http_wire.specs.declared.request.H.{H}
 use Rattle.http_wire.specs.declared.request.H.TheVariants as h
 use Rattle.http_wire.specs.Fields.{fields_of, body_length, closes, seen}
-use Rattle.http_wire.specs.Messages.{most_head, most_body, most_fields, IsMessage, HasNext, HasNone, Begins, HasHead, Announces, IsOpen, IsOpenBody, IsOpenHead, IsNoHead, IsCrowded, Refuses}
-use Rattle.http_wire.proofs.Fronts.{message_reads, head_stays, some_alike}
+use Rattle.http_wire.specs.Messages.{most_head, HasNext, Begins, HasHead, IsOpen, Refuses}
+use Rattle.http_wire.proofs.Fronts.{message_reads, some_alike}
 
 -- ---- one request
 
@@ -44,8 +43,7 @@ one_request bytes r q a b (front, is, cut) (front', is', cut') =
     let bodies = cut_alike r.body a q.body b lengths heads.1 in
     let sizes : r.size ≡ q.size =
     is.size ∙ ap length is.bytes_are ∙ ap (λ k. length (print_request k ++ r.body)) heads.0 ∙ ap (λ l. length (print_request is'.head ++ l)) bodies.0
-    ∙ ap length (sym is'.bytes_are) ∙ sym is'.size in
-    (
+    ∙ ap length (sym is'.bytes_are) ∙ sym is'.size in (
       parts_alike r q (is.method ∙ ap (λ k. k.method) heads.0 ∙ sym is'.method)
           (is.path ∙ ap (λ k. k.target) heads.0 ∙ sym is'.path)
           (is.seen ∙ ap (λ k. seen (fields_of k)) heads.0 ∙ sym is'.seen)
@@ -88,9 +86,14 @@ front_reads bytes rest r next =
     let printed = print_request next.1.head in
     let short = next.1.short in
     let size : most_head ≡ length printed + (most_head - length printed) = omega (arith, short) in
-    let reads = message_reads bytes rest r next in
-    (_, (reads.0, ap (take most_head) reads.1 ∙ ap (λ n. take n (printed ++ (r.body ++ rest))) size
-        ∙ take-append-add printed (r.body ++ rest) (most_head - length printed)))
+    let reads = message_reads bytes rest r next in (
+      _,
+      (
+        reads.0,
+        ap (take most_head) reads.1 ∙ ap (λ n. take n (printed ++ (r.body ++ rest))) size
+            ∙ take-append-add printed (r.body ++ rest) (most_head - length printed),
+      ),
+    )
 
 pub not_refused : (bytes rest : List ℕ) (r : HttpRequest) (why : H) (ended : Type 0) → HasNext bytes r rest → Refuses why bytes ended → ⊥
 not_refused bytes rest r h.BadHead ended next (inl (never, apart)) =

@@ -1,18 +1,18 @@
 -- What is refused stays refused while bytes are added, and for the same reason alone.
-use Rattle.std.proofs.Common.{◌≡◌, ◌≢◌, ◌⊎◌, inl, inr, ℕ, zero, suc, ◌+◌, ◌-◌, ◌<◌, ◌≤◌, Bool, IsTrue, List, [], ◌∷◌, ◌++◌, length, take, drop, Option, Some, None, refl, sym, ap, ◌∙◌, subst, arith, append_assoc, append-nil, length-append}
-use Rattle.std.specs.Prelude.{All, codes}
+use Rattle.std.proofs.Common.{◌≡◌, ◌≢◌, ◌⊎◌, inl, inr, ℕ, zero, suc, ◌+◌, ◌-◌, ◌<◌, ◌≤◌, Bool, IsTrue, List, [], ◌∷◌, ◌++◌, length, take, Option, Some, None, refl, sym, ap, ◌∙◌, subst, arith, append_assoc, append-nil, length-append}
+use Rattle.std.specs.Prelude.{codes}
 use Rattle.std.proofs.lemmas.List.{take_all, take-append-le}
 use Rattle.std.proofs.lemmas.List.Elements.{All-cons, All-nil, All-head, All-tail}
 use Rattle.std.proofs.lemmas.Str.{IsUtf8-from_ascii}
 use Rattle.std.proofs.lemmas.Str.Ascii.{IsAscii-nil, IsAscii-cons}
 use Rattle.std.proofs.Math.Seq.{take-append-add}
-use Rattle.httparse.specs.Grammar.{lf, LineEnd, print_blank, RequestHead, IsRequestHead, IsField, print_request, ReadsRequest, HasNoRequest, NeverHasRequest, EndsInTarget, AllPass, IsToken, is_uri_byte}
+use Rattle.httparse.specs.Grammar.{lf, LineEnd, print_blank, RequestHead, IsField, print_request, ReadsRequest, HasNoRequest, NeverHasRequest, EndsInTarget, AllPass, IsToken, is_uri_byte}
 use Rattle.httparse.proofs.GrammarLemmas.{print_request-append, request_unique}
 use Rattle.http_wire.specs.declared.request.H.{H}
 use Rattle.http_wire.specs.declared.request.H.TheVariants as h
 use Rattle.http_wire.specs.Fields.{fields_of, body_length}
-use Rattle.http_wire.specs.Messages.{most_head, most_body, most_fields, HasHead, Announces, IsOpen, IsOpenBody, IsOpenHead, IsNoHead, IsCrowded, Refuses}
-use Rattle.http_wire.proofs.Fronts.{head_stays, crowded_of_front}
+use Rattle.http_wire.specs.Messages.{most_head, most_body, HasHead, Announces, IsOpen, IsOpenHead, IsNoHead, IsCrowded, Refuses}
+use Rattle.http_wire.proofs.Fronts.{head_stays}
 
 -- ---- no head
 
@@ -44,34 +44,45 @@ shortest = codes " / HTTP/1.0" ++ 10 ∷ 10 ∷ []
 method_may_go_on : (blank : List LineEnd) (method : List ℕ) → IsToken method
     → (head : RequestHead) × ReadsRequest ((print_blank blank ++ method) ++ shortest) head []
 method_may_go_on blank method token =
-    let head : RequestHead = record { blank = blank; method = method; target = codes "/"; minor = 0; line_end = lf; fields = []; last = lf } in
-    (head,
-      (record {
+    let head : RequestHead = record { blank = blank; method = method; target = codes "/"; minor = 0; line_end = lf; fields = []; last = lf } in (
+      head,
+      (
+        record {
           method = token;
           target = (omega arith, All-cons (λ x. IsTrue (is_uri_byte x)) 47 [] refl (All-nil (λ x. IsTrue (is_uri_byte x))));
           target_text = IsUtf8-from_ascii (codes "/") (IsAscii-cons 47 [] (omega arith) IsAscii-nil);
           minor = omega arith;
           fields = All-nil IsField;
-        }, append_assoc (print_blank blank) method shortest ∙ sym (print_request-append head [])))
+        },
+        append_assoc (print_blank blank) method shortest ∙ sym (print_request-append head []),
+      ),
+    )
 
 ends_before : (xs ys : List ℕ) → NeverHasRequest xs → EndsInTarget (xs ++ ys) → EndsInTarget xs
 ends_before xs ys never (blank, method, target, token, pass, is) = by_cases (split_cases xs ys start (32 ∷ target) is)
   where
     start : List ℕ
     start = print_blank blank ++ method
+
     too_early : (zs : List ℕ) → start ≡ xs ++ zs → EndsInTarget xs
     too_early zs front =
         let whole = method_may_go_on blank method token in
         absurd (never (zs ++ shortest) whole.0 []
-            (subst (λ l. ReadsRequest l whole.0 []) (ap (λ l. l ++ shortest) front ∙ append_assoc xs zs shortest) whole.1))
+        (subst (λ l. ReadsRequest l whole.0 []) (ap (λ l. l ++ shortest) front ∙ append_assoc xs zs shortest) whole.1))
+
     by_cases : ((zs : List ℕ) × (start ≡ xs ++ zs) × (ys ≡ zs ++ 32 ∷ target)) ⊎ ((zs : List ℕ) × (xs ≡ start ++ zs) × (32 ∷ target ≡ zs ++ ys))
         → EndsInTarget xs
     by_cases (inl (zs, front, back)) = too_early zs front
     by_cases (inr ([], front, back)) = too_early [] (sym (append-nil start) ∙ sym front ∙ sym (append-nil xs))
     by_cases (inr (z ∷ zs, front, back)) =
-        let space : 32 ≡ z = cc (back) in let rest : target ≡ zs ++ ys = cc (back) in
-        (blank, method, zs, token, AllPass_front is_uri_byte zs ys (subst (AllPass is_uri_byte) rest pass),
-          front ∙ ap (λ b. start ++ b ∷ zs) (sym space))
+        let space : 32 ≡ z = cc (back) in let rest : target ≡ zs ++ ys = cc (back) in (
+          blank,
+          method,
+          zs,
+          token,
+          AllPass_front is_uri_byte zs ys (subst (AllPass is_uri_byte) rest pass),
+          front ∙ ap (λ b. start ++ b ∷ zs) (sym space),
+        )
 
 pub never_stays : (xs ys : List ℕ) → IsNoHead xs → IsNoHead (xs ++ ys)
 never_stays xs ys (never, apart) =

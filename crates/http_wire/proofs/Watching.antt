@@ -1,5 +1,5 @@
 -- How far the bytes of a head have come, against the grammar of heads.
-use Rattle.std.proofs.Common.{◌≡◌, ℕ, zero, suc, ◌+◌, ◌<◌, ◌≤◌, Bool, true, false, ◌==◌, cond, IsTrue, List, [], ◌∷◌, ◌++◌, length, refl, sym, ap, ◌∙◌, subst, arith, append_assoc, append-nil}
+use Rattle.std.proofs.Common.{◌≡◌, ℕ, zero, suc, ◌≤◌, Bool, true, false, ◌==◌, cond, IsTrue, List, [], ◌∷◌, ◌++◌, refl, sym, ap, ◌∙◌, arith, append_assoc, append-nil}
 use Rattle.std.specs.Prelude.{All}
 use Rattle.std.specs.List.{flat_map}
 use Rattle.std.proofs.lemmas.Bool.{eqb-true}
@@ -8,7 +8,7 @@ use Rattle.httparse.specs.Grammar.{is_token_byte, is_uri_byte, is_value_byte, Al
 use Rattle.httparse.proofs.GrammarLemmas.{print_request-append, cons-append}
 use Rattle.http_wire.specs.declared.places.Place.{Place}
 use Rattle.http_wire.specs.declared.places.Place.TheVariants.{Blank, BlankReturn, Method, Target, Line, LineStart, LineReturn, Ended}
-use Rattle.http_wire.specs.Places.{next, after, is_ended, is_target, in_line, in_blank}
+use Rattle.http_wire.specs.Places.{next, after, is_ended, is_target, in_line}
 
 -- ---- one byte
 
@@ -225,9 +225,14 @@ return_step c ys further true feed is = (ys, ap (λ b. b ∷ ys) (eqb-true c 10 
 return_step c ys further false other is = absurd (past_stays Line ys refl is)
 
 with_return : (b : ℕ) (xs : List ℕ) → b ≡ 13 → InReturn xs → EndsInTarget (b ∷ xs)
-with_return b xs cr (ys, behind, (blank, method, target, token, pass, is)) =
-    (crlf ∷ blank, method, target, token, pass,
-      ap (λ c. c ∷ xs) cr ∙ ap (λ l. 13 ∷ l) behind ∙ ap (λ l. 13 ∷ 10 ∷ l) is)
+with_return b xs cr (ys, behind, (blank, method, target, token, pass, is)) = (
+  crlf ∷ blank,
+  method,
+  target,
+  token,
+  pass,
+  ap (λ c. c ∷ xs) cr ∙ ap (λ l. 13 ∷ l) behind ∙ ap (λ l. 13 ∷ 10 ∷ l) is,
+)
 
 with_feed : (b : ℕ) (xs : List ℕ) → b ≡ 10 → EndsInTarget xs → EndsInTarget (b ∷ xs)
 with_feed b xs feed (blank, method, target, token, pass, is) =

@@ -45,13 +45,10 @@ fn is_named(field: &Header<'_>, name: &str) -> bool
 }
 
 /// The value of the first field of this name, and the fields behind it.
-fn next_value<'h, 'b>(
-    fields: &'h [Header<'b>],
-    name: &str,
-) -> Option<(&'b [u8], &'h [Header<'b>])>
+fn next_value<'h, 'b>(fields: &'h [Header<'b>], name: &str) -> Option<(&'b [u8], &'h [Header<'b>])>
     ensures { MatchOption result (spec.values name.now (map header_parts fields.now) ≡ [])
         (λ found. spec.values name.now (map header_parts fields.now)
-            ≡ found.0.now ∷ spec.values name.now (map header_parts found.1.now)) }
+        ≡ found.0.now ∷ spec.values name.now (map header_parts found.1.now)) }
 {
     let mut left = fields;
     while let [field, after @ ..] = left {

@@ -77,12 +77,24 @@ impl Place {
     {
         match self {
             Place::Blank => in_blank(byte),
-            Place::BlankReturn => if byte == b'\n' { Place::Blank } else { Place::Line },
+            Place::BlankReturn => if byte == b'\n' {
+                Place::Blank
+            } else {
+                Place::Line
+            },
             Place::Method => in_method(byte),
-            Place::Target => if is_uri_token(byte) { Place::Target } else { in_line(byte) },
+            Place::Target => if is_uri_token(byte) {
+                Place::Target
+            } else {
+                in_line(byte)
+            },
             Place::Line => in_line(byte),
             Place::LineStart => at_line_start(byte),
-            Place::LineReturn => if byte == b'\n' { Place::Ended } else { Place::Line },
+            Place::LineReturn => if byte == b'\n' {
+                Place::Ended
+            } else {
+                Place::Line
+            },
             Place::Ended => Place::Ended,
         }
     }

@@ -37,9 +37,9 @@ pub(crate) enum NextHead {
     Stopped(WireStop),
 }
 
-/// What the bytes come to, where it is time to ask the parser, which begins anew each time: when a line that ends a head has
-/// come, and before that only when there are twice as many bytes as when it was asked last. All in all it goes over three times
-/// the bytes of a head, into however many pieces the source cuts them.
+/// What the bytes come to, where it is time to ask the parser, which begins anew each time: when a line that
+/// ends a head has come, and before that only when there are twice as many bytes as when it was asked last. All
+/// in all it goes over three times the bytes of a head, into however many pieces the source cuts them.
 fn ask(alloc: Global, bytes: &[u8], place: Place, asked: usize) -> Look
     requires place { place ≡ places.after Blank bytes.now }
     requires short { length bytes.now ≤ most_head }
@@ -139,7 +139,14 @@ fn take_request(
     requires within { head.size + count ≤ length bytes.old }
     ensures { IfOk result (λ request. IsTaken head count bytes.old request bytes.new) }
 {
-    let Head { method, path, seen, close, size, .. } = head;
+    let Head {
+        method,
+        path,
+        seen,
+        close,
+        size,
+        ..
+    } = head;
     let end = size + count;
     let all = bytes.as_slice();
     let body = Bytes::from_slice(alloc, &all[size..end])?;
@@ -202,11 +209,12 @@ fn read_behind<S: Source>(
     }
 }
 
-/// Reads the next request, into however many pieces the source cuts it. `rest` has the bytes that were read past the request
-/// before, and has those past this one afterwards; where no request is answered, it has all bytes that were met.
+/// Reads the next request, into however many pieces the source cuts it. `rest` has the bytes that were read past
+/// the request before, and has those past this one afterwards; where no request is answered, it has all bytes
+/// that were met, unless memory was wanting.
 ///
-/// A request is answered once its last byte was read. A head that will never be one is told by the time that the bytes at
-/// hand are twice as many, that a read fails or that the input ends.
+/// A request is answered once its last byte was read. A head that will never be one is told by the time that the
+/// bytes at hand are twice as many, that a read fails or that the input ends.
 pub fn read_request<S: Source>(
     alloc: Global,
     from: &mut S,

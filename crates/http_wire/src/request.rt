@@ -54,8 +54,8 @@ impl fmt::Display for H {
     }
 }
 
-/// Why no request was read. `Bad` has the place of the faulty message's first byte, counted from the first byte that the call
-/// met: those that had been read before come first.
+/// Why no request was read. `Bad` has the place of the faulty message's first byte, counted from the first byte
+/// that the call met: those that had been read before come first.
 #[derive(Clone, Copy, Debug, PartialEq, Eq)]
 pub enum WireStop {
     Bad(H, u64),

@@ -91,8 +91,8 @@ fn text_of(alloc: Global, response: &HttpResponse) -> Result<Vec<u8>, Memory>
     Ok(text)
 }
 
-/// Writes a response. Its head and body are handed over as one piece, since a small piece behind another may wait for the
-/// peer.
+/// Writes a response. Its head and body are handed over as one piece, since a small piece behind another may wait
+/// for the peer.
 pub fn write_response<K: Sink>(
     alloc: Global,
     to: &mut K,

@@ -1,4 +1,4 @@
-use Rattle.std.proofs.Common.{◌≡◌, ◌++◌, length, map, reverse, string_bytes}
+use Rattle.std.proofs.Common.{◌≡◌, ◌++◌, length, map, string_bytes}
 use Rattle.http_wire.specs.Fields.{as_ascii}
 use Rattle.http_wire.proofs.fields.as_ascii.Given as goal
 

@@ -1,4 +1,4 @@
-use Rattle.std.proofs.Common.{◌≡◌, ◌++◌, length, map, reverse, string_bytes}
+use Rattle.std.proofs.Common.{◌≡◌, length, map}
 use Rattle.http_wire.specs.Fields.{values}
 use Rattle.httparse.specs.Borrowed.{header_parts}
 use Rattle.http_wire.proofs.fields.next_value.Given as goal

@@ -1,4 +1,4 @@
-use Rattle.std.proofs.Common.{◌≡◌, ◌++◌, length, map, reverse, string_bytes}
+use Rattle.std.proofs.Common.{◌≡◌, length}
 use Rattle.http_wire.specs.Fields.{number_from}
 use Rattle.http_wire.proofs.fields.number.Given as goal
 

@@ -9,9 +9,11 @@ use Rattle.http_wire.proofs.Deciding.{no_head_within}
 use Rattle.http_wire.proofs.reading.gather_head.Goals as goal
 
 pub returns-in-Never : goal.returns-in-Never
-returns-in-Never g c =
-    (c.loop-alloc.invariant.gathered, no_head_within _ (omega arith)
-        (subst (λ l. IsNoHead l ⊎ IsCrowded l) c.as_slice-in-loop-alloc.ensures c.in-Never.ensures))
+returns-in-Never g c = (
+  c.loop-alloc.invariant.gathered,
+  no_head_within _ (omega arith)
+      (subst (λ l. IsNoHead l ⊎ IsCrowded l) c.as_slice-in-loop-alloc.ensures c.in-Never.ensures),
+)
 
 pub returns-in-NoMemory : goal.returns-in-NoMemory
 returns-in-NoMemory g c = (c.loop-alloc.invariant.gathered.more, c.loop-alloc.invariant.gathered.read)

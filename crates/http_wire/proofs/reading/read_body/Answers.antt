@@ -1,4 +1,3 @@
-use Rattle.site_io.proofs.Streams.{nothing_read}
 use Rattle.http_wire.proofs.Deciding.{ends_within, fails_within, answered}
 use Rattle.http_wire.proofs.reading.read_body.Goals as goal
 

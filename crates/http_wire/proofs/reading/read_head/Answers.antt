@@ -1,4 +1,3 @@
-use Rattle.std.proofs.Common.{length, arith}
 use Rattle.http_wire.proofs.Deciding.{at_full, at_end, at_fault}
 use Rattle.http_wire.proofs.reading.read_head.Goals as goal
 

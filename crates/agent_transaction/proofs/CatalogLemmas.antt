@@ -1,0 +1,85 @@
+-- All indexes in a catalog are those of its resources; and turns of loops.
+use Rattle.std.proofs.Common.{◌≡◌, ℕ, zero, suc, ◌+◌, ◌<◌, ◌≤◌, Bool, true, false, ◌&&◌, if◌then◌else◌, List, [], ◌∷◌, ◌++◌, length, map, All, IsTrue, drop, get_or, refl, sym, ap, ap₂, ◌∙◌, arith, add-one, append_assoc}
+use Rattle.std.proofs.Math.Seq.{drop-cons}
+use Rattle.std.proofs.lemmas.List.Elements.{All-append, All-map, All-nil, All-cons}
+use Rattle.std.proofs.lemmas.Bool.{ltb-true}
+use Rattle.std.specs.List.{list_all}
+use Rattle.std.specs.Prelude.{nat_lt}
+use Rattle.rel_graph.specs.Graphs.{edge_pair}
+use Rattle.rel_graph.specs.Pairs.{AllBelow}
+use Rattle.res_core.specs.Catalogs.{are_containers, is_between, IsCatalog}
+use Rattle.res_core.specs.declared.edge.Edge.{Edge}
+use Rattle.res_core.specs.declared.held.Held.{Held}
+use Rattle.agent_transaction.specs.Runs.{pairs_from, containment, relations, signal_of, signalling}
+
+first : (a b : Bool) → (a && b) ≡ true → a ≡ true
+first true b e = refl
+first false b e = absurd cc
+
+second : (a b : Bool) → (a && b) ≡ true → b ≡ true
+second true b e = e
+second false b e = absurd cc
+
+all_below : (count : ℕ) (is : List ℕ) → list_all (λ i. nat_lt i count) is ≡ true → All (λ i. i < count) is
+all_below count [] e = All-nil (λ i. i < count)
+all_below count (i ∷ is) e =
+    All-cons (λ j. j < count) i is (ltb-true i count (first (nat_lt i count) (list_all (λ j. nat_lt j count) is) e))
+    (all_below count is (second (nat_lt i count) (list_all (λ j. nat_lt j count) is) e))
+
+pairs_below : (count i : ℕ) (hs : List Held) → list_all (λ h. are_containers count h.inside) hs ≡ true →
+    i + length hs ≤ count → AllBelow (pairs_from i hs) count
+pairs_below count i [] e few = All-nil (λ p. (p.0 < count) × (p.1 < count))
+pairs_below count i (h ∷ hs) e few =
+    let member : i < count = omega (arith, few) in
+    let here = first (are_containers count h.inside) (list_all (λ g. are_containers count g.inside) hs) e in
+    let rest = second (are_containers count h.inside) (list_all (λ g. are_containers count g.inside) hs) e in
+    let each = all_below count h.inside (first (list_all (λ i. nat_lt i count) h.inside) _ here) in
+    All-append (λ p. (p.0 < count) × (p.1 < count)) (map (λ c. (c, i)) h.inside) (pairs_from (suc i) hs)
+    (All-map (λ p. (p.0 < count) × (p.1 < count)) (λ c. (c, i)) h.inside (λ k d less. (each k d less, member)))
+    (pairs_below count (suc i) hs rest (omega (arith, few)))
+
+module _ (hs : List Held) (es : List Edge) (kept : IsCatalog hs es) where
+  pub containment_below : AllBelow (containment hs) (length hs)
+  containment_below = pairs_below (length hs) 0 hs kept.contained (omega arith)
+
+between : (count : ℕ) (e : Edge) → is_between count e ≡ true → (e.from < count) × (e.to < count)
+between count e is = (
+  ltb-true e.from count (first (nat_lt e.from count) (nat_lt e.to count) is),
+  ltb-true e.to count (second (nat_lt e.from count) (nat_lt e.to count) is),
+)
+
+related_below : (count : ℕ) (es : List Edge) → list_all (is_between count) es ≡ true → AllBelow (relations es) count
+related_below count [] e = All-nil (λ p. (p.0 < count) × (p.1 < count))
+related_below count (x ∷ es) e =
+    All-cons (λ p. (p.0 < count) × (p.1 < count)) (edge_pair x) (relations es)
+    (between count x (first (is_between count x) (list_all (is_between count) es) e))
+    (related_below count es (second (is_between count x) (list_all (is_between count) es) e))
+
+signals_below : (count : ℕ) (es : List Edge) → list_all (is_between count) es ≡ true → AllBelow (signalling es) count
+signals_below count [] e = All-nil (λ p. (p.0 < count) × (p.1 < count))
+signals_below count (x ∷ es) e =
+    let here = between count x (first (is_between count x) (list_all (is_between count) es) e) in
+    let rest = signals_below count es (second (is_between count x) (list_all (is_between count) es) e) in
+    elim x.signal as (λ b. AllBelow ((if b then edge_pair x ∷ [] else []) ++ signalling es) count) [
+      | true ↦ All-cons (λ p. (p.0 < count) × (p.1 < count)) (edge_pair x) (signalling es) here rest
+      | false ↦ rest
+    ]
+
+module _ (hs : List Held) (es : List Edge) (kept : IsCatalog hs es) where
+  pub relations_below : AllBelow (relations es) (length hs)
+  relations_below = related_below (length hs) es kept.between
+
+  pub signalling_below : AllBelow (signalling es) (length hs)
+  signalling_below = signals_below (length hs) es kept.between
+
+pub pairs_turn : (hs : List Held) (i : ℕ) (h : Held) (is : List ℕ) (old new whole : List (ℕ × ℕ)) → i < length hs →
+    h ≡ get_or hs i h → is ≡ h.inside → new ≡ old ++ map (λ c. (c, i)) is →
+    old ++ pairs_from i (drop i hs) ≡ whole → new ++ pairs_from (i + 1) (drop (i + 1) hs) ≡ whole
+pairs_turn hs i h is old new whole less here same put all =
+    let next : drop i hs ≡ h ∷ drop (i + 1) hs =
+    drop-cons hs i h less ∙ ap₂ (λ x j. x ∷ drop j hs) (sym here) (sym (add-one i)) in
+    ap (λ xs. xs ++ pairs_from (i + 1) (drop (i + 1) hs)) put
+    ∙ append_assoc old (map (λ c. (c, i)) is) (pairs_from (i + 1) (drop (i + 1) hs))
+    ∙ ap₂ (λ us j. old ++ (map (λ c. (c, i)) us ++ pairs_from j (drop (i + 1) hs))) same (add-one i)
+    ∙ sym (ap (λ xs. old ++ pairs_from i xs) next)
+    ∙ all

@@ -1,0 +1,14 @@
+-- What clauses of commands rest on, and a reader has to believe: Catalogs, Faults, Runs, Steps, Tasks, ToldTurns, Turns
+-- What functions promise one another, what types keep, and what proofs read: Laws, Marking, Preparing, Room, TaskCodes
+pub mod Catalogs
+pub mod Faults
+pub mod Laws
+pub mod Marking
+pub mod Preparing
+pub mod Room
+pub mod Runs
+pub mod Steps
+pub mod TaskCodes
+pub mod Tasks
+pub mod ToldTurns
+pub mod Turns

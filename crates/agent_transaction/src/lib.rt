@@ -1,0 +1,28 @@
+//! A catalog is applied to a machine, one resource after another.
+#![tactic(auto)]
+
+mod applying;
+mod ended;
+mod laws;
+mod ordering;
+mod plan;
+mod planned;
+mod planning;
+mod prepared;
+mod ready;
+mod relating;
+mod run_stop;
+mod running;
+mod running_all;
+mod setting;
+mod step;
+mod task;
+mod tasks;
+mod turns;
+mod want;
+mod wants;
+mod work;
+
+pub use applying::run_catalog;
+pub use laws::a_told_turn_is_one;
+pub use run_stop::RunStop;

@@ -1,5 +1,5 @@
 -- What is prepared of a catalog, and what its run comes to.
-use Rattle.std.proofs.Common.{◌≡◌, ℕ, List, [], length, map, inl, inr, refl, sym, subst, ◌∙◌}
+use Rattle.std.proofs.Common.{◌≡◌, ℕ, List, length, map, inl, inr, refl, sym, subst}
 use Rattle.rel_graph.specs.Before.{Before, Direct}
 use Rattle.rel_graph.specs.Chains.{Paired}
 use Rattle.rel_graph.specs.Cycles.{IsCycle, HasNoCycle}
@@ -11,7 +11,6 @@ use Rattle.res_core.specs.declared.edge.Edge.{Edge}
 use Rattle.res_core.specs.declared.held.Held.{Held}
 use Rattle.agent_machine.specs.Machines.{Told}
 use Rattle.agent_machine.specs.declared.report.Report.{Report}
-use Rattle.agent_machine.specs.declared.report_line.ReportLine.{ReportLine}
 use Rattle.pp_values.specs.declared.reference.Reference.{Reference}
 use Rattle.agent_marks.specs.Spreads.{Marking, IsNew}
 use Rattle.agent_transaction.proofs.CatalogLemmas.{containment_below, relations_below, signalling_below}

@@ -1,5 +1,5 @@
 -- All indexes in a catalog are those of its resources; and turns of loops.
-use Rattle.std.proofs.Common.{◌≡◌, ℕ, zero, suc, ◌+◌, ◌<◌, ◌≤◌, Bool, true, false, ◌&&◌, if◌then◌else◌, List, [], ◌∷◌, ◌++◌, length, map, All, IsTrue, drop, get_or, refl, sym, ap, ap₂, ◌∙◌, arith, add-one, append_assoc}
+use Rattle.std.proofs.Common.{◌≡◌, ℕ, suc, ◌+◌, ◌<◌, ◌≤◌, Bool, true, false, ◌&&◌, if◌then◌else◌, List, [], ◌∷◌, ◌++◌, length, map, All, drop, get_or, refl, sym, ap, ap₂, ◌∙◌, arith, add-one, append_assoc}
 use Rattle.std.proofs.Math.Seq.{drop-cons}
 use Rattle.std.proofs.lemmas.List.Elements.{All-append, All-map, All-nil, All-cons}
 use Rattle.std.proofs.lemmas.Bool.{ltb-true}
@@ -10,7 +10,7 @@ use Rattle.rel_graph.specs.Pairs.{AllBelow}
 use Rattle.res_core.specs.Catalogs.{are_containers, is_between, IsCatalog}
 use Rattle.res_core.specs.declared.edge.Edge.{Edge}
 use Rattle.res_core.specs.declared.held.Held.{Held}
-use Rattle.agent_transaction.specs.Runs.{pairs_from, containment, relations, signal_of, signalling}
+use Rattle.agent_transaction.specs.Runs.{pairs_from, containment, relations, signalling}
 
 first : (a b : Bool) → (a && b) ≡ true → a ≡ true
 first true b e = refl

@@ -1,19 +1,16 @@
 -- What turns have to do, and what they come to, at worked examples: one for each rule.
-use Rattle.std.proofs.Common.{◌≡◌, ℕ, Bool, true, false, List, [], ◌∷◌, ◌++◌, None, Some, refl}
+use Rattle.std.proofs.Common.{◌≡◌, ℕ, true, false, List, [], ◌∷◌, None, Some, refl}
 use Rattle.std.specs.Prelude.{codes}
 use Rattle.pp_values.specs.Datum.{flag, text}
 use Rattle.pp_values.specs.Settings.{Setting}
-use Rattle.pp_values.specs.declared.reference.Reference.{Reference}
 use Rattle.res_core.specs.NativeTypes.{row, native_of}
 use Rattle.res_core.specs.declared.native_type.NativeType.TheVariants as native
 use Rattle.res_core.specs.declared.resource.Resource.{Resource}
 use Rattle.agent_machine.specs.Contents.{Content}
 use Rattle.agent_machine.specs.States.{State, present, absent, has, written}
-use Rattle.agent_machine.specs.declared.report_line.ReportLine.{ReportLine}
 use Rattle.agent_machine.specs.declared.status.Status.TheVariants as status
 use Rattle.agent_transaction.specs.Tasks.{is_noop, looked_at, work_of, task_of, task_in, file_at, ensure}
 use Rattle.agent_transaction.specs.ToldTurns.{turn}
-use Rattle.agent_transaction.specs.Turns.{line_of}
 use Rattle.agent_transaction.specs.declared.task.Task.{Task}
 use Rattle.agent_transaction.specs.declared.work.Work.TheVariants as work
 

@@ -1,10 +1,10 @@
 -- Turns one after another, and the marks that they leave.
-use Rattle.std.proofs.Common.{◌≡◌, ◌⊎◌, ◌↔◌, ℕ, ◌<◌, Bool, true, false, List, [], ◌∷◌, ◌++◌, map, Contains, inl, inr, refl, sym, subst, ap, ◌∙◌, arith, append-nil, append_assoc}
+use Rattle.std.proofs.Common.{◌≡◌, ℕ, ◌<◌, Bool, true, false, List, [], ◌∷◌, ◌++◌, map, Contains, inl, inr, refl, sym, subst, ap, ◌∙◌, arith, append-nil, append_assoc}
 use Rattle.std.proofs.lemmas.List.{map-append}
 use Rattle.std.proofs.lemmas.List.Elements.{Contains-push, Contains-push_cases, Contains-append_left, All-tail}
 use Rattle.agent_machine.specs.Machines.{Told}
 use Rattle.agent_machine.specs.declared.report_line.ReportLine.{ReportLine}
-use Rattle.agent_marks.specs.Spreads.{Marking, Leads, IsMarked, IsNew}
+use Rattle.agent_marks.specs.Spreads.{Marking, IsMarked, IsNew}
 use Rattle.agent_transaction.specs.Marking.{SpreadsIf, IsLineBy, AreMarks, Going, AreBelow}
 use Rattle.agent_transaction.specs.Runs.{Turned, Reaches, has_failed, signals, IsTurned, AreTurned, IsRunOf, IsBrokenRun}
 use Rattle.agent_transaction.specs.Turns.{IsBroken}

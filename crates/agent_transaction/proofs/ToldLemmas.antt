@@ -1,19 +1,18 @@
 -- On a machine that tells its content a turn is that of the function.
-use Rattle.std.proofs.Common.{◌≡◌, ℕ, Bool, true, false, ◌&&◌, List, [], ◌∷◌, Option, Some, Result, Ok, Err, refl, sym, subst, ap, ap₂, ◌∙◌}
+use Rattle.std.proofs.Common.{◌≡◌, ℕ, Bool, true, false, ◌&&◌, List, [], ◌∷◌, Some, Result, Ok, Err, refl, sym, subst, ap, ap₂, ◌∙◌}
 use Rattle.std.specs.Prelude.{option_map, MatchOption}
 use Rattle.pp_values.specs.Datum.{Datum}
 use Rattle.pp_values.specs.Settings.{Setting}
 use Rattle.pp_values.specs.declared.reference.Reference.{Reference}
 use Rattle.agent_machine.specs.Contents.{Content, asked, holds_answer, refresh_answer, write_answer, after_write}
-use Rattle.agent_machine.specs.Machines.{Told, Asks, Refreshes, Writes}
+use Rattle.agent_machine.specs.Machines.{Told, Asks, Refreshes}
 use Rattle.agent_machine.specs.declared.holds.Holds.{Holds}
 use Rattle.agent_machine.specs.declared.holds.Holds.TheVariants as holds
 use Rattle.agent_machine.specs.declared.report_line.ReportLine.{ReportLine}
-use Rattle.agent_machine.specs.declared.wrote.Wrote.{Wrote}
 use Rattle.agent_machine.specs.declared.wrote.Wrote.TheVariants as wrote
 use Rattle.agent_transaction.specs.Steps.{Corrects, SetsBy, SetsRight, Runs, RunsBy, RunsUnless}
-use Rattle.agent_transaction.specs.ToldTurns.{wrote_step, corrected, set_by, set_right, ran_step, run, run_by, run_unless, Worked, go_on, whole, set_all, worked, refreshed_result, refreshed, finished, finish_worked, turn}
-use Rattle.agent_transaction.specs.Turns.{Goes, IsOver, SetsAll, Ends, Single, Works, Refreshed, Finishes, line_of, IsTurn}
+use Rattle.agent_transaction.specs.ToldTurns.{wrote_step, corrected, set_by, set_right, ran_step, run, run_by, run_unless, Worked, go_on, whole, set_all, worked, refreshed_result, refreshed, finished, turn}
+use Rattle.agent_transaction.specs.Turns.{Goes, IsOver, SetsAll, Ends, Works, Refreshed, Finishes, line_of, IsTurn}
 use Rattle.agent_transaction.specs.declared.ended.Ended.{Ended}
 use Rattle.agent_transaction.specs.declared.ended.Ended.TheVariants as ended
 use Rattle.agent_transaction.specs.declared.step.Step.{Step}

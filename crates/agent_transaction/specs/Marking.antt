@@ -1,5 +1,5 @@
 -- Marks as turns set them.
-use Rattle.std.specs.Prelude.{◌≡◌, ◌⊎◌, ◌↔◌, ℕ, ◌<◌, Bool, true, false, List, [], ◌++◌, map, length, Result, MatchResult}
+use Rattle.std.specs.Prelude.{◌≡◌, ◌⊎◌, ◌↔◌, ℕ, ◌<◌, Bool, true, false, List, [], ◌++◌, map, Result, MatchResult}
 use Rattle.std.specs.List.{All}
 use Rattle.pp_values.specs.declared.memory.Memory.{Memory}
 use Rattle.agent_machine.specs.Machines.{Told}

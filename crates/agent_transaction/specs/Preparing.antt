@@ -1,11 +1,6 @@
 -- What is there before the first call on the machine.
-use Rattle.std.specs.Prelude.{◌≡◌, ℕ, ◌≤◌, List, [], ◌++◌, ◌∷◌, map, length, Option, option_map, option_to_list, slice_get, Result, MatchResult}
-use Rattle.pp_values.specs.declared.reference.Reference.{Reference}
+use Rattle.std.specs.Prelude.{◌≡◌, ℕ, List, map, length, Result, MatchResult}
 use Rattle.rel_graph.specs.Before.{Before, Direct}
-use Rattle.rel_graph.specs.Chains.{Paired}
-use Rattle.rel_graph.specs.Cycles.{IsCycle, HasNoCycle}
-use Rattle.rel_graph.specs.Orders.{IsOrder}
-use Rattle.res_core.specs.Catalogs.{Catalog, reference_of}
 use Rattle.res_core.specs.declared.edge.Edge.{Edge}
 use Rattle.res_core.specs.declared.held.Held.{Held}
 use Rattle.agent_marks.specs.Spreads.{Marking, IsNew}

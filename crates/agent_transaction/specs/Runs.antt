@@ -1,9 +1,7 @@
 -- A run over a catalog: each resource's turn, in order.
-use Rattle.std.specs.Prelude.{◌≡◌, ◌⊎◌, ◌↔◌, ℕ, suc, Bool, true, false, ◌||◌, List, [], ◌∷◌, ◌++◌, length, map, if◌then◌else◌, Option, None, Some, option_map, option_and_then, option_to_list, slice_get, Result, MatchResult}
+use Rattle.std.specs.Prelude.{◌≡◌, ◌⊎◌, ◌↔◌, ℕ, suc, Bool, true, false, ◌||◌, List, [], ◌∷◌, ◌++◌, map, if◌then◌else◌, Option, option_map, option_and_then, option_to_list, slice_get, Result, MatchResult}
 use Rattle.std.specs.List.{Contains}
 use Rattle.pp_values.specs.declared.memory.Memory.{Memory}
-use Rattle.pp_values.specs.declared.reference.Reference.{Reference}
-use Rattle.rel_graph.specs.Before.{Before, Direct}
 use Rattle.rel_graph.specs.Graphs.{edge_pair}
 use Rattle.res_core.specs.declared.edge.Edge.{Edge}
 use Rattle.res_core.specs.declared.held.Held.{Held}

@@ -1,6 +1,6 @@
 -- The turn of a resource on a machine that tells its content: what is called, what is answered and what is left are
 -- functions of the content.
-use Rattle.std.specs.Prelude.{ℕ, Bool, true, false, ◌&&◌, List, [], ◌∷◌, Option, Result, Ok, Err}
+use Rattle.std.specs.Prelude.{ℕ, Bool, true, false, ◌&&◌, List, [], ◌∷◌, Result, Ok, Err}
 use Rattle.pp_values.specs.Settings.{Setting}
 use Rattle.pp_values.specs.declared.reference.Reference.{Reference}
 use Rattle.agent_machine.specs.Contents.{Content, asked, holds_answer, refresh_answer, write_answer, after_write}

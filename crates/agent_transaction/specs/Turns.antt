@@ -1,5 +1,5 @@
 -- The turn of a resource, and what the report says of it.
-use Rattle.std.specs.Prelude.{◌≡◌, ℕ, Bool, true, false, ◌&&◌, List, [], ◌∷◌, Option, None, Some, Result, Ok, Err, MatchResult}
+use Rattle.std.specs.Prelude.{◌≡◌, ℕ, Bool, true, false, ◌&&◌, List, [], ◌∷◌, None, Some, Result, Ok, Err, MatchResult}
 use Rattle.pp_values.specs.Settings.{Setting}
 use Rattle.pp_values.specs.declared.memory.Memory.{Memory}
 use Rattle.pp_values.specs.declared.reference.Reference.{Reference}

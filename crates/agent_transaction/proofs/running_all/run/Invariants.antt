@@ -1,5 +1,5 @@
 -- The turns so far, with the marks that they left, and room for those that are left.
-use Rattle.std.proofs.Common.{◌≡◌, ℕ, ◌+◌, ◌≤◌, List, map, length}
+use Rattle.std.proofs.Common.{ℕ, ◌+◌, ◌≤◌, List, map, length}
 use Rattle.std.specs.Prelude.{vec_capacity}
 use Rattle.rel_graph.specs.Before.{Before, Direct}
 use Rattle.agent_marks.specs.Spreads.{IsNew}

@@ -1,7 +1,7 @@
 -- The status of each ending, as far as the input decides it.
 use Rattle.std.proofs.Common.{◌≡◌, ◌⊎◌, ℕ, ◌<◌, ◌≤◌, Bool, true, false, List, [], ◌∷◌, length, sym, ap, ◌∙◌, subst, refl, inl, inr, arith}
 use Rattle.std.proofs.lemmas.Bool.{le-leb}
-use Rattle.std.specs.Prelude.{Option, Result, Ok, Err, Some, if◌then◌else◌, codes}
+use Rattle.std.specs.Prelude.{Option, Result, Ok, Err, Some, if◌then◌else◌, codes, nat_eq}
 use Rattle.std.specs.List.{list_any}
 use Rattle.hiera_merge.specs.declared.merge.Merge.{Merge}
 use Rattle.site_core.specs.declared.history.TheConstants.{MOST_ENTRIES}
@@ -19,7 +19,7 @@ use Rattle.site_commands.specs.declared.output.Output.TheVariants as a
 use Rattle.site_commands.specs.declared.ending.Ending.{Ending}
 use Rattle.site_commands.specs.declared.ending.Ending.TheVariants as e
 use Rattle.site_commands.specs.Outputs.{IsOutput, TellsOf, HasRun, HasShared, HasLookedUp, HasDemonstrated, manifest_output, is_refusal, run_text}
-use Rattle.site_commands.specs.Endings.{Ends, HasInput, IsComplaint, IsReader, IsSettled, IsStatusFor, IsBatchStatus, output_status, outcome_status, bundle_status, lookup_status, demo_status}
+use Rattle.site_commands.specs.Endings.{Ends, HasInput, IsCommand, IsComplaint, IsReader, IsSettled, IsStatusFor, IsBatchStatus, output_status, outcome_status, bundle_status, lookup_status, demo_status}
 use Rattle.site_commands.specs.Demo.{demo_site, demo_requests, summary_text}
 use Rattle.site_commands.specs.Limits.{limit_of}
 use Rattle.compile_core.specs.Puppet.{puppet, listed}
@@ -238,3 +238,50 @@ ends_settled e.BadInput words before after input (inr run) told =
 ends_settled e.ReadFault words before after input run told = inr (inl refl)
 ends_settled e.WriteFault words before after input run told = inr (inr (inl refl))
 ends_settled e.Memory words before after input run told = inr (inr (inr refl))
+
+-- ---- faulty words
+
+-- what is a command is no complaint
+command_is_none : (asked : CommandLine) → IsCommand asked → IsComplaint asked → ⊥
+command_is_none (manifest node) h complaint = complaint
+command_is_none sequence h complaint = complaint
+command_is_none (batch workers) h complaint = complaint
+command_is_none (lookup node key merge) h complaint = complaint
+command_is_none (demo nodes) h complaint = complaint
+command_is_none usage h complaint = h
+command_is_none (bad_word word) h complaint = h
+
+reader_asks : (asked : CommandLine) → IsReader asked → IsCommand asked
+reader_asks (manifest node) h = h
+reader_asks sequence h = h
+reader_asks (batch workers) h = h
+reader_asks (lookup node key merge) h = h
+reader_asks (demo nodes) h = absurd h
+reader_asks usage h = h
+reader_asks (bad_word word) h = h
+
+unlike : true ≡ false → ⊥
+unlike e = cc
+
+IsTold : ℕ → CommandLine → Type 0
+IsTold status asked = (status ≡ 10 → IsComplaint asked) × (IsComplaint asked → status ≡ 10)
+
+-- a status that is not that of faulty words
+told_else : (status : ℕ) (asked : CommandLine) → nat_eq status 10 ≡ false → IsCommand asked → IsTold status asked
+unfolding IsTold
+told_else status asked other h =
+    (λ is. absurd (unlike (subst (λ n. nat_eq n 10 ≡ false) is other)), λ c. absurd (command_is_none asked h c))
+
+-- the status tells faulty words from all else
+pub ends_words : (ending : Ending) (words : List (List ℕ)) (before after : World) → Ends ending words before after →
+    (status_of ending ≡ 10 → IsComplaint (asked_of words)) × (IsComplaint (asked_of words) → status_of ending ≡ 10)
+unfolding IsTold
+ends_words e.Done words before after h = told_else 0 (asked_of words) refl h.asked
+ends_words e.Refused words before after h = told_else 1 (asked_of words) refl h.asked
+ends_words e.WriteFault words before after h = told_else 13 (asked_of words) refl h.asked
+ends_words e.BadWords words before after h = (λ is. h.unasked, λ c. refl)
+ends_words e.BadInput words before after (inl h) = told_else 11 (asked_of words) refl h.asked
+ends_words e.BadInput words before after (inr h) = told_else 11 (asked_of words) refl (reader_asks (asked_of words) h.asked)
+ends_words e.ReadFault words before after h = told_else 12 (asked_of words) refl (reader_asks (asked_of words) h.asked)
+ends_words e.Memory words before after (inl h) = told_else 16 (asked_of words) refl h.asked
+ends_words e.Memory words before after (inr h) = told_else 16 (asked_of words) refl (reader_asks (asked_of words) h.asked)

@@ -1,7 +1,6 @@
 -- The demo: a site of so many nodes, what is asked of it, and what is told of the run.
-use Rattle.std.specs.Prelude.{ℕ, zero, suc, ◌+◌, ◌/◌, ◌%◌, Bool, true, false, List, [], ◌∷◌, ◌++◌, length, None, pos, codes, decimal}
+use Rattle.std.specs.Prelude.{ℕ, zero, suc, ◌+◌, ◌/◌, ◌%◌, List, [], ◌∷◌, ◌++◌, length, None, pos, codes, decimal}
 use Rattle.std.specs.FinMap.{put}
-use Rattle.std.specs.List.{count_by}
 use Rattle.pp_values.specs.Datum.{Datum, int, text, hash, no_entries, entry}
 use Rattle.pp_values.specs.Rising.{text_cmp}
 use Rattle.pp_values.specs.declared.place.TheConstants.{MAIN_MANIFEST}
@@ -59,9 +58,14 @@ demo_requests n = once_each n ++ once_each n
 -- ---- what is told
 
 module _ {F : Type 0} where
-  abbrev pub is_served : ReplyOf Catalog F → Bool
-  is_served (r.Served entry_ k catalog) = true
-  is_served reply = false
+  -- one where the reply has a catalog
+  abbrev pub served_in : ReplyOf Catalog F → ℕ
+  served_in (r.Served entry_ k catalog) = 1
+  served_in reply = 0
+
+  unfoldable pub served_in_all : List (ReplyOf Catalog F) → ℕ
+  served_in_all [] = 0
+  served_in_all (reply ∷ replies) = served_in reply + served_in_all replies
 
   -- how many resources the catalog of a reply has, where it has one
   abbrev pub held_in : ReplyOf Catalog F → ℕ
@@ -80,4 +84,4 @@ summary_lines nodes served resources entries =
 
 abbrev pub summary_text : {F : Type 0} → ℕ → List (ReplyOf Catalog F) → List (Event SiteView) → List ℕ
 summary_text nodes replies history =
-    summary_lines nodes (count_by is_served replies) (held_in_all replies) (length history)
+    summary_lines nodes (served_in_all replies) (held_in_all replies) (length history)

@@ -1,6 +1,5 @@
 //! The output of the demo: what its run comes to, in numbers.
 ghost use Rattle.std.specs.Prelude.{◌≡◌, IfOk, length};
-ghost use Rattle.std.specs.List.{count_by};
 ghost use Rattle.site_commands.specs.Demo as spec;
 ghost use Rattle.site_commands.specs.Outputs.{HasDemonstrated};
 
@@ -36,7 +35,7 @@ fn summary_text(
 ) -> Result<Text, Memory>
     ensures { IfOk result (λ text. text ≡ spec.summary_text nodes replies.now history.now.entries) }
 {
-    let served = count_served(replies.as_slice());
+    let served = count_served(replies.as_slice())?;
     let resources = count_held(replies.as_slice())?;
     summary_lines(alloc, nodes, served, resources, history.entries.len())
 }
@@ -57,18 +56,29 @@ fn summary_lines(
     Ok(Text::new(lines))
 }
 
-fn count_served(replies: &[Reply<PuppetLanguage>]) -> usize
-    ensures { result ≡ count_by spec.is_served replies.now }
+/// How many of the replies have a catalog.
+#[tactic(auto, unfolding(crate::specs::Demo::served_in_all))]
+fn count_served(replies: &[Reply<PuppetLanguage>]) -> Result<usize, Memory>
+    ensures { IfOk result (λ count. count ≡ spec.served_in_all replies.now) }
 {
-    replies.iter().filter(|reply| is_served(reply)).count()
+    let mut count: usize = 0;
+    let mut left = replies;
+    while let [reply, after @ ..] = left {
+        let Some(more) = count.checked_add(served_in(reply)) else {
+            return Err(Memory);
+        };
+        count = more;
+        left = after;
+    }
+    Ok(count)
 }
 
-fn is_served(reply: &Reply<PuppetLanguage>) -> bool
-    ensures { result ≡ spec.is_served reply.now }
+fn served_in(reply: &Reply<PuppetLanguage>) -> usize
+    ensures { result ≡ spec.served_in reply.now }
 {
     match reply {
-        ReplyOf::Served { .. } => true,
-        _ => false,
+        ReplyOf::Served { .. } => 1,
+        _ => 0,
     }
 }
 

@@ -14,7 +14,7 @@ use Rattle.site_docs.specs.CatalogText.{catalog_text}
 use Rattle.site_docs.specs.FaultText.{plain_line, fault_text}
 use Rattle.site_docs.specs.LogText.{log_text}
 use Rattle.site_io.specs.Stream.{Stream}
-use Rattle.site_commands.specs.Demo.{demo_name, demo_ip, demo_facts, demo_nodes, demo_site, demo_request, once_each, demo_requests, held_in_all, summary_lines, summary_text}
+use Rattle.site_commands.specs.Demo.{demo_name, demo_ip, demo_facts, demo_nodes, demo_site, demo_request, once_each, demo_requests, held_in_all, summary_lines, summary_text, served_in_all}
 use Rattle.site_commands.specs.declared.demo_site.TheConstants.{DEMO_MANIFEST}
 use Rattle.site_commands.specs.Outputs.{output_meant, output_of, looked_up_output}
 use Rattle.site_commands.specs.declared.ending.Ending.TheVariants as e
@@ -144,7 +144,7 @@ manifest_is = refl
 -- a catalog's resources count once for each time that it was served
 counted : summary_text {F = List ℕ} 2 (r.Served 1 1 two ∷ r.Refused 2 (codes "bad") ∷ r.Served 2 2 two ∷ []) []
     ≡ codes "nodes 2\nserved 2\nresources 4\nentries 0\n"
-unfolding summary_lines held_in_all digits
+unfolding summary_lines held_in_all served_in_all digits
 counted = refl
 
 complaints : (complaint (bad_word (codes "Web")) ≡ codes "bad word Web" ++ 10 ∷ [])

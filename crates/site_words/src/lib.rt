@@ -1,13 +1,14 @@
-// A library with one function.
+//! The words of the program's command line, by `clap`.
 #![tactic(auto)]
 
-ghost use Rattle.std.specs.Prelude.{◌≡◌};
-ghost use Rattle.site_words.specs.Echo.{echo_of};
+mod command;
+mod command_line;
+mod commands;
+mod ids;
+mod values;
+mod word_stop;
+mod words;
 
-// The `ensures` clause is the contract: what `echo` returns is `echo_of` of its argument, a definition
-// in `specs/Echo.antt`, which a caller's clause can cite too.
-pub fn echo(x: usize) -> usize
-    ensures { result ≡ echo_of x }
-{
-    x
-}
+pub use command::Command;
+pub use word_stop::WordStop;
+pub use words::read_words;

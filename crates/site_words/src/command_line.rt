@@ -4,8 +4,8 @@ ghost use Rattle.clap.specs.Words.{app_of, rule_of};
 ghost use Rattle.clap.specs.declared.builder.command.Command.TheViews.{out-Command};
 ghost use Rattle.site_words.specs.CommandLine as spec;
 
-use clap::{Arg, ArgAction, Command};
 use crate::ids::{COUNT, DIR, KEY, MERGE, NODE, NODES, PORT, WORKERS};
+use clap::{Arg, ArgAction, Command};
 use std::alloc::{AllocError, Global};
 
 /// All commands.
@@ -126,9 +126,7 @@ fn positional<'a>(alloc: Global, id: &'a str) -> Arg<'a>
     ensures rule { rule_of result ≡ spec.positional id.entry.now }
     ensures local { result.global ≡ false }
 {
-    Arg::new(alloc, id)
-        .required(true)
-        .action(ArgAction::Set)
+    Arg::new(alloc, id).required(true).action(ArgAction::Set)
 }
 
 fn optional<'a>(alloc: Global, id: &'a str) -> Arg<'a>

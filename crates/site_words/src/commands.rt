@@ -5,11 +5,11 @@ ghost use Rattle.site_words.specs.Asked as spec;
 ghost use Rattle.site_words.specs.Asked.{IsWithin};
 ghost use Rattle.site_words.specs.Reading.{asked_by, saying};
 
-use clap::ArgMatches;
 use crate::command::Command;
 use crate::ids::{COUNT, DIR, NODES, PORT};
 use crate::values::{dir_of, key_of, merge_of, node_of, number_of, word_of, workers_of};
 use crate::word_stop::BadWord;
+use clap::ArgMatches;
 use word_rules::{MOST_CONNECTIONS, MOST_DEMO_NODES, MOST_PORT};
 
 /// The command that was named.

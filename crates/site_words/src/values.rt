@@ -4,9 +4,9 @@ ghost use Rattle.clap.specs.Words.{found_of, rows_of};
 ghost use Rattle.site_words.specs.Reading.{saying};
 ghost use Rattle.site_words.specs.Said as spec;
 
-use clap::ArgMatches;
 use crate::ids::{DIR, KEY, MERGE, NODE, WORKERS};
 use crate::word_stop::BadWord;
+use clap::ArgMatches;
 use hiera_merge::Merge;
 use word_rules::{MOST_WORKERS, is_node_name, number_within};
 
@@ -29,14 +29,22 @@ pub fn node_of<'a>(words: &ArgMatches<'a>) -> Result<&'a str, BadWord<'a>>
     ensures { saying (λ s. s.now) result ≡ spec.node_in (rows_of (found_of words.now)) }
 {
     let word = word_of(words, NODE);
-    if is_node_name(word) { Ok(word) } else { Err(BadWord { word }) }
+    if is_node_name(word) {
+        Ok(word)
+    } else {
+        Err(BadWord { word })
+    }
 }
 
 pub fn key_of<'a>(words: &ArgMatches<'a>) -> Result<&'a str, BadWord<'a>>
     ensures { saying (λ s. s.now) result ≡ spec.key_in (rows_of (found_of words.now)) }
 {
     let word = word_of(words, KEY);
-    if word.is_empty() { Err(BadWord { word }) } else { Ok(word) }
+    if word.is_empty() {
+        Err(BadWord { word })
+    } else {
+        Ok(word)
+    }
 }
 
 /// A number from 1 on.

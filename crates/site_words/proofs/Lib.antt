@@ -1,0 +1,4 @@
+mod Examples
+mod Named
+mod Rows
+mod Simple

@@ -1,0 +1,9 @@
+-- What the code finds among matches is what the definitions find among their rows.
+use Rattle.std.proofs.Common.{◌≡◌}
+use Rattle.clap.specs.Matches.{first_value}
+use Rattle.clap.specs.Walk.{Text, first_of, rows_of}
+use Rattle.clap.specs.declared.parser.matches.Found.{Found}
+use Rattle.clap.proofs.WalkLemmas.{first_value-rows}
+
+pub found_in_rows : (f : Found) (id : Text) → first_value f id ≡ first_of id (rows_of f)
+found_in_rows = first_value-rows

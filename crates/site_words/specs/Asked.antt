@@ -1,0 +1,115 @@
+-- What the words of a command line ask for.
+use Rattle.std.specs.Prelude.{ℕ, ◌≤◌, if◌then◌else◌, codes, List, [], ◌∷◌, Option, Some, None, Result, Ok, Err}
+use Rattle.std.specs.Str.{bytes_eq}
+use Rattle.clap.specs.Words.{Kinds, Row, Text, fault_of, subcommand_of}
+use Rattle.hiera_merge.specs.declared.merge.Merge.{Merge}
+use Rattle.word_rules.specs.declared.limits.TheConstants.{MOST_CONNECTIONS, MOST_DEMO_NODES, MOST_PORT, MOST_WORKERS}
+use Rattle.site_words.specs.CommandLine.{command_line}
+use Rattle.site_words.specs.Said.{Said, ◌>>=◌, word_of, node_in, key_in, number_in, merge_in, workers_in, dir_in}
+use Rattle.site_words.specs.declared.ids.TheConstants.{NODES, PORT, COUNT, DIR}
+
+pub data Asked : Type 0 where
+  -- the catalog of this node under the manifest that comes in
+  manifest : Text → Asked
+  -- the faults of the files of a bundle, or of this folder
+  check : Option Text → Asked
+  -- the catalog of this node under a bundle, or under this folder
+  compile : Text → Option Text → Asked
+  -- the history and the replies of a bundle's requests, one after another
+  sequence : Asked
+  -- the value that the data of a bundle, or of this folder, have for a node and a key, by this merge where one is given
+  lookup : Text → Text → Option Merge → Option Text → Asked
+  -- a run of this node's catalog on a machine
+  apply : Text → Option Text → Asked
+  -- what a run of the demo site with this many nodes comes to
+  demo : ℕ → Asked
+  -- the history and the replies of a bundle's requests, by this many workers
+  batch : ℕ → Asked
+  -- on this port, so many connections, over the site of this folder
+  serve : ℕ → ℕ → Text → Asked
+  -- the words are those of no command
+  refused : Asked
+  -- this word is the first that breaks the rule of its place: positional words in their order, and then options
+  bad_word : Text → Asked
+
+-- ---- each command: its words are looked at in the order in which they stand here
+
+abbrev pub manifest_in : List Row → Said Asked
+manifest_in rows = do
+  node ← node_in rows
+  Ok (manifest node)
+
+abbrev pub check_in : List Row → Said Asked
+check_in rows = Ok (check (dir_in rows))
+
+abbrev pub compile_in : List Row → Said Asked
+compile_in rows = do
+  node ← node_in rows
+  Ok (compile node (dir_in rows))
+
+abbrev pub lookup_in : List Row → Said Asked
+lookup_in rows = do
+  node ← node_in rows
+  key ← key_in rows
+  merge ← merge_in rows
+  Ok (lookup node key merge (dir_in rows))
+
+abbrev pub apply_in : List Row → Said Asked
+apply_in rows = do
+  node ← node_in rows
+  Ok (apply node (dir_in rows))
+
+abbrev pub demo_in : List Row → Said Asked
+demo_in rows = do
+  nodes ← number_in NODES.now MOST_DEMO_NODES rows
+  Ok (demo nodes)
+
+abbrev pub batch_in : List Row → Said Asked
+batch_in rows = do
+  workers ← workers_in rows
+  Ok (batch workers)
+
+abbrev pub serve_in : List Row → Said Asked
+serve_in rows = do
+  port ← number_in PORT.now MOST_PORT rows
+  count ← number_in COUNT.now MOST_CONNECTIONS rows
+  Ok (serve port count (word_of DIR.now rows))
+
+-- ---- all of them
+
+abbrev pub asked_under : Text → List Row → Said Asked
+asked_under name rows =
+    if bytes_eq name (codes "manifest") then manifest_in rows
+    else if bytes_eq name (codes "check") then check_in rows
+    else if bytes_eq name (codes "compile") then compile_in rows
+    else if bytes_eq name (codes "sequence") then Ok sequence
+    else if bytes_eq name (codes "lookup") then lookup_in rows
+    else if bytes_eq name (codes "apply") then apply_in rows
+    else if bytes_eq name (codes "demo") then demo_in rows
+    else if bytes_eq name (codes "batch") then batch_in rows
+    else if bytes_eq name (codes "serve") then serve_in rows
+    else Err name
+
+-- `clap` refuses words that name no command (`a_command_is_named`)
+abbrev pub asked_in : Option (Text × List Row) → Said Asked
+asked_in None = Err []
+asked_in (Some found) = asked_under found.0 found.1
+
+abbrev pub told : Said Asked → Asked
+told (Ok asked) = asked
+told (Err word) = bad_word word
+
+abbrev pub unless_refused : Kinds → Said Asked → Asked
+unless_refused [] said = told said
+unless_refused (kind ∷ kinds) said = refused
+
+-- what the words ask for, which come without the program's name
+abbrev pub asked_of : List Text → Asked
+asked_of words = unless_refused (fault_of command_line words) (asked_in (subcommand_of command_line words))
+
+-- the numbers are within their limits
+abbrev pub IsWithin : Asked → Type 0
+IsWithin (demo nodes) = (1 ≤ nodes) × (nodes ≤ MOST_DEMO_NODES)
+IsWithin (batch workers) = (1 ≤ workers) × (workers ≤ MOST_WORKERS)
+IsWithin (serve port count dir) = (1 ≤ port) × (port ≤ MOST_PORT) × (1 ≤ count) × (count ≤ MOST_CONNECTIONS)
+IsWithin asked = Unit {0}

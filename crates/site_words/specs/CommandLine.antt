@@ -1,0 +1,65 @@
+-- The command line as `clap` is told of it: each command with its positional words in order, and its options, which have one
+-- value each and may stand once.
+use Rattle.std.specs.Prelude.{List, ℕ, Option, Some, true, codes}
+use Rattle.clap.specs.Words.{App, Rule, Shape, Text, new_app, new_rule, with_rule, with_subcommand}
+use Rattle.clap.specs.declared.builder.action.ArgAction.TheVariants.{Set}
+use Rattle.site_words.specs.declared.ids.TheConstants.{NODE, KEY, NODES, PORT, COUNT, MERGE, DIR, WORKERS}
+
+-- a positional word; it has to be there
+abbrev pub positional : Text → Rule
+positional id = record (new_rule id) { required = true; action = Some Set }
+
+-- an option with a value; it may be left out
+abbrev pub optional : Text → Rule
+optional id = record (new_rule id) { long = Some id; action = Some Set }
+
+-- an option with a value; it has to be there
+abbrev pub needed : Text → Rule
+needed id = record (optional id) { required = true }
+
+abbrev pub manifest_line : App
+manifest_line = with_rule (new_app (codes "manifest")) (positional NODE.now)
+
+abbrev pub check_line : App
+check_line = with_rule (new_app (codes "check")) (optional DIR.now)
+
+abbrev pub compile_line : App
+compile_line = with_rule (with_rule (new_app (codes "compile")) (positional NODE.now)) (optional DIR.now)
+
+abbrev pub sequence_line : App
+sequence_line = new_app (codes "sequence")
+
+abbrev pub lookup_line : App
+lookup_line = with_rule (with_rule (with_rule (with_rule (new_app (codes "lookup")) (positional NODE.now)) (positional KEY.now))
+    (optional MERGE.now)) (optional DIR.now)
+
+abbrev pub apply_line : App
+apply_line = with_rule (with_rule (new_app (codes "apply")) (positional NODE.now)) (optional DIR.now)
+
+abbrev pub demo_line : App
+demo_line = with_rule (new_app (codes "demo")) (positional NODES.now)
+
+abbrev pub batch_line : App
+batch_line = with_rule (new_app (codes "batch")) (optional WORKERS.now)
+
+abbrev pub serve_line : App
+serve_line = with_rule (with_rule (with_rule (new_app (codes "serve")) (positional PORT.now)) (positional COUNT.now)) (needed DIR.now)
+
+-- the words come without the program's name, and the first of them names a command
+abbrev pub bare_line : App
+bare_line = record (new_app (codes "site")) {
+  top = record (new_app (codes "site")).top { no_binary_name = true; disable_help_subcommand = true; subcommand_required = true };
+}
+
+abbrev pub with_three : App → App → App → App → App
+with_three line a b c = with_subcommand (with_subcommand (with_subcommand line a.top) b.top) c.top
+
+-- in groups of three commands, as the code builds them
+unfoldable pub reading_line : App
+reading_line = with_three bare_line manifest_line check_line compile_line
+
+unfoldable pub bundle_line : App
+bundle_line = with_three reading_line sequence_line lookup_line apply_line
+
+unfoldable pub command_line : App
+command_line = with_three bundle_line demo_line batch_line serve_line

@@ -1,7 +1,6 @@
 -- A property holds once it was written, and as long as neither it nor the resource's `ensure` is written again.
-use Rattle.std.proofs.Common.{◌≡◌, ℕ, Bool, true, false, cond, not, ◌&&◌, if◌then◌else◌, List, [], ◌∷◌, None, Some, Option, codes, bytes_eq, refl, sym, subst, ap, ◌∙◌, unwrap_or, true≢false}
+use Rattle.std.proofs.Common.{◌≡◌, ℕ, Bool, true, false, not, ◌&&◌, if◌then◌else◌, List, [], None, Some, Option, codes, bytes_eq, refl, sym, ap, ◌∙◌, unwrap_or, true≢false}
 use Rattle.std.specs.FinMap.{find, put}
-use Rattle.std.specs.Ordering.{eq_by_cmp}
 use Rattle.std.proofs.lemmas.Map.Text.{is_eq-slice_cmp}
 use Rattle.pp_ops.specs.Same.{same}
 use Rattle.pp_values.specs.Datum as d

@@ -6,7 +6,9 @@ use Rattle.std.specs.declared.cmp.Ordering.{Ordering}
 use Rattle.std.specs.declared.cmp.Ordering.TheVariants.{Less, Equal, Greater}
 use Rattle.std.specs.FinMap.{find, put}
 use Rattle.std.specs.FinMap.Entries.{is_sorted, below_all, find-put, is_sorted-put}
-use Rattle.std.specs.Map.{remove_entry, set_value}
+use Rattle.std.specs.List.{AllByRecursion}
+use Rattle.std.specs.List.Sorted.{IsStrictlySortedBy}
+use Rattle.std.specs.Map.{keys_of, remove_entry, set_value}
 use Rattle.std.proofs.lemmas.Map.Text.{is_eq-slice_cmp}
 use Rattle.std.proofs.lemmas.Slice.Eq.{bytes_eq-Decides}
 use Rattle.pp_values.specs.Rising.{text_cmp}
@@ -177,3 +179,15 @@ pub record_rises : (key name : List ℕ) (v : Datum) (o : Option (List Setting))
     Rises (with_record key name v o state)
 record_rises key name v None state h = rises_put key (put text_cmp name v []) state h
 record_rises key name v (Some properties) state h = rises_set (is_key key) state (put text_cmp name v properties) ∙ h
+
+-- ---- maps of the program
+
+below_from : {X : Type 0} (x : List ℕ) (es : List (List ℕ × X)) → AllByRecursion (λ y. text_cmp x y ≡ Less) (keys_of es) →
+    below_all text_cmp x es ≡ true
+below_from x [] all = refl
+below_from x (e ∷ es) all = both _ _ (ap is_lt all.0) (below_from x es all.1)
+
+pub rises_from : {X : Type 0} (es : List (List ℕ × X)) → IsStrictlySortedBy text_cmp (keys_of es) → Rises es
+unfolding IsStrictlySortedBy
+rises_from [] h = refl
+rises_from (e ∷ es) h = both _ _ (below_from e.0 es h.0) (rises_from es h.1)

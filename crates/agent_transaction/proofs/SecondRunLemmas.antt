@@ -1,26 +1,24 @@
 -- A run that settles all, and the run after it.
-use Rattle.std.proofs.Common.{◌≡◌, ℕ, Bool, true, false, not, ◌&&◌, ◌||◌, List, [], ◌∷◌, ◌++◌, map, length, None, Some, Option, IsTrue, Contains, inl, inr, ◌⊎◌, ◌↔◌, refl, sym, subst, ap, ap₂, ◌∙◌, true≢false, arith, option_map, option_to_list}
+use Rattle.std.proofs.Common.{◌≡◌, ℕ, Bool, true, false, not, ◌&&◌, List, [], ◌∷◌, ◌++◌, map, length, None, Some, Option, Contains, inl, inr, ◌⊎◌, refl, sym, subst, ap, ◌∙◌, true≢false, arith, option_map, option_to_list}
 use Rattle.std.specs.List.{All, list_all}
 use Rattle.std.proofs.lemmas.List.Elements.{All-nil, All-cons, Contains-push_cases}
 use Rattle.pp_values.specs.Settings.{Setting}
 use Rattle.pp_values.specs.Words.{reference_text}
 use Rattle.rel_graph.specs.Before.{Before, Direct}
 use Rattle.rel_graph.proofs.Uniqueness.{one_order_law}
-use Rattle.res_core.specs.Catalogs.{Catalog, IsCatalog}
+use Rattle.res_core.specs.Catalogs.{Catalog}
 use Rattle.res_core.specs.declared.held.Held.{Held}
 use Rattle.agent_machine.specs.Contents.{Content}
 use Rattle.agent_machine.specs.Machines.{Told}
 use Rattle.agent_machine.specs.declared.report_line.ReportLine.{ReportLine}
-use Rattle.agent_machine.specs.declared.status.Status.TheVariants as status
 use Rattle.agent_transaction.proofs.RecordLemmas.{Differ, Rises}
 use Rattle.agent_transaction.proofs.StepLemmas.{AllHold, Fits, Holding, TurnSettles, turn_settles, turn_calm}
 use Rattle.agent_transaction.proofs.TaskFits.{Known, known_fits, known_apart}
 use Rattle.agent_transaction.proofs.ToldLemmas.{Tells, same_told, turn_told}
-use Rattle.agent_transaction.specs.Catalogs.{IsRun, IsOrdered}
-use Rattle.agent_transaction.specs.Runs.{containment, relations, signalling, task_at, taken_at, tasks_at, Turned, Reaches, has_failed, signals, IsTurned, AreTurned, IsRunOf}
-use Rattle.agent_transaction.specs.SecondRuns.{IsToldRun, SecondRunIsCalm, is_run, is_settled, unchanged_line}
+use Rattle.agent_transaction.specs.Runs.{containment, relations, signalling, task_at, tasks_at, Turned, Reaches, has_failed, signals, IsTurned, AreTurned}
+use Rattle.agent_transaction.specs.SecondRuns.{SecondRunChangesNothing, is_settled, unchanged_line}
 use Rattle.agent_transaction.specs.ToldTurns.{turn}
-use Rattle.agent_transaction.specs.Turns.{IsTurn, skipped_line}
+use Rattle.agent_transaction.specs.Turns.{IsTurn}
 use Rattle.agent_transaction.specs.declared.task.Task.{Task}
 use Rattle.agent_transaction.specs.declared.work.Work.{Work}
 use Rattle.agent_transaction.specs.declared.work.Work.TheVariants as work
@@ -177,8 +175,8 @@ same_content o c d a b = inside (sym a ∙ b) where
   inside : Some c ≡ Some d → c ≡ d
   inside e = cc e
 
-pub second_run_calm : SecondRunIsCalm
-second_run_calm c one two found left again end kept described rises r settled same s calm =
+pub second_run_changes_nothing : SecondRunChangesNothing
+second_run_changes_nothing c one two found left again end kept described rises r settled same s calm =
     let hs = c.resources in
     let order = r.run.order in
     let known = each_known hs order in

@@ -1,18 +1,17 @@
 -- Properties of one resource that are set right: afterwards all hold, and where all held before nothing is done.
-use Rattle.std.proofs.Common.{◌≡◌, ℕ, Bool, true, false, ◌&&◌, if◌then◌else◌, List, [], ◌∷◌, Result, Ok, Err, bytes_eq, inl, inr, ◌⊎◌, refl, sym, subst, ap, ◌∙◌, true≢false}
+use Rattle.std.proofs.Common.{◌≡◌, ℕ, Bool, true, false, ◌&&◌, if◌then◌else◌, List, [], ◌∷◌, Result, Ok, bytes_eq, inl, inr, ◌⊎◌, refl, sym, subst, ap, ◌∙◌, true≢false}
 use Rattle.pp_values.specs.Datum.{Datum}
 use Rattle.pp_values.specs.Settings.{Setting}
 use Rattle.pp_values.specs.Words.{reference_text}
 use Rattle.pp_values.specs.declared.reference.Reference.{Reference}
-use Rattle.agent_machine.specs.Contents.{Content, asked, fails, holds_text, holds_by, holds_answer, refresh_text, write_fails, after_write, with_state}
+use Rattle.agent_machine.specs.Contents.{Content, asked, fails, holds_text, holds_by, refresh_text, write_fails, with_state}
 use Rattle.agent_machine.specs.States.{State, is_ensure, has, removes, written}
-use Rattle.agent_machine.specs.declared.status.Status.TheVariants as status
 use Rattle.agent_machine.specs.declared.wrote.Wrote.TheVariants as wrote
 use Rattle.agent_transaction.proofs.HoldLemmas.{written_rises, has_other, has_written, has_still}
 use Rattle.agent_transaction.proofs.RecordLemmas.{Differ, Rises}
 use Rattle.agent_transaction.specs.Runs.{has_failed}
 use Rattle.agent_transaction.specs.SecondRuns.{is_settled, unchanged_line}
-use Rattle.agent_transaction.specs.ToldTurns.{wrote_step, corrected, set_by, set_right, Worked, go_on, whole, set_all, worked, refreshed_result, refreshed, finished, with_line, finish_worked, turn}
+use Rattle.agent_transaction.specs.ToldTurns.{wrote_step, corrected, set_by, set_right, Worked, go_on, set_all, worked, refreshed_result, finished, with_line, finish_worked, turn}
 use Rattle.agent_transaction.specs.Turns.{calm_status, line_of}
 use Rattle.agent_transaction.specs.declared.ended.Ended.{Ended}
 use Rattle.agent_transaction.specs.declared.ended.Ended.TheVariants as ended
@@ -25,7 +24,7 @@ use Rattle.agent_transaction.specs.declared.work.Work.TheVariants as work
 -- ---- one property
 
 -- what a step tells of the property, and of what it left
-abbrev Stepped : Bool → Reference → Setting → Content → Step × Content → Type 0
+abbrev pub Stepped : Bool → Reference → Setting → Content → Step × Content → Type 0
 Stepped noop what s c (step.Kept, d) = (has what s.0 s.1 c.document.state ≡ true) × (d.document ≡ c.document)
 Stepped noop what s c (step.Changed name, d) =
     (has what s.0 s.1 c.document.state ≡ false)
@@ -45,7 +44,7 @@ corrects false what s c is =
       | false ↦ (is, inr refl)
     ]
 
-steps : (noop : Bool) (what : Reference) (s : Setting) (c : Content) → Stepped noop what s c (set_right noop what s c)
+pub steps : (noop : Bool) (what : Reference) (s : Setting) (c : Content) → Stepped noop what s c (set_right noop what s c)
 steps noop what s c =
     elim (fails (holds_text what s.0) c) as
     (λ b. Stepped noop what s c (set_by noop what s (holds_by b (has what s.0 s.1 c.document.state)) (asked c))) [

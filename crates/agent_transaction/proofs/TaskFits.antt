@@ -1,12 +1,10 @@
 -- What the turns of a catalog have to do, where none is an `exec` or a `notify`.
-use Rattle.std.proofs.Common.{◌≡◌, ℕ, zero, suc, Bool, true, false, cond, not, ◌&&◌, ◌||◌, if◌then◌else◌, List, [], ◌∷◌, map, None, Some, Option, IsTrue, slice_get, option_map, option_and_then, find, codes, bytes_eq, inl, inr, ◌⊎◌, refl, sym, subst, ap, ◌∙◌, true≢false}
+use Rattle.std.proofs.Common.{◌≡◌, ℕ, zero, suc, Bool, true, false, cond, not, ◌&&◌, ◌||◌, if◌then◌else◌, List, [], ◌∷◌, map, None, Some, Option, slice_get, option_map, option_and_then, find, codes, bytes_eq, inl, inr, ◌⊎◌, refl, sym, subst, ap, ◌∙◌, true≢false}
 use Rattle.std.specs.List.{list_all, list_any}
 use Rattle.std.specs.Ordering.{eq_by_cmp}
-use Rattle.std.specs.Cmp.{IsEquivalence}
 use Rattle.std.proofs.lemmas.Bool.{or_parts}
 use Rattle.pp_values.proofs.Printed.{printed_apart}
 use Rattle.pp_values.specs.Datum.{Datum}
-use Rattle.pp_values.specs.Kinds.{is_kind}
 use Rattle.pp_values.specs.References.{same_reference, same_reference_equiv}
 use Rattle.pp_values.specs.Rising.{text_cmp}
 use Rattle.pp_values.specs.Settings.{Setting}
@@ -15,7 +13,6 @@ use Rattle.pp_values.specs.declared.reference.Reference.{Reference}
 use Rattle.res_core.specs.AttributeViews.{set_in}
 use Rattle.res_core.specs.Catalogs.{reference_of, are_apart, has_form, IsCatalog}
 use Rattle.res_core.specs.NativeTypes.{row, all_natives, native_of}
-use Rattle.res_core.specs.PlainAttributes.{are_plain}
 use Rattle.res_core.specs.declared.edge.Edge.{Edge}
 use Rattle.res_core.specs.declared.held.Held.{Held}
 use Rattle.res_core.specs.declared.native_type.NativeType.{NativeType}
@@ -28,7 +25,6 @@ use Rattle.agent_transaction.specs.Runs.{task_at}
 use Rattle.agent_transaction.specs.SecondRuns.{is_run}
 use Rattle.agent_transaction.specs.Tasks.{from_here, looked_at, task_of, task_in}
 use Rattle.agent_transaction.specs.declared.task.Task.{Task}
-use Rattle.agent_transaction.specs.declared.work.Work.{Work}
 
 first : (a b : Bool) → (a && b) ≡ true → a ≡ true
 first true b e = refl

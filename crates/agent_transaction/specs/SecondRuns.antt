@@ -1,5 +1,5 @@
 -- Laws of runs on a machine that tells its content: there is one, and a second one changes nothing.
-use Rattle.std.specs.Prelude.{◌≡◌, ℕ, Bool, true, false, ◌||◌, ◌&&◌, not, IsTrue, List, [], None, Some, codes}
+use Rattle.std.specs.Prelude.{◌≡◌, Bool, true, false, ◌||◌, not, IsTrue, [], None, Some, codes}
 use Rattle.std.specs.FinMap.Entries.{is_sorted}
 use Rattle.std.specs.List.{All, list_all}
 use Rattle.std.specs.Str.{bytes_eq}
@@ -51,8 +51,8 @@ is_state state = is_sorted text_cmp state
 -- A run that settled all has left nothing to be done. A run of the same catalog that finds the state that it left, and in
 -- which no call fails, has unchanged lines alone, and leaves the document as it was. (A call that fails makes a line of its
 -- resource that is failed. Without `exec` and `notify`, since these are run each time.)
-abbrev pub SecondRunIsCalm : Type 0
-SecondRunIsCalm = (c : Catalog) (first second : Report) (found left again end : Content) →
+abbrev pub SecondRunChangesNothing : Type 0
+SecondRunChangesNothing = (c : Catalog) (first second : Report) (found left again end : Content) →
     IsCatalog c.resources c.edges → IsTrue (list_all (λ h. not (is_run h)) c.resources) →
     IsTrue (is_state found.document.state) →
     IsToldRun c first found left → IsTrue (list_all (λ l. is_settled l.status) first.lines) →

@@ -1,6 +1,6 @@
 -- Whole runs of the definition, at worked examples. By the law of told runs each is the only one from its content.
 use Rattle.std.proofs.Common.{◌≡◌, ℕ, Bool, true, false, not, ◌&&◌, ◌||◌, List, [], ◌∷◌, ◌++◌, length, None, Some, Contains, inl, inr, ◌↔◌, refl, sym, subst, ap, ◌∙◌, true≢false, codes, arith}
-use Rattle.std.specs.List.{list_all, list_any}
+use Rattle.std.specs.List.{All, list_all, list_any}
 use Rattle.std.specs.Prelude.{nat_eq}
 use Rattle.std.proofs.lemmas.Bool.{and_from}
 use Rattle.pp_values.specs.Datum.{flag, text}
@@ -8,7 +8,7 @@ use Rattle.pp_values.specs.Settings.{Setting}
 use Rattle.pp_values.specs.declared.reference.Reference.{Reference}
 use Rattle.rel_graph.specs.Before.{Before, Direct}
 use Rattle.rel_graph.specs.Orders.{IsOrder}
-use Rattle.res_core.specs.Catalogs.{Catalog}
+use Rattle.res_core.specs.Catalogs.{Catalog, IsCatalog}
 use Rattle.res_core.specs.NativeTypes.{native_of}
 use Rattle.res_core.specs.declared.edge.Edge.{Edge}
 use Rattle.res_core.specs.declared.held.Held.{Held}
@@ -22,8 +22,10 @@ use Rattle.agent_machine.specs.declared.status.Status.{Status}
 use Rattle.agent_machine.specs.declared.status.Status.TheVariants as status
 use Rattle.agent_transaction.proofs.FlatOrders.{first, second, not_true, holds_of, found, any_of, same, itself, is_flat, none_before, direct_pair, pair_direct, no_containment, is_order, order_made}
 use Rattle.agent_transaction.proofs.MadeTurns.{told, turn_made}
+use Rattle.agent_transaction.proofs.SecondRunLemmas.{second_run_changes_nothing}
 use Rattle.agent_transaction.specs.Catalogs.{IsOrdered, IsRun}
 use Rattle.agent_transaction.specs.Runs.{containment, relations, signalling, tasks_at, Turned, Reaches, has_failed, signals, IsTurned, AreTurned, IsRunOf}
+use Rattle.agent_transaction.specs.SecondRuns.{IsToldRun, unchanged_line}
 use Rattle.agent_transaction.specs.Tasks.{ensure, task_of}
 use Rattle.agent_transaction.specs.ToldTurns.{turn}
 use Rattle.agent_transaction.specs.Turns.{skipped_line}
@@ -97,28 +99,31 @@ module _ (resources : List Held) (edges : List Edge) where
       record { at = at; task = task; before = told c f; line = skipped_line task.what; after = told c f }
 
   module _ (flat : is_flat (containment resources) (signalling edges) ≡ true) where
-    due_is : (earlier : List Turned) (x : ℕ) → (due earlier x ≡ true) ↔ Reaches signals Signals earlier x
-    due_is earlier x = (to, back) where
-      to : due earlier x ≡ true → Reaches signals Signals earlier x
-      to h =
-          let t = found (λ (t : Turned). signals t.line && has_pair t.at x) earlier h in
-          let p = found (λ (p : ℕ × ℕ). nat_eq p.0 t.0.at && nat_eq p.1 x) (signalling edges) (second _ _ t.2) in
-          let left : p.0.0 ≡ t.0.at = same p.0.0 t.0.at (first _ _ p.2) in
-          let right : p.0.1 ≡ x = same p.0.1 x (second _ _ p.2) in
-          (t.0, t.1, first _ _ t.2, pair_direct (containment resources) (signalling edges) flat t.0.at x
-          (subst (λ y. Contains (signalling edges) (t.0.at, y)) right (subst (λ y. Contains (signalling edges) (y, p.0.1)) left p.1)))
+    due_to : (earlier : List Turned) (x : ℕ) → due earlier x ≡ true → Reaches signals Signals earlier x
+    due_to earlier x h =
+        let t = found (λ (t : Turned). signals t.line && has_pair t.at x) earlier h in
+        let p = found (λ (p : ℕ × ℕ). nat_eq p.0 t.0.at && nat_eq p.1 x) (signalling edges)
+        (second (signals t.0.line) (has_pair t.0.at x) t.2) in
+        let left : p.0.0 ≡ t.0.at = same p.0.0 t.0.at (first (nat_eq p.0.0 t.0.at) (nat_eq p.0.1 x) p.2) in
+        let right : p.0.1 ≡ x = same p.0.1 x (second (nat_eq p.0.0 t.0.at) (nat_eq p.0.1 x) p.2) in
+        (t.0, t.1, first (signals t.0.line) (has_pair t.0.at x) t.2,
+        pair_direct (containment resources) (signalling edges) flat t.0.at x
+        (subst (λ y. Contains (signalling edges) (t.0.at, y)) right
+        (subst (λ y. Contains (signalling edges) (y, p.0.1)) left p.1)))
 
-      back : Reaches signals Signals earlier x → due earlier x ≡ true
-      back r =
-          let p = direct_pair (containment resources) (signalling edges) flat r.0.at x r.3 in
-          any_of (λ (t : Turned). signals t.line && has_pair t.at x) earlier r.0 r.1 (and_from _ _ r.2
-          (any_of (λ (p : ℕ × ℕ). nat_eq p.0 r.0.at && nat_eq p.1 x) (signalling edges) (r.0.at, x) p
-          (and_from _ _ (itself r.0.at) (itself x))))
+    due_back : (earlier : List Turned) (x : ℕ) → Reaches signals Signals earlier x → due earlier x ≡ true
+    due_back earlier x r =
+        let p = direct_pair (containment resources) (signalling edges) flat r.0.at x r.3 in
+        let there : has_pair r.0.at x ≡ true =
+        any_of (λ (p : ℕ × ℕ). nat_eq p.0 r.0.at && nat_eq p.1 x) (signalling edges) (r.0.at, x) p
+        (and_from (nat_eq r.0.at r.0.at) (nat_eq x x) (itself r.0.at) (itself x)) in
+        any_of (λ (t : Turned). signals t.line && has_pair t.at x) earlier r.0 r.1
+        (and_from (signals r.0.line) (has_pair r.0.at x) r.2 there)
 
     had_is : (earlier : List Turned) (at : ℕ) (task : Task) (c : Content) (f : ℕ) → ¬ (Reaches has_failed Comes earlier at) →
         IsTurned Comes Signals earlier (had earlier at task c f)
     had_is earlier at task c f free =
-        inr (free, (due earlier at, due_is earlier at, (turn_made task (due earlier at) c f).1))
+        inr (free, (due earlier at, (due_to earlier at, due_back earlier at), (turn_made task (due earlier at) c f).1))
 
     -- where none failed
     calm_is : (earlier : List Turned) (at : ℕ) (task : Task) (c : Content) (f : ℕ) →
@@ -195,15 +200,32 @@ refreshed_once =
           each = (
             refl,
             calm_is two_files two_edges refl [] 1 task_a (content [] ran 0) 0 refl,
-            refl,
-            calm_is two_files two_edges refl (a ∷ []) 2 task_b (content [] a_written 2) f refl,
-            refl,
-            calm_is two_files two_edges refl (a ∷ b ∷ []) 3 task_s (content [] both_written 4) g refl,
-            refl,
+            (
+              refl,
+              calm_is two_files two_edges refl (a ∷ []) 2 task_b (content [] a_written 2) f refl,
+              (refl, calm_is two_files two_edges refl (a ∷ b ∷ []) 3 task_s (content [] both_written 4) g refl, refl),
+            ),
           );
         };
       },
     )
+
+-- the two files again, on a machine with that state: by the law of second runs nothing is done
+two_kept : IsCatalog two_files two_edges
+two_kept = record { apart = refl; contained = refl; forms = refl; between = refl; ordered = refl }
+
+nothing_again : (second : Report) (found end : Content) → found.document.state ≡ both_written →
+    IsToldRun (catalog two_files two_edges) second found end → list_all (λ l. not (has_failed l)) second.lines ≡ true →
+    All (λ l. l ≡ unchanged_line l.item) second.lines × (end.document ≡ found.document)
+nothing_again second found end same run none =
+    second_run_changes_nothing (catalog two_files two_edges) two_report second (content [] ran 0) (content [] both_written 6)
+    found end two_kept refl refl (record {
+      before = told (content [] ran 0) 0;
+      after = told (content [] both_written 6) refreshed_once.0;
+      run = refreshed_once.1;
+      finds = refl;
+      leaves = refl;
+    }) refl same run none
 
 -- ---- a resource fails; what comes after it is skipped, and what does not has its turn
 
@@ -262,12 +284,16 @@ skips_what_comes_after =
           each = (
             refl,
             calm_is mixed mixed_edges refl [] 1 task_p (content refused [] 0) 0 refl,
-            refl,
-            inl ((p, (0, omega arith, refl), refl, (2 ∷ [], (one_two, two_three))), refl, refl),
-            refl,
-            had_is mixed mixed_edges refl (p ∷ s ∷ []) 4 task_n (content refused [] 2) f
-                (λ r. none_before (containment mixed) (relations mixed_edges) refl 4 refl r.0.at r.3),
-            refl,
+            (
+              refl,
+              inl ((p, (0, omega arith, refl), refl, (2 ∷ [], (one_two, two_three))), refl, refl),
+              (
+                refl,
+                had_is mixed mixed_edges refl (p ∷ s ∷ []) 4 task_n (content refused [] 2) f
+                    (λ r. none_before (containment mixed) (relations mixed_edges) refl 4 refl r.0.at r.3),
+                refl,
+              ),
+            ),
           );
         };
       },
@@ -318,9 +344,7 @@ noop_does_not_signal =
           each = (
             refl,
             calm_is noops noop_edges refl [] 1 task_o (content [] ran 0) 0 refl,
-            refl,
-            calm_is noops noop_edges refl (o ∷ []) 2 task_s (content [] ran 1) f refl,
-            refl,
+            (refl, calm_is noops noop_edges refl (o ∷ []) 2 task_s (content [] ran 1) f refl, refl),
           );
         };
       },

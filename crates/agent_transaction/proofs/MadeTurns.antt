@@ -58,16 +58,28 @@ corrects_made false what s c f =
       wrote_step s (if b then wrote.Failed else wrote.Done),
       if b then asked c else asked (with_state (written what s.0 s.1 c.document.state) c),
     )) [
-      | true ↦ λ is. (later f, (refl, (
-          ap (λ b. if b then wrote.Failed else wrote.Done) is,
-          sym (ap (λ b. Some (if b then asked c else asked (with_state (written what s.0 s.1 c.document.state) c))) is),
-          omega arith,
-        )))
-      | false ↦ λ is. (later f, (refl, (
-          ap (λ b. if b then wrote.Failed else wrote.Done) is,
-          sym (ap (λ b. Some (if b then asked c else asked (with_state (written what s.0 s.1 c.document.state) c))) is),
-          omega arith,
-        )))
+      | true ↦ λ is. (
+        later f,
+        (
+          refl,
+          (
+            ap (λ b. if b then wrote.Failed else wrote.Done) is,
+            sym (ap (λ b. Some (if b then asked c else asked (with_state (written what s.0 s.1 c.document.state) c))) is),
+            omega arith,
+          ),
+        ),
+      )
+      | false ↦ λ is. (
+        later f,
+        (
+          refl,
+          (
+            ap (λ b. if b then wrote.Failed else wrote.Done) is,
+            sym (ap (λ b. Some (if b then asked c else asked (with_state (written what s.0 s.1 c.document.state) c))) is),
+            omega arith,
+          ),
+        ),
+      )
     ] refl
 
 sets_by_made : (noop : Bool) (what : Reference) (s : Setting) (a : Holds) (c : Content) (f : ℕ) →
@@ -124,7 +136,6 @@ all_made noop what (s ∷ ss) c f =
     let one = sets_made noop what s c f in
     let more = goes_made noop what ss (all_made noop what ss) (set_right noop what s c) one.0 in
     (more.0, ((set_right noop what s c).0, told (set_right noop what s c).1 one.0, one.1, more.1))
-
 
 single_made : (R : Step → Told → Told → Type 0) (c : Content) (f : ℕ) (p : Step × Content) →
     (g : ℕ) × R p.0 (told c f) (told p.1 g) →

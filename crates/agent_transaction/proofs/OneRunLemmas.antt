@@ -99,5 +99,5 @@ one_told_run c one two found left left_too r s =
     let lines : one.lines ≡ two.lines = sym ran.told ∙ both.0 ∙ ran_too.told in (
       (λ i. record { node = nodes i; lines = lines i }),
       same_content r.after.content left both.1.0 r.leaves both.1.1
-      ∙ same_content s.after.content both.1.0 left_too both.1.2 s.leaves,
+          ∙ same_content s.after.content both.1.0 left_too both.1.2 s.leaves,
     )

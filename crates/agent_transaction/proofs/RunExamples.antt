@@ -105,11 +105,14 @@ module _ (resources : List Held) (edges : List Edge) where
         let p = found (λ (p : ℕ × ℕ). nat_eq p.0 t.0.at && nat_eq p.1 x) (signalling edges)
         (second (signals t.0.line) (has_pair t.0.at x) t.2) in
         let left : p.0.0 ≡ t.0.at = same p.0.0 t.0.at (first (nat_eq p.0.0 t.0.at) (nat_eq p.0.1 x) p.2) in
-        let right : p.0.1 ≡ x = same p.0.1 x (second (nat_eq p.0.0 t.0.at) (nat_eq p.0.1 x) p.2) in
-        (t.0, t.1, first (signals t.0.line) (has_pair t.0.at x) t.2,
-        pair_direct (containment resources) (signalling edges) flat t.0.at x
-        (subst (λ y. Contains (signalling edges) (t.0.at, y)) right
-        (subst (λ y. Contains (signalling edges) (y, p.0.1)) left p.1)))
+        let right : p.0.1 ≡ x = same p.0.1 x (second (nat_eq p.0.0 t.0.at) (nat_eq p.0.1 x) p.2) in (
+          t.0,
+          t.1,
+          first (signals t.0.line) (has_pair t.0.at x) t.2,
+          pair_direct (containment resources) (signalling edges) flat t.0.at x
+              (subst (λ y. Contains (signalling edges) (t.0.at, y)) right
+              (subst (λ y. Contains (signalling edges) (y, p.0.1)) left p.1)),
+        )
 
     due_back : (earlier : List Turned) (x : ℕ) → Reaches signals Signals earlier x → due earlier x ≡ true
     due_back earlier x r =

@@ -57,14 +57,14 @@ precedes_set name value (n ∷ names) attributes stays h =
     elim (set_in attributes n) as (λ o. Precedes (name, value) (from_here n o (looked_at names attributes))) [
       | None ↦ rest
       | Some v ↦ (
-          stays,
-          not_true (is_ensure n) (first (not (is_ensure n)) (not (bytes_eq name n)) here),
-          not_true (bytes_eq name n) (second (not (is_ensure n)) (not (bytes_eq name n)) here),
-          elim (removes n v) as (λ b. Precedes (name, value) (if b then [] else looked_at names attributes)) [
-            | true ↦ tt
-            | false ↦ rest
-          ],
-        )
+        stays,
+        not_true (is_ensure n) (first (not (is_ensure n)) (not (bytes_eq name n)) here),
+        not_true (bytes_eq name n) (second (not (is_ensure n)) (not (bytes_eq name n)) here),
+        elim (removes n v) as (λ b. Precedes (name, value) (if b then [] else looked_at names attributes)) [
+          | true ↦ tt
+          | false ↦ rest
+        ],
+      )
     ]
 
 in_order : (names : List (List ℕ)) (attributes : List Setting) → are_in_order names ≡ true → InOrder (looked_at names attributes)
@@ -75,9 +75,9 @@ in_order (name ∷ names) attributes h =
       | None ↦ rest
       | Some v ↦ elim (removes name v) as (λ b. removes name v ≡ b →
           Precedes (name, v) (if b then [] else looked_at names attributes) × InOrder (if b then [] else looked_at names attributes)) [
-          | true ↦ λ is. (tt, tt)
-          | false ↦ λ is. (precedes_set name v names attributes is (first (list_all (is_other name) names) (are_in_order names) h), rest)
-        ] refl
+            | true ↦ λ is. (tt, tt)
+            | false ↦ λ is. (precedes_set name v names attributes is (first (list_all (is_other name) names) (are_in_order names) h), rest)
+          ] refl
     ]
 
 -- ---- one resource

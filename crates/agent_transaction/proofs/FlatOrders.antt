@@ -1,4 +1,5 @@
--- The order of a small catalog, found by computing: where only the first resource contains others, and no relation names it.
+-- The order of a small catalog, found by computing: where only the first resource contains others, and no relation
+-- names it.
 use Rattle.std.proofs.Common.{◌≡◌, ℕ, zero, suc, ◌<◌, ◌≤◌, ◌==◌, Bool, true, false, not, ◌&&◌, ◌||◌, List, [], ◌∷◌, length, take, slice_index, Contains, inl, inr, ◌⊎◌, refl, sym, subst, ap, ◌∙◌, true≢false, arith}
 use Rattle.std.specs.Cmp.{IsEquivalence, unsigned_Decides}
 use Rattle.std.specs.Cmp.{nat_eq_equiv}
@@ -36,11 +37,12 @@ holds_of p (y ∷ xs) x h (suc k, less, is) = holds_of p xs x (second _ _ h) (k,
 
 pub found : {X : Type 0} (p : X → Bool) (xs : List X) → list_any p xs ≡ true → (x : X) × Contains xs x × (p x ≡ true)
 found p [] h = absurd (true≢false (sym h))
-found {X = X} p (y ∷ xs) h = elim (p y) as (λ b. p y ≡ b → (b || list_any p xs) ≡ true → (x : X) × Contains (y ∷ xs) x × (p x ≡ true)) [
-  | true ↦ λ is k. (y, (0, omega arith, refl), is)
-  | false ↦ λ is k. let rest = found p xs k in
-      (rest.0, (suc rest.1.0, (let l = rest.1.1 in omega (arith, l)), rest.1.2), rest.2)
-] refl h
+found {X = X} p (y ∷ xs) h = elim (p y) as (λ b. p y ≡ b → (b || list_any p xs) ≡ true →
+    (x : X) × Contains (y ∷ xs) x × (p x ≡ true)) [
+      | true ↦ λ is k. (y, (0, omega arith, refl), is)
+      | false ↦ λ is k. let rest = found p xs k in
+          (rest.0, (suc rest.1.0, (let l = rest.1.1 in omega (arith, l)), rest.1.2), rest.2)
+    ] refl h
 
 pub any_of : {X : Type 0} (p : X → Bool) (xs : List X) (x : X) → Contains xs x → p x ≡ true → list_any p xs ≡ true
 any_of p [] x c h = absurd (let l = c.1 in omega (arith, l))
@@ -75,7 +77,8 @@ under_all p (suc n) k h less = elim (cases_lt k n) [
 
 abbrev pub is_flat : List (ℕ × ℕ) → List (ℕ × ℕ) → Bool
 is_flat containers pairs =
-    list_all (λ p. nat_eq p.0 0 && not (nat_eq p.1 0)) containers && list_all (λ p. not (nat_eq p.0 0) && not (nat_eq p.1 0)) pairs
+    list_all (λ p. nat_eq p.0 0 && not (nat_eq p.1 0)) containers
+    && list_all (λ p. not (nat_eq p.0 0) && not (nat_eq p.1 0)) pairs
 
 module _ (containers pairs : List (ℕ × ℕ)) (flat : is_flat containers pairs ≡ true) where
   outer : list_all (λ p. nat_eq p.0 0 && not (nat_eq p.1 0)) containers ≡ true
@@ -90,7 +93,8 @@ module _ (containers pairs : List (ℕ × ℕ)) (flat : is_flat containers pairs
 
   pub direct_pair : (r s : ℕ) → Direct containers pairs r s → Contains pairs (r, s)
   direct_pair r s d =
-      let plain = holds_of (λ p. not (nat_eq p.0 0) && not (nat_eq p.1 0)) pairs (d.earlier, d.later) (second _ _ flat) d.edge in
+      let plain = holds_of (λ p. not (nat_eq p.0 0) && not (nat_eq p.1 0)) pairs (d.earlier, d.later)
+      (second _ _ flat) d.edge in
       let left : d.earlier ≡ r = own r d.earlier d.source (not_true _ (first _ _ plain)) in
       let right : d.later ≡ s = own s d.later d.target (not_true _ (second _ _ plain)) in
       subst (λ x. Contains pairs (x, s)) left (subst (λ x. Contains pairs (d.earlier, x)) right d.edge)
@@ -106,11 +110,13 @@ module _ (containers pairs : List (ℕ × ℕ)) (flat : is_flat containers pairs
 
     ends : (via : List ℕ) (a b : ℕ) → Chain (Paired containers) a via b → nat_eq b 0 ≡ true → ⊥
     ends [] a b h e =
-        true≢false (sym e ∙ not_true _ (second _ _ (holds_of (λ p. nat_eq p.0 0 && not (nat_eq p.1 0)) containers (a, b) outer h)))
+        true≢false (sym e ∙ not_true _ (second _ _ (holds_of (λ p. nat_eq p.0 0 && not (nat_eq p.1 0)) containers
+        (a, b) outer h)))
     ends (x ∷ via) a b h e = ends via x b h.1 e
 
   -- nothing comes before what no pair leads to
-  pub none_before : (x : ℕ) → list_all (λ p. not (nat_eq p.1 x)) pairs ≡ true → (a : ℕ) → ¬ (Closure (Direct containers pairs) a x)
+  pub none_before : (x : ℕ) → list_all (λ p. not (nat_eq p.1 x)) pairs ≡ true → (a : ℕ) →
+      ¬ (Closure (Direct containers pairs) a x)
   none_before x h a closes = ends closes.0 a closes.1 where
     ends : (via : List ℕ) (b : ℕ) → Chain (Direct containers pairs) b via x → ⊥
     ends [] b d =
@@ -132,7 +138,8 @@ module _ (containers pairs : List (ℕ × ℕ)) (flat : is_flat containers pairs
 
   abbrev pub is_order : ℕ → List ℕ → Bool
   is_order count order =
-      list_all (λ k. is_next count (take k order) (slice_index order k)) (under (length order)) && list_all (has_index order) (under count)
+      list_all (λ k. is_next count (take k order) (slice_index order k)) (under (length order))
+      && list_all (has_index order) (under count)
 
   before_by : (listed : List ℕ) (a x : ℕ) → ready_by listed x ≡ true → Direct containers pairs a x → Contains listed a
   before_by listed a x h d =
@@ -146,7 +153,8 @@ module _ (containers pairs : List (ℕ × ℕ)) (flat : is_flat containers pairs
     back [] a d = before_by listed a x h d
     back (z ∷ via) a d = before_by listed a z (holds_of (ready_by listed) listed z all (back via z d.1)) d.0
 
-  next_made : (count : ℕ) (listed : List ℕ) (x : ℕ) → is_next count listed x ≡ true → IsNext (Direct containers pairs) count listed x
+  next_made : (count : ℕ) (listed : List ℕ) (x : ℕ) → is_next count listed x ≡ true →
+      IsNext (Direct containers pairs) count listed x
   next_made count listed x h =
       let here = first _ _ h in
       let rest = second _ _ h in
@@ -156,22 +164,26 @@ module _ (containers pairs : List (ℕ × ℕ)) (flat : is_flat containers pairs
         unlisted = λ c. true≢false (sym (has_there listed x c) ∙ not_true _ (second _ _ here));
         ready = ready_made listed x (first _ _ readies) (second _ _ readies);
         least = λ other less free ready. elim (cases_lt other x) [
-          | inl l ↦ absurd (stuck other free ready (under_all (λ z. has_index listed z || blocked listed z) x other (second _ _ rest) l))
+          | inl l ↦ absurd (stuck other free ready (under_all (λ z. has_index listed z || blocked listed z) x other
+              (second _ _ rest) l))
           | inr m ↦ m
         ];
       } where
         stuck : (z : ℕ) → ¬ (Contains listed z) → Ready (Direct containers pairs) listed z →
             (has_index listed z || blocked listed z) ≡ true → ⊥
-        stuck z free ready h = elim (has_index listed z) as (λ b. has_index listed z ≡ b → (b || blocked listed z) ≡ true → ⊥) [
-          | true ↦ λ is k. free (is_there listed z is)
-          | false ↦ λ is k.
-              let p = found (λ p. nat_eq p.1 z && not (has_index listed p.0)) pairs k in
-              let to : p.0.1 ≡ z = same p.0.1 z (first _ _ p.2) in
-              let d : Direct containers pairs p.0.0 z = pair_direct p.0.0 z (subst (λ y. Contains pairs (p.0.0, y)) to p.1) in
-              true≢false (sym (has_there listed p.0.0 (ready p.0.0 ([], d))) ∙ not_true _ (second _ _ p.2))
-        ] refl h
+        stuck z free ready h = elim (has_index listed z) as
+            (λ b. has_index listed z ≡ b → (b || blocked listed z) ≡ true → ⊥) [
+              | true ↦ λ is k. free (is_there listed z is)
+              | false ↦ λ is k.
+                  let p = found (λ p. nat_eq p.1 z && not (has_index listed p.0)) pairs k in
+                  let to : p.0.1 ≡ z = same p.0.1 z (first _ _ p.2) in
+                  let d : Direct containers pairs p.0.0 z = pair_direct p.0.0 z
+                  (subst (λ y. Contains pairs (p.0.0, y)) to p.1) in
+                  true≢false (sym (has_there listed p.0.0 (ready p.0.0 ([], d))) ∙ not_true _ (second _ _ p.2))
+            ] refl h
 
-  pub order_made : (count : ℕ) (order : List ℕ) → is_order count order ≡ true → IsOrder (Direct containers pairs) count order
+  pub order_made : (count : ℕ) (order : List ℕ) → is_order count order ≡ true →
+      IsOrder (Direct containers pairs) count order
   order_made count order h = record {
     each = λ k less. next_made count (take k order) (slice_index order k)
         (under_all (λ j. is_next count (take j order) (slice_index order j)) (length order) k (first _ _ h) less);

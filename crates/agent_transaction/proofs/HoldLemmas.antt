@@ -32,7 +32,8 @@ module _ (what : Reference) (name : List ℕ) (v : Datum) (state : State) where
 
   pub written_gone : removes name v ≡ true → Rises state → record_of what (written what name v state) ≡ None
   unfolding written after
-  written_gone goes rises = ap (λ b. find text_cmp (key_of what) (after b)) goes ∙ find_without (key_of what) state rises
+  written_gone goes rises = ap (λ b. find text_cmp (key_of what) (after b)) goes
+      ∙ find_without (key_of what) state rises
 
   pub written_rises : Rises state → Rises (written what name v state)
   unfolding written after
@@ -47,7 +48,8 @@ module _ (what : Reference) (name : List ℕ) (v : Datum) (state : State) where
   written_other other apart =
       elim (removes name v) as (λ b. find text_cmp (key_of other) (after b) ≡ record_of other state) [
         | true ↦ find_without_other (key_of other) (key_of what) apart state
-        | false ↦ record_other (key_of other) (key_of what) name (counts_as what name v) (record_of what state) state apart
+        | false ↦ record_other (key_of other) (key_of what) name (counts_as what name v)
+            (record_of what state) state apart
       ]
 
 -- ---- what holds of a record
@@ -62,7 +64,8 @@ unfolding has
 has_is what name v state = refl
 
 -- what another resource has is the same after the write
-pub has_other : (other what : Reference) (n name : List ℕ) (w v : Datum) (state : State) → Differ (key_of other) (key_of what) →
+pub has_other : (other what : Reference) (n name : List ℕ) (w v : Datum) (state : State) →
+    Differ (key_of other) (key_of what) →
     has other n w (written what name v state) ≡ has other n w state
 has_other other what n name w v state apart =
     has_is other n w (written what name v state)
@@ -112,7 +115,8 @@ pub has_written : (what : Reference) (name : List ℕ) (v : Datum) (state : Stat
 has_written what name v state rises =
     has_is what name v (written what name v state)
     ∙ elim (removes name v) as
-    (λ b. removes name v ≡ b → has_by (is_ensure name) what.kind name v (record_of what (written what name v state)) ≡ true) [
+    (λ b. removes name v ≡ b → has_by (is_ensure name) what.kind name v (record_of what (written what name v state))
+    ≡ true) [
       | true ↦ λ goes. ap (has_by (is_ensure name) what.kind name v) (written_gone what name v state goes rises)
           ∙ gone_then name what.kind v goes
       | false ↦ λ stays. ap (has_by (is_ensure name) what.kind name v) (written_here what name v state stays)
@@ -125,12 +129,14 @@ has_written what name v state rises =
 word_back : (kind : List ℕ) (v : Datum) → ensure_word kind v ≡ absent → v ≡ absent
 word_back kind v is =
     elim (same v (d.text (codes "installed"))) as
-    (λ b. (if b then present else (if bytes_eq kind (codes "service") then service_word v else v)) ≡ absent → v ≡ absent) [
+    (λ b. (if b then present else (if bytes_eq kind (codes "service") then service_word v else v)) ≡ absent →
+    v ≡ absent) [
       | true ↦ λ e. absurd (true≢false (ap (λ x. same x present) e))
-      | false ↦ λ e. elim (bytes_eq kind (codes "service")) as (λ b. (if b then service_word v else v) ≡ absent → v ≡ absent) [
-        | true ↦ service_back v
-        | false ↦ λ f. f
-      ] e
+      | false ↦ λ e. elim (bytes_eq kind (codes "service")) as
+          (λ b. (if b then service_word v else v) ≡ absent → v ≡ absent) [
+            | true ↦ service_back v
+            | false ↦ λ f. f
+          ] e
     ] is where
       service_back : (w : Datum) → service_word w ≡ absent → w ≡ absent
       service_back (d.flag true) e = absurd (true≢false (sym (ap (λ x. same x absent) e)))
@@ -147,13 +153,15 @@ ensured_absent w h =
 differ_by : (n m : List ℕ) → bytes_eq n m ≡ false → Differ n m
 differ_by n m h = is_eq-slice_cmp n m ∙ h
 
-kept_by : (b : Bool) (kind n m : List ℕ) (v w : Datum) (o : Option (List Setting)) → (b && same v absent) ≡ false → bytes_eq n m ≡ false →
+kept_by : (b : Bool) (kind n m : List ℕ) (v w : Datum) (o : Option (List Setting)) → (b && same v absent) ≡ false →
+    bytes_eq n m ≡ false →
     has_by b kind n v o ≡ true → has_by b kind n v (Some (put text_cmp m w (unwrap_or o []))) ≡ true
 kept_by true kind n m v w None stays apart h =
     let is : v ≡ absent = word_back kind v (ensured_absent (ensure_word kind v) h) in
     absurd (cc (sym (ap (λ x. same x absent) is) ∙ stays))
 kept_by true kind n m v w (Some properties) stays apart h =
-    ap (λ o. is_ensured (ensure_word kind v) (unwrap_or o present)) (find_put_other n m w properties (differ_by n m apart)) ∙ h
+    ap (λ o. is_ensured (ensure_word kind v) (unwrap_or o present))
+    (find_put_other n m w properties (differ_by n m apart)) ∙ h
 kept_by false kind n m v w None stays apart h = absurd (cc h)
 kept_by false kind n m v w (Some properties) stays apart h =
     ap (is_value v) (find_put_other n m w properties (differ_by n m apart)) ∙ h
@@ -163,9 +171,12 @@ left_false true b e = absurd (cc e)
 left_false false b e = refl
 
 -- A property still holds after another one was written that is not `ensure`.
-pub has_still : (what : Reference) (n m : List ℕ) (v w : Datum) (state : State) → removes n v ≡ false → is_ensure m ≡ false →
+pub has_still : (what : Reference) (n m : List ℕ) (v w : Datum) (state : State) → removes n v ≡ false →
+    is_ensure m ≡ false →
     bytes_eq n m ≡ false → has what n v state ≡ true → has what n v (written what m w state) ≡ true
 has_still what n m v w state stays plain apart h =
     has_is what n v (written what m w state)
-    ∙ ap (has_by (is_ensure n) what.kind n v) (written_here what m w state (left_false (is_ensure m) (same w absent) plain))
-    ∙ kept_by (is_ensure n) what.kind n m v (counts_as what m w) (record_of what state) stays apart (sym (has_is what n v state) ∙ h)
+    ∙ ap (has_by (is_ensure n) what.kind n v) (written_here what m w state
+    (left_false (is_ensure m) (same w absent) plain))
+    ∙ kept_by (is_ensure n) what.kind n m v (counts_as what m w) (record_of what state) stays apart
+    (sym (has_is what n v state) ∙ h)

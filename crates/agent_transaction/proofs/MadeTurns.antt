@@ -41,9 +41,21 @@ asks_made what name v c f = record { answers = refl; content = refl; faults = co
 refreshes_made : (what : Reference) (c : Content) (f : ℕ) (b : Bool) → fails (refresh_text what) c ≡ b →
     Refreshes what (holds_by b true) (told c f) (told (asked c) (later f))
 refreshes_made what c f true is =
-    record { done = λ e. absurd (cc e); answers = sym (ap (λ b. holds_by b true) is); content = refl; faults = counts true f }
+    record {
+      done = λ e. absurd (cc e);
+      answers = sym (ap
+          (λ b. holds_by b true) is);
+      content = refl;
+      faults = counts true f;
+    }
 refreshes_made what c f false is =
-    record { done = λ e. absurd (cc e); answers = sym (ap (λ b. holds_by b true) is); content = refl; faults = counts false f }
+    record {
+      done = λ e. absurd (cc e);
+      answers = sym (ap
+          (λ b. holds_by b true) is);
+      content = refl;
+      faults = counts false f;
+    }
 
 -- ---- steps
 
@@ -64,7 +76,8 @@ corrects_made false what s c f =
           refl,
           (
             ap (λ b. if b then wrote.Failed else wrote.Done) is,
-            sym (ap (λ b. Some (if b then asked c else asked (with_state (written what s.0 s.1 c.document.state) c))) is),
+            sym (ap (λ b. Some (if b then asked c else asked
+                (with_state (written what s.0 s.1 c.document.state) c))) is),
             omega arith,
           ),
         ),
@@ -75,7 +88,8 @@ corrects_made false what s c f =
           refl,
           (
             ap (λ b. if b then wrote.Failed else wrote.Done) is,
-            sym (ap (λ b. Some (if b then asked c else asked (with_state (written what s.0 s.1 c.document.state) c))) is),
+            sym (ap (λ b. Some (if b then asked c else asked
+                (with_state (written what s.0 s.1 c.document.state) c))) is),
             omega arith,
           ),
         ),
@@ -111,7 +125,8 @@ runs_by_made noop what s holds.No c f = runs_made noop what c f
 runs_by_made noop what s holds.Failed c f = (f, (refl, refl))
 
 runs_unless_made : (noop : Bool) (what file : Reference) (s : Setting) (c : Content) (f : ℕ) →
-    (g : ℕ) × RunsUnless noop what file s (run_unless noop what file s c).0 (told c f) (told (run_unless noop what file s c).1 g)
+    (g : ℕ) × RunsUnless noop what file s (run_unless noop what file s c).0 (told c f)
+    (told (run_unless noop what file s c).1 g)
 runs_unless_made noop what file s c f =
     let by = runs_by_made noop what s (holds_answer file s.0 s.1 c) (asked c) (later f) in
     (by.0, (holds_answer file s.0 s.1 c, told (asked c) (later f), asks_made file s.0 s.1 c f, by.1))
@@ -119,9 +134,11 @@ runs_unless_made noop what file s c f =
 -- ---- all calls of a turn
 
 module _ (noop : Bool) (what : Reference) (ss : List Setting)
-    (rest : (d : Content) (f : ℕ) → (g : ℕ) × SetsAll noop what ss (set_all noop what ss d).0 (set_all noop what ss d).1.0 (told d f)
+    (rest : (d : Content) (f : ℕ) → (g : ℕ) × SetsAll noop what ss (set_all noop what ss d).0
+    (set_all noop what ss d).1.0 (told d f)
     (told (set_all noop what ss d).1.1 g)) where
-  goes_made : (p : Step × Content) (f : ℕ) → (g : ℕ) × Goes p.0 (λ more last m. SetsAll noop what ss more last (told p.1 f) m)
+  goes_made : (p : Step × Content) (f : ℕ) → (g : ℕ) × Goes p.0
+      (λ more last m. SetsAll noop what ss more last (told p.1 f) m)
       (go_on p (λ d. set_all noop what ss d)).0 (go_on p (λ d. set_all noop what ss d)).1.0 (told p.1 f)
       (told (go_on p (λ d. set_all noop what ss d)).1.1 g)
   goes_made (step.Kept, d) f = rest d f
@@ -130,7 +147,8 @@ module _ (noop : Bool) (what : Reference) (ss : List Setting)
   goes_made (step.Memory, d) f = (f, (refl, refl, refl))
 
 all_made : (noop : Bool) (what : Reference) (ss : List Setting) (c : Content) (f : ℕ) →
-    (g : ℕ) × SetsAll noop what ss (set_all noop what ss c).0 (set_all noop what ss c).1.0 (told c f) (told (set_all noop what ss c).1.1 g)
+    (g : ℕ) × SetsAll noop what ss (set_all noop what ss c).0 (set_all noop what ss c).1.0 (told c f)
+    (told (set_all noop what ss c).1.1 g)
 all_made noop what [] c f = (f, (refl, refl, refl))
 all_made noop what (s ∷ ss) c f =
     let one = sets_made noop what s c f in
@@ -146,11 +164,13 @@ single_made R c f (step.Failed fault, d) h = (h.0, (step.Failed fault, h.1, (ref
 single_made R c f (step.Memory, d) h = (h.0, (step.Memory, h.1, (refl, refl)))
 
 works_made : (noop : Bool) (what : Reference) (w : Work) (c : Content) (f : ℕ) →
-    (g : ℕ) × Works noop what w (worked noop what w c).0 (worked noop what w c).1.0 (told c f) (told (worked noop what w c).1.1 g)
+    (g : ℕ) × Works noop what w (worked noop what w c).0 (worked noop what w c).1.0 (told c f)
+    (told (worked noop what w c).1.1 g)
 works_made noop what (work.Set ss) c f = all_made noop what ss c f
 works_made noop what work.Run c f = single_made (Runs noop what) c f (run noop what c) (runs_made noop what c f)
 works_made noop what (work.RunUnless file s) c f =
-    single_made (RunsUnless noop what file s) c f (run_unless noop what file s c) (runs_unless_made noop what file s c f)
+    single_made (RunsUnless noop what file s) c f (run_unless noop what file s c)
+    (runs_unless_made noop what file s c f)
 works_made noop what work.Idle c f = (f, (refl, refl, refl))
 
 refreshed_made : (due : Bool) (what : Reference) (c : Content) (f : ℕ) →
@@ -179,15 +199,18 @@ set_next noop what s c rest free (step.Changed name, d) h e = free d e
 set_next noop what s c rest free (step.Failed fault, d) h e = absurd (cc e)
 set_next noop what s c rest free (step.Memory, d) h e = absurd h
 
-set_never : (noop : Bool) (what : Reference) (ss : List Setting) (c : Content) → (set_all noop what ss c).1.0 ≡ ended.Memory → ⊥
+set_never : (noop : Bool) (what : Reference) (ss : List Setting) (c : Content) →
+    (set_all noop what ss c).1.0 ≡ ended.Memory → ⊥
 set_never noop what [] c e = absurd (cc e)
 set_never noop what (s ∷ ss) c e =
-    set_next noop what s c (λ d. set_all noop what ss d) (set_never noop what ss) (set_right noop what s c) (steps noop what s c) e
+    set_next noop what s c (λ d. set_all noop what ss d) (set_never noop what ss) (set_right noop what s c)
+    (steps noop what s c) e
 
 run_never : (noop : Bool) (what : Reference) (c : Content) → (go_on (run noop what c) whole).1.0 ≡ ended.Memory → ⊥
 run_never true what c e = absurd (cc e)
 run_never false what c e =
-    elim (fails (refresh_text what) c) as (λ b. (go_on (ran_step (holds_by b true), asked c) whole).1.0 ≡ ended.Memory → ⊥) [
+    elim (fails (refresh_text what) c) as (λ b. (go_on (ran_step (holds_by b true), asked c) whole).1.0
+    ≡ ended.Memory → ⊥) [
       | true ↦ λ k. absurd (cc k)
       | false ↦ λ k. absurd (cc k)
     ] e
@@ -209,7 +232,8 @@ pub turn_made : (task : Task) (signalled : Bool) (c : Content) (f : ℕ) →
 turn_made task signalled c f =
     let w = worked task.noop task.what task.work c in
     let did = works_made task.noop task.what task.work c f in
-    let end = finishes_made (signalled && task.refreshes) task.what w.1.0 w.1.1 did.0 (never_memory task.noop task.what task.work c) in (
+    let end = finishes_made (signalled && task.refreshes) task.what w.1.0 w.1.1 did.0
+    (never_memory task.noop task.what task.work c) in (
       end.0,
       record {
         middle = told w.1.1 did.0;

@@ -86,7 +86,8 @@ module _ {X : Type 0} where
           | false ↦ λ is. ap (cond (eq_by_cmp text_cmp q e.0) (Some e.1)) (find_set_other es w)
         ] refl
 
-    pub find_without_other : (es : List (List ℕ × X)) → find text_cmp q (remove_entry (is_key key) es) ≡ find text_cmp q es
+    pub find_without_other : (es : List (List ℕ × X)) → find text_cmp q (remove_entry (is_key key) es)
+        ≡ find text_cmp q es
     find_without_other [] = refl
     find_without_other (e ∷ es) =
         elim (eq_by_cmp text_cmp key e.0) as
@@ -103,12 +104,14 @@ module _ {X : Type 0} where
       ∙ none_below key es (second _ _ h)
 
   -- the record that is removed
-  pub find_without : (key : List ℕ) (es : List (List ℕ × X)) → Rises es → find text_cmp key (remove_entry (is_key key) es) ≡ None
+  pub find_without : (key : List ℕ) (es : List (List ℕ × X)) → Rises es →
+      find text_cmp key (remove_entry (is_key key) es) ≡ None
   find_without key [] rises = refl
   find_without key (e ∷ es) rises =
       elim (eq_by_cmp text_cmp key e.0) as
       (λ b. eq_by_cmp text_cmp key e.0 ≡ b → find text_cmp key (cond b es (e ∷ remove_entry (is_key key) es)) ≡ None) [
-        | true ↦ λ is. none_below key es (subst (λ k. below_all text_cmp k es ≡ true) (sym (one_key key e.0 is)) (first _ _ rises))
+        | true ↦ λ is. none_below key es (subst (λ k. below_all text_cmp k es ≡ true) (sym (one_key key e.0 is))
+            (first _ _ rises))
         | false ↦ λ is. ap (λ b. cond b (Some e.1) (find text_cmp key (remove_entry (is_key key) es))) is
             ∙ find_without key es (second _ _ rises)
       ] refl
@@ -119,7 +122,8 @@ module _ {X : Type 0} where
       below_all text_cmp x (set_value test es w) ≡ below_all text_cmp x es
   below_set x test [] w = refl
   below_set x test (e ∷ es) w =
-      elim (test e.0) as (λ b. below_all text_cmp x (cond b ((e.0, w) ∷ es) (e ∷ set_value test es w)) ≡ below_all text_cmp x (e ∷ es)) [
+      elim (test e.0) as (λ b. below_all text_cmp x (cond b ((e.0, w) ∷ es) (e ∷ set_value test es w))
+      ≡ below_all text_cmp x (e ∷ es)) [
         | true ↦ refl
         | false ↦ ap (λ b. is_lt (text_cmp x e.0) && b) (below_set x test es w)
       ]
@@ -128,7 +132,8 @@ module _ {X : Type 0} where
       is_sorted text_cmp (set_value test es w) ≡ is_sorted text_cmp es
   rises_set test [] w = refl
   rises_set test (e ∷ es) w =
-      elim (test e.0) as (λ b. is_sorted text_cmp (cond b ((e.0, w) ∷ es) (e ∷ set_value test es w)) ≡ is_sorted text_cmp (e ∷ es)) [
+      elim (test e.0) as (λ b. is_sorted text_cmp (cond b ((e.0, w) ∷ es) (e ∷ set_value test es w))
+      ≡ is_sorted text_cmp (e ∷ es)) [
         | true ↦ refl
         | false ↦ ap₂ (λ a b. a && b) (below_set e.0 test es w) (rises_set test es w)
       ]
@@ -156,7 +161,8 @@ module _ {X : Type 0} where
   -- what was put in is found
   pub find_put : (key : List ℕ) (x : X) (es : List (List ℕ × X)) → find text_cmp key (put text_cmp key x es) ≡ Some x
   find_put key x es =
-      find-put text_cmp nat_list_cmp_total key key x es ∙ ap (λ b. cond b (Some x) (find text_cmp key es)) (key_itself key)
+      find-put text_cmp nat_list_cmp_total key key x es
+      ∙ ap (λ b. cond b (Some x) (find text_cmp key es)) (key_itself key)
 
   pub find_put_other : (q key : List ℕ) (x : X) (es : List (List ℕ × X)) → Differ q key →
       find text_cmp q (put text_cmp key x es) ≡ find text_cmp q es
@@ -165,7 +171,8 @@ module _ {X : Type 0} where
 
 -- ---- a record with one more property
 
-pub record_here : (key name : List ℕ) (v : Datum) (o : Option (List Setting)) (state : State) → find text_cmp key state ≡ o →
+pub record_here : (key name : List ℕ) (v : Datum) (o : Option (List Setting)) (state : State) →
+    find text_cmp key state ≡ o →
     find text_cmp key (with_record key name v o state) ≡ Some (put text_cmp name v (unwrap_or o []))
 record_here key name v None state is = find_put key (put text_cmp name v []) state
 record_here key name v (Some properties) state is = find_set key state properties (put text_cmp name v properties) is
@@ -173,7 +180,8 @@ record_here key name v (Some properties) state is = find_set key state propertie
 pub record_other : (q key name : List ℕ) (v : Datum) (o : Option (List Setting)) (state : State) → Differ q key →
     find text_cmp q (with_record key name v o state) ≡ find text_cmp q state
 record_other q key name v None state apart = find_put_other q key (put text_cmp name v []) state apart
-record_other q key name v (Some properties) state apart = find_set_other q key apart state (put text_cmp name v properties)
+record_other q key name v (Some properties) state apart = find_set_other q key apart state
+    (put text_cmp name v properties)
 
 pub record_rises : (key name : List ℕ) (v : Datum) (o : Option (List Setting)) (state : State) → Rises state →
     Rises (with_record key name v o state)
@@ -182,7 +190,8 @@ record_rises key name v (Some properties) state h = rises_set (is_key key) state
 
 -- ---- maps of the program
 
-below_from : {X : Type 0} (x : List ℕ) (es : List (List ℕ × X)) → AllByRecursion (λ y. text_cmp x y ≡ Less) (keys_of es) →
+below_from : {X : Type 0} (x : List ℕ) (es : List (List ℕ × X)) →
+    AllByRecursion (λ y. text_cmp x y ≡ Less) (keys_of es) →
     below_all text_cmp x es ≡ true
 below_from x [] all = refl
 below_from x (e ∷ es) all = both _ _ (ap is_lt all.0) (below_from x es all.1)

@@ -123,14 +123,16 @@ module _ (resources : List Held) (edges : List Edge) where
         any_of (λ (t : Turned). signals t.line && has_pair t.at x) earlier r.0 r.1
         (and_from (signals r.0.line) (has_pair r.0.at x) r.2 there)
 
-    had_is : (earlier : List Turned) (at : ℕ) (task : Task) (c : Content) (f : ℕ) → ¬ (Reaches has_failed Comes earlier at) →
+    had_is : (earlier : List Turned) (at : ℕ) (task : Task) (c : Content) (f : ℕ) →
+        ¬ (Reaches has_failed Comes earlier at) →
         IsTurned Comes Signals earlier (had earlier at task c f)
     had_is earlier at task c f free =
         inr (free, (due earlier at, (due_to earlier at, due_back earlier at), (turn_made task (due earlier at) c f).1))
 
     -- where none failed
     calm_is : (earlier : List Turned) (at : ℕ) (task : Task) (c : Content) (f : ℕ) →
-        list_all (λ (t : Turned). not (has_failed t.line)) earlier ≡ true → IsTurned Comes Signals earlier (had earlier at task c f)
+        list_all (λ (t : Turned). not (has_failed t.line)) earlier ≡ true →
+        IsTurned Comes Signals earlier (had earlier at task c f)
     calm_is earlier at task c f none = had_is earlier at task c f (λ r. true≢false
         (sym r.2 ∙ not_true _ (holds_of (λ (t : Turned). not (has_failed t.line)) earlier r.0 none r.1)))
 
@@ -153,7 +155,8 @@ ran = (codes "Service[s]", running) ∷ []
 
 abbrev two_files : List Held
 two_files =
-    main ∷ file (codes "/a") (content_of (codes "x") ∷ []) ∷ file (codes "/b") (content_of (codes "y") ∷ []) ∷ service ∷ []
+    main ∷ file (codes "/a") (content_of (codes "x") ∷ []) ∷ file (codes "/b")
+    (content_of (codes "y") ∷ []) ∷ service ∷ []
 
 abbrev two_edges : List Edge
 two_edges = edge 1 3 true ∷ edge 2 3 true ∷ []
@@ -183,7 +186,8 @@ two_report = record {
       ∷ line (ref (codes "service") (codes "s")) status.Unchanged [] true ∷ [];
 }
 
-refreshed_once : (g : ℕ) × IsRun (catalog two_files two_edges) two_report (told (content [] ran 0) 0) (told (content [] both_written 6) g)
+refreshed_once : (g : ℕ) × IsRun (catalog two_files two_edges) two_report (told (content [] ran 0) 0)
+    (told (content [] both_written 6) g)
 unfolding has written native_of
 refreshed_once =
     let a = had two_files two_edges [] 1 task_a (content [] ran 0) 0 in
@@ -221,7 +225,8 @@ nothing_again : (second : Report) (found end : Content) → found.document.state
     IsToldRun (catalog two_files two_edges) second found end → list_all (λ l. not (has_failed l)) second.lines ≡ true →
     All (λ l. l ≡ unchanged_line l.item) second.lines × (end.document ≡ found.document)
 nothing_again second found end same run none =
-    second_run_changes_nothing (catalog two_files two_edges) two_report second (content [] ran 0) (content [] both_written 6)
+    second_run_changes_nothing (catalog two_files two_edges) two_report second (content [] ran 0)
+    (content [] both_written 6)
     found end two_kept refl refl (record {
       before = told (content [] ran 0) 0;
       after = told (content [] both_written 6) refreshed_once.0;
@@ -268,7 +273,8 @@ mixed_report = record {
       ∷ line (ref (codes "notify") (codes "n")) status.Changed (codes "run" ∷ []) false ∷ [];
 }
 
-skips_what_comes_after : (g : ℕ) × IsRun (catalog mixed mixed_edges) mixed_report (told (content refused [] 0) 0) (told (content refused [] 3) g)
+skips_what_comes_after : (g : ℕ) × IsRun (catalog mixed mixed_edges) mixed_report (told (content refused [] 0) 0)
+    (told (content refused [] 3) g)
 unfolding has written native_of
 skips_what_comes_after =
     let p = had mixed mixed_edges [] 1 task_p (content refused [] 0) 0 in
@@ -329,7 +335,8 @@ noop_report = record {
       ∷ line (ref (codes "service") (codes "s")) status.Unchanged [] false ∷ [];
 }
 
-noop_does_not_signal : (g : ℕ) × IsRun (catalog noops noop_edges) noop_report (told (content [] ran 0) 0) (told (content [] ran 2) g)
+noop_does_not_signal : (g : ℕ) × IsRun (catalog noops noop_edges) noop_report (told (content [] ran 0) 0)
+    (told (content [] ran 2) g)
 unfolding has written native_of
 noop_does_not_signal =
     let o = had noops noop_edges [] 1 task_o (content [] ran 0) 0 in

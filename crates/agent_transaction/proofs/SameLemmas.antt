@@ -14,7 +14,8 @@ use Rattle.pp_values.specs.Sort.{Name, Sort, Arguments, name_number, named_kind,
 
 name_itself : (n : Name) → same_name n n ≡ true
 name_itself n =
-    and_from _ _ ((unsigned_Decides (name_number n) (name_number n)).1 refl) ((bytes_eq-Decides (named_kind n) (named_kind n)).1 refl)
+    and_from _ _ ((unsigned_Decides (name_number n) (name_number n)).1 refl)
+    ((bytes_eq-Decides (named_kind n) (named_kind n)).1 refl)
 
 bound_itself : (b : Bound) → same_bound b b ≡ true
 bound_itself Default = refl

@@ -44,13 +44,15 @@ corrects false what s c is =
       | false ↦ (is, inr refl)
     ]
 
-pub steps : (noop : Bool) (what : Reference) (s : Setting) (c : Content) → Stepped noop what s c (set_right noop what s c)
+pub steps : (noop : Bool) (what : Reference) (s : Setting) (c : Content) →
+    Stepped noop what s c (set_right noop what s c)
 steps noop what s c =
     elim (fails (holds_text what s.0) c) as
     (λ b. Stepped noop what s c (set_by noop what s (holds_by b (has what s.0 s.1 c.document.state)) (asked c))) [
       | true ↦ tt
       | false ↦ elim (has what s.0 s.1 c.document.state) as
-          (λ b. has what s.0 s.1 c.document.state ≡ b → Stepped noop what s c (set_by noop what s (holds_by false b) (asked c))) [
+          (λ b. has what s.0 s.1 c.document.state ≡ b → Stepped noop what s c
+          (set_by noop what s (holds_by false b) (asked c))) [
             | true ↦ λ is. (is, refl)
             | false ↦ λ is. corrects noop what s c is
           ] refl
@@ -83,7 +85,8 @@ pub record SetRight (what : Reference) (ss : List Setting) (c d : Content) : Typ
   pub kept : AllHold what ss c.document.state → d.document ≡ c.document
   pub others : (other : Reference) (n : List ℕ) (v : Datum) → Differ (reference_text other) (reference_text what) →
       has other n v d.document.state ≡ has other n v c.document.state
-  pub still : (t : Setting) → Precedes t ss → has what t.0 t.1 c.document.state ≡ true → has what t.0 t.1 d.document.state ≡ true
+  pub still : (t : Setting) → Precedes t ss → has what t.0 t.1 c.document.state ≡ true →
+      has what t.0 t.1 d.document.state ≡ true
 
 abbrev IsSet : Bool → Reference → List Setting → Content → Worked → Type 0
 IsSet noop what ss c w = Rises c.document.state → Calm w.1.0 → (noop ≡ true → w.0 ≡ []) → SetRight what ss c w.1.1
@@ -165,7 +168,8 @@ all_idle noop what (s ∷ ss) c all =
 
 -- ---- the end of a turn
 
-quiet_by : (noop : Bool) (changes : List (List ℕ)) → is_settled (calm_status noop changes) ≡ true → noop ≡ true → changes ≡ []
+quiet_by : (noop : Bool) (changes : List (List ℕ)) → is_settled (calm_status noop changes) ≡ true → noop ≡ true →
+    changes ≡ []
 quiet_by noop [] h e = refl
 quiet_by true (x ∷ xs) h e = absurd (true≢false (sym h))
 quiet_by false (x ∷ xs) h e = absurd (true≢false (sym e))
@@ -197,7 +201,8 @@ module _ (task : Task) (changes : List (List ℕ)) (d : Content) where
   settled_end due (ended.Failed fault) h = absurd (true≢false (sym h))
   settled_end due ended.Memory h = record { calm = memory_calm; quiet = quiet_by task.noop changes h; same = refl }
 
-  calm_end : (due : Bool) (end : Ended) → has_failed (with_line task changes (finished due task.what end d)).0 ≡ false → Calm end
+  calm_end : (due : Bool) (end : Ended) → has_failed (with_line task changes (finished due task.what end d)).0
+      ≡ false → Calm end
   calm_end due ended.Whole h = whole_calm
   calm_end due (ended.Failed fault) h = absurd (true≢false h)
   calm_end due ended.Memory h = memory_calm
@@ -257,7 +262,8 @@ module _ (task : Task) (c : Content) where
   calm_by (work.Set ss) all h =
       let did = set_all task.noop task.what ss c in
       let idle = all_idle task.noop task.what ss c all (calm_end task did.0 did.1.1 false did.1.0 h) in
-      let end : finished false task.what did.1.0 did.1.1 ≡ (Ok false, did.1.1) = ap (λ e. finished false task.what e did.1.1) idle.1 in (
+      let end : finished false task.what did.1.0 did.1.1 ≡ (Ok false, did.1.1) = ap
+      (λ e. finished false task.what e did.1.1) idle.1 in (
         ap (λ (p : Result Bool (List ℕ) × Content). line_of task.what task.noop did.0 p.0) end
             ∙ ap (λ l. line_of task.what task.noop l (Ok false)) idle.0,
         ap (λ (p : Result Bool (List ℕ) × Content). p.1.document) end ∙ idle.2,

@@ -48,7 +48,8 @@ abbrev are_in_order : List (List ℕ) → Bool
 are_in_order [] = true
 are_in_order (name ∷ names) = list_all (is_other name) names && are_in_order names
 
-precedes_set : (name : List ℕ) (value : Datum) (names : List (List ℕ)) (attributes : List Setting) → removes name value ≡ false →
+precedes_set : (name : List ℕ) (value : Datum) (names : List (List ℕ)) (attributes : List Setting) →
+    removes name value ≡ false →
     list_all (is_other name) names ≡ true → Precedes (name, value) (looked_at names attributes)
 precedes_set name value [] attributes stays h = tt
 precedes_set name value (n ∷ names) attributes stays h =
@@ -67,16 +68,22 @@ precedes_set name value (n ∷ names) attributes stays h =
       )
     ]
 
-in_order : (names : List (List ℕ)) (attributes : List Setting) → are_in_order names ≡ true → InOrder (looked_at names attributes)
+in_order : (names : List (List ℕ)) (attributes : List Setting) → are_in_order names ≡ true →
+    InOrder (looked_at names attributes)
 in_order [] attributes h = tt
 in_order (name ∷ names) attributes h =
     let rest = in_order names attributes (second _ _ h) in
     elim (set_in attributes name) as (λ o. InOrder (from_here name o (looked_at names attributes))) [
       | None ↦ rest
       | Some v ↦ elim (removes name v) as (λ b. removes name v ≡ b →
-          Precedes (name, v) (if b then [] else looked_at names attributes) × InOrder (if b then [] else looked_at names attributes)) [
+          Precedes (name, v) (if b then [] else looked_at names attributes) × InOrder
+          (if b then [] else looked_at names attributes)) [
             | true ↦ λ is. (tt, tt)
-            | false ↦ λ is. (precedes_set name v names attributes is (first (list_all (is_other name) names) (are_in_order names) h), rest)
+            | false ↦ λ is. (
+              precedes_set name v names attributes is
+                  (first (list_all (is_other name) names) (are_in_order names) h),
+              rest,
+            )
           ] refl
     ]
 
@@ -121,14 +128,16 @@ abbrev pub Known : List Held → Task → Type 0
 Known hs q = (i : ℕ) × (task_at hs i ≡ Some q)
 
 -- which resource it is
-taken : (hs : List Held) (i : ℕ) (q : Task) → task_at hs i ≡ Some q → (h : Held) × (slice_get hs i ≡ Some h) × (task_in h.item ≡ Some q)
+taken : (hs : List Held) (i : ℕ) (q : Task) → task_at hs i ≡ Some q →
+    (h : Held) × (slice_get hs i ≡ Some h) × (task_in h.item ≡ Some q)
 taken hs i q e = elim (slice_get hs i) as (λ o. slice_get hs i ≡ o → option_and_then (λ h. task_in h.item) o ≡ Some q →
     (h : Held) × (slice_get hs i ≡ Some h) × (task_in h.item ≡ Some q)) [
       | None ↦ λ is k. absurd (cc k)
       | Some h ↦ λ is k. (h, is, k)
     ] refl e
 
-all_at : {X : Type 0} (p : X → Bool) (xs : List X) (i : ℕ) (x : X) → list_all p xs ≡ true → slice_get xs i ≡ Some x → p x ≡ true
+all_at : {X : Type 0} (p : X → Bool) (xs : List X) (i : ℕ) (x : X) → list_all p xs ≡ true → slice_get xs i ≡ Some x →
+    p x ≡ true
 all_at p [] i x h e = absurd (cc e)
 all_at p (y ∷ xs) zero x h e = subst (λ z. p z ≡ true) (held y x e) (first _ _ h)
 all_at p (y ∷ xs) (suc i) x h e = all_at p xs i x (second _ _ h) e
@@ -195,6 +204,7 @@ module _ (hs : List Held) (es : List Edge) (kept : IsCatalog hs es) where
             let texts : reference_text (reference_of h) ≡ reference_text (reference_of g) =
             sym (ap reference_text (what_of h t p.2)) ∙ same ∙ ap reference_text (what_of g u q.2) in
             let refs = printed_apart (reference_of h) (reference_of g)
-            (first _ _ (all_at has_form hs a.0 h kept.forms p.1)) (first _ _ (all_at has_form hs b.0 g kept.forms q.1)) texts in
+            (first _ _ (all_at has_form hs a.0 h kept.forms p.1))
+            (first _ _ (all_at has_form hs b.0 g kept.forms q.1)) texts in
             let one = one_at hs a.0 b.0 h g kept.apart p.1 q.1 refs in
             same_task t u (sym p.2 ∙ ap (λ (k : Held). task_in k.item) one ∙ q.2)

@@ -46,7 +46,7 @@ Is st after p = (st ≡ p.0) × Tells after p.1
 abbrev Fails : Step → Type 0
 Fails st = st ≡ step.Memory → ⊥
 
-same_told : (m after : Told) (c : Content) → Tells m c → after ≡ m → Tells after c
+pub same_told : (m after : Told) (c : Content) → Tells m c → after ≡ m → Tells after c
 same_told m after c e same = ap (λ (t : Told). t.content) same ∙ e
 
 corrected_told : (noop : Bool) (what : Reference) (s : Setting) (st : Step) (m after : Told) (c : Content) → Tells m c →

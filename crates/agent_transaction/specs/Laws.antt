@@ -1,5 +1,5 @@
 -- Laws of turns.
-use Rattle.std.specs.Prelude.{◌≡◌, Bool, Some}
+use Rattle.std.specs.Prelude.{◌≡◌, ℕ, Bool, Some}
 use Rattle.agent_machine.specs.Contents.{Content}
 use Rattle.agent_machine.specs.Machines.{Told}
 use Rattle.agent_machine.specs.declared.report_line.ReportLine.{ReportLine}
@@ -12,3 +12,9 @@ abbrev pub ToldTurn : Type 0
 ToldTurn = (task : Task) (signalled : Bool) (line : ReportLine) (before after : Told) (c : Content) →
     before.content ≡ Some c → IsTurn task signalled line before after →
     (line ≡ (turn task signalled c).0) × (after.content ≡ Some (turn task signalled c).1)
+
+-- And there is one, however many faults the machine has counted: a machine that tells its content has memory.
+abbrev pub SomeToldTurn : Type 0
+SomeToldTurn = (task : Task) (signalled : Bool) (c : Content) (faults : ℕ) → (after : Told)
+    × IsTurn task signalled (turn task signalled c).0 (record { content = Some c; faults = faults }) after
+    × (after.content ≡ Some (turn task signalled c).1)

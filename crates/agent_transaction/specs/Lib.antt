@@ -1,5 +1,6 @@
 -- What clauses of commands rest on, and a reader has to believe: Catalogs, Faults, Runs, Steps, Tasks, ToldTurns, Turns
--- What functions promise one another, what types keep, and what proofs read: Laws, Marking, Preparing, Room, TaskCodes
+-- What functions promise one another, what types keep, and what proofs read: Laws, Marking, Preparing, Room,
+-- SecondRuns, TaskCodes
 pub mod Catalogs
 pub mod Faults
 pub mod Laws
@@ -7,6 +8,7 @@ pub mod Marking
 pub mod Preparing
 pub mod Room
 pub mod Runs
+pub mod SecondRuns
 pub mod Steps
 pub mod TaskCodes
 pub mod Tasks

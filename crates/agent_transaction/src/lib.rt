@@ -24,5 +24,8 @@ mod wants;
 mod work;
 
 pub use applying::run_catalog;
-pub use laws::a_told_turn_is_one;
+pub use laws::{
+    a_second_run_changes_nothing, a_told_run_is_one, a_told_turn_is_one, records_rise,
+    there_is_a_told_turn,
+};
 pub use run_stop::RunStop;

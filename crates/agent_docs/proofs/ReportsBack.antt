@@ -11,10 +11,10 @@ use Rattle.agent_machine.specs.declared.status.Status.{Status}
 use Rattle.agent_machine.specs.declared.status.Status.TheVariants as status
 use Rattle.agent_machine.specs.declared.report_line.ReportLine.{ReportLine}
 use Rattle.agent_machine.specs.declared.report.Report.{Report}
-use Rattle.agent_docs.specs.ReportText.{status_text, fault_data, line_object, line_data, report_object, report_data}
-use Rattle.agent_docs.specs.DocumentLaws.{names_kind, ReportsAreToldApart}
-use Rattle.agent_docs.proofs.DocumentParts.{part, text_said, flag_said, list_said, all_back, shown_back}
-use Rattle.agent_docs.proofs.ReadBack.{one_value}
+use Rattle.agent_docs.specs.ReportText.{names_kind, status_text, fault_data, line_object, line_data, report_object, report_data}
+use Rattle.agent_docs.specs.ReportLaws.{ReportsAreToldApart}
+use Rattle.json_documents.proofs.DocumentParts.{part, text_said, flag_said, list_said, all_back, shown_back}
+use Rattle.json_documents.proofs.ReadBack.{one_value}
 
 -- ---- lines, with their resources as they are printed
 

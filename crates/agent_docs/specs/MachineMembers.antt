@@ -31,11 +31,14 @@ record_path key = under (codes "machine.state") key
 
 -- ---- what fails: a list of texts
 
+abbrev pub failing_text : ℕ → Data → Result (List ℕ) (List ℕ)
+failing_text index d = ok_or (as_str d) (failing_path index)
+
 -- the texts that were found, and those of the items behind them
 unfoldable pub texts_from : List (List ℕ) → Items → Result (List (List ℕ)) (List ℕ)
 texts_from found no_items = Ok found
 texts_from found (item d ds) =
-    result_and_then (λ t. texts_from (found ++ t ∷ []) ds) (ok_or (as_str d) (failing_path (length found)))
+    result_and_then (λ t. texts_from (found ++ t ∷ []) ds) (failing_text (length found) d)
 
 abbrev pub all_failing : Data → Result (List (List ℕ)) (List ℕ)
 all_failing d = result_and_then (texts_from []) (ok_or (as_array d) (codes "machine.failing"))
@@ -46,10 +49,13 @@ given_failing (Some d) = all_failing d
 
 -- ---- the state: an object of objects, in which stand forms of values
 
+abbrev pub property_value : List ℕ → List ℕ → Data → Result Datum (List ℕ)
+property_value key name d = ok_or (value_of d) (under (record_path key) name)
+
 -- the properties of a record with the one of this name
 abbrev pub with_property : List ℕ → List Setting → List ℕ → Data → Result (List Setting) (List ℕ)
 with_property key properties name d =
-    result_and_then (λ v. Ok (put text_cmp name v properties)) (ok_or (value_of d) (under (record_path key) name))
+    result_and_then (λ v. Ok (put text_cmp name v properties)) (property_value key name d)
 
 -- the properties with these, one after another
 unfoldable pub with_properties : List ℕ → Members → List Setting → Result (List Setting) (List ℕ)
@@ -87,16 +93,20 @@ members_said d =
 abbrev pub machine_said : Data → Result MachineDoc (List ℕ)
 machine_said d = if is_some (as_object d) then members_said d else Err (codes "machine")
 
+-- what is meant is this refusal, unless memory ran out
+abbrev pub Refuses : {A : Type 0} → MachineStop → Result A (List ℕ) → Type 0
+Refuses (stop.Bad path) meant = meant ≡ Err path
+Refuses stop.Memory meant = ⊤
+
 -- exactly what is meant, where a value is seen as `shown` says, unless memory ran out
 abbrev pub SaysAs : {A B : Type 0} → (A → B) → Result A MachineStop → Result B (List ℕ) → Type 0
 SaysAs shown (Ok x) meant = meant ≡ Ok (shown x)
-SaysAs shown (Err (stop.Bad path)) meant = meant ≡ Err path
-SaysAs shown (Err stop.Memory) meant = ⊤
+SaysAs shown (Err s) meant = Refuses s meant
 
 abbrev pub Says : {A : Type 0} → Result A MachineStop → Result A (List ℕ) → Type 0
 Says result meant = SaysAs (λ x. x) result meant
 
 -- a refusal is this path, unless memory ran out
 abbrev pub Tells : MachineStop → List ℕ → Type 0
-Tells (stop.Bad path) meant = path ≡ meant
+Tells (stop.Bad path) meant = meant ≡ path
 Tells stop.Memory meant = ⊤

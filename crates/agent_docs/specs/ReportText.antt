@@ -1,6 +1,6 @@
 -- The text of a report: compact JSON, with the members of each object in byte order. There are two versions of this
 -- form: the second is written, and both are read.
-use Rattle.std.specs.Prelude.{◌≡◌, ◌<◌, ◌⊎◌, ◌^◌, IsTrue, ℕ, Bool, true, false, not, ◌&&◌, ◌||◌, nat_lt, List, length, Option, None, Some, map, codes}
+use Rattle.std.specs.Prelude.{◌≡◌, ◌⊎◌, IsTrue, ℕ, Bool, true, false, not, ◌&&◌, ◌||◌, nat_lt, List, length, Option, None, Some, map, codes}
 use Rattle.std.specs.List.{count_by, list_all}
 use Rattle.serde_json.specs.Data.{Data, null, boolean, string, array, object, no_members, member}
 use Rattle.serde_json.specs.View.{items_of}
@@ -109,9 +109,8 @@ is_first r = list_all (λ l. not (was_noop l)) r.lines
 abbrev pub names_kind : ReportLine → Bool
 names_kind l = is_kind l.item.kind
 
--- what each report is that there is memory for
 abbrev pub IsReport : Report → Type 0
-IsReport r = IsTrue (list_all names_kind r.lines) × (length r.lines < 2 ^ 64)
+IsReport r = IsTrue (list_all names_kind r.lines)
 
 -- the line of a report, in either version
 abbrev pub IsReportLine : Report → List ℕ → Type 0

@@ -1,14 +1,16 @@
 //! The machine that a JSON value says, as in a bundle.
-ghost use Rattle.std.specs.Prelude.{[], codes};
+ghost use Rattle.std.specs.Prelude.{[], codes, IfOk, IsTrue};
+ghost use Rattle.pp_values.specs.Plain.{is_plain_value};
+ghost use Rattle.pp_values.specs.Views.{view as value_view};
 ghost use Rattle.serde_json.specs.Find.{get};
 ghost use Rattle.serde_json.specs.View.{view, items_view, members_view};
-ghost use Rattle.agent_docs.specs.MachineMembers.{texts_from, all_failing, given_failing, with_property, with_properties, all_properties, with_record, with_records, all_records, given_state, members_said, machine_said, Says, SaysAs};
+ghost use Rattle.agent_docs.specs.MachineMembers.{failing_text, texts_from, all_failing, given_failing, property_value, with_property, with_properties, all_properties, with_record, with_records, all_records, given_state, members_said, machine_said, Says, SaysAs};
 
 use crate::machine_stop::MachineStop;
 use crate::refusing::{bad_failing, bad_path, bad_property, bad_record};
 use agent_machine::{FailingTexts, MachineDoc, Properties, States};
 use json_values::{FormStop, from_form};
-use pp_values::{Text, Texts};
+use pp_values::{Text, Texts, Value};
 use serde_json::{Map, Value as Json};
 use std::alloc::Global;
 
@@ -60,13 +62,20 @@ fn texts_among(alloc: Global, items: &[Json]) -> Result<Texts, MachineStop>
     let mut found = Texts::new(alloc);
     let mut left = items;
     while let [item, after @ ..] = left {
-        match item.as_str() {
-            Some(text) => found.push(Text::from_str(alloc, text)?)?,
-            None => return Err(bad_failing(alloc, found.len())),
-        }
+        let text = failing_text(alloc, found.len(), item)?;
+        found.push(text)?;
         left = after;
     }
     Ok(found)
+}
+
+fn failing_text(alloc: Global, index: usize, item: &Json) -> Result<Text, MachineStop>
+    ensures { Says result (failing_text index (view item.now)) }
+{
+    match item.as_str() {
+        Some(text) => Ok(Text::from_str(alloc, text)?),
+        None => Err(bad_failing(alloc, index)),
+    }
 }
 
 fn given_state(alloc: Global, machine: &Json) -> Result<States, MachineStop>
@@ -92,10 +101,23 @@ fn records_among(alloc: Global, members: &Map<String, Json>) -> Result<States, M
 {
     let mut state = States::new(alloc);
     for (key, properties) in members {
-        let properties = all_properties(alloc, key.as_str(), properties)?;
-        state.put(Text::from_str(alloc, key.as_str())?, properties)?;
+        put_record(alloc, key.as_str(), properties, &mut state)?;
     }
     Ok(state)
+}
+
+fn put_record(
+    alloc: Global,
+    key: &str,
+    properties: &Json,
+    state: &mut States,
+) -> Result<(), MachineStop>
+    ensures { SaysAs (λ done. state.new) result (with_record state.old key.now (view properties.now)) }
+{
+    let properties = all_properties(alloc, key, properties)?;
+    let text = Text::from_str(alloc, key)?;
+    state.put(text, properties)?;
+    Ok(())
 }
 
 fn all_properties(alloc: Global, key: &str, properties: &Json) -> Result<Properties, MachineStop>
@@ -121,7 +143,6 @@ fn properties_among(
     Ok(properties)
 }
 
-#[tactic(auto, using(crate::proofs::PlainForms::read_is_plain))]
 fn put_property(
     alloc: Global,
     key: &str,
@@ -131,11 +152,24 @@ fn put_property(
 ) -> Result<(), MachineStop>
     ensures { SaysAs (λ done. properties.new) result (with_property key.now properties.old name.now (view value.now)) }
 {
+    let value = property_value(alloc, key, name, value)?;
+    let name = Text::from_str(alloc, name)?;
+    properties.put(name, value)?;
+    Ok(())
+}
+
+#[tactic(auto, using(json_documents::proofs::ReadForms::read_is_plain))]
+fn property_value(
+    alloc: Global,
+    key: &str,
+    name: &str,
+    value: &Json,
+) -> Result<Value, MachineStop>
+    ensures value { SaysAs value_view result (property_value key.now name.now (view value.now)) }
+    ensures plain { IfOk result (λ v. IsTrue (is_plain_value (value_view v))) }
+{
     match from_form(alloc, value) {
-        Ok(value) => {
-            properties.put(Text::from_str(alloc, name)?, value)?;
-            Ok(())
-        }
+        Ok(value) => Ok(value),
         Err(FormStop::NoForm) => Err(bad_property(alloc, key, name)),
         Err(FormStop::Memory) => Err(MachineStop::Memory),
     }

@@ -4,7 +4,7 @@ ghost use Rattle.serde_json.specs.Data.{string, array, object};
 ghost use Rattle.serde_json.specs.View.{items_of, view};
 ghost use Rattle.agent_machine.specs.Recorded.{recorded};
 ghost use Rattle.json_values.specs.ValueForm.{setting_members};
-ghost use Rattle.json_documents.specs.LinesOfText.{ReadsDocument};
+ghost use Rattle.json_documents.specs.LinesOfText.{Answers, ReadsDocument, read_one_line};
 ghost use Rattle.json_documents.specs.Tokens.{data_tokens};
 ghost use Rattle.agent_docs.specs.MachineText.{record_members, machine_data, machine_text, IsMachineText};
 ghost use Rattle.agent_docs.specs.MachineReading.{machine_in, machine_written, said_by};
@@ -31,9 +31,14 @@ pub fn machines_are_told_apart()
 {}
 
 /// The machine that this text is written for.
-#[tactic(auto, using(crate::proofs::MachinesRead::machine_cut))]
 pub fn read_machine(alloc: Global, text: &str) -> Result<MachineDoc, DocStop>
     ensures { ReadsDocument IsMachineText text.now result }
+{
+    read_whole(alloc, text)
+}
+
+fn read_whole(alloc: Global, text: &str) -> Result<MachineDoc, DocStop>
+    ensures { Answers result (read_one_line machine_in text.now) }
 {
     let Some((line, after)) = cut_line(text) else {
         return Err(DocStop::Bad(1));

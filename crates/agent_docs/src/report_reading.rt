@@ -1,8 +1,8 @@
 //! Reports out of their texts.
-ghost use Rattle.std.specs.Prelude.{◌≡◌, ◌<◌, ◌^◌, not, codes, length, option_map, IfOk, IfSome};
+ghost use Rattle.std.specs.Prelude.{◌≡◌, not, codes, option_map, IfOk};
 ghost use Rattle.std.specs.List.{list_all};
 ghost use Rattle.serde_json.specs.View.{items_view, view};
-ghost use Rattle.json_documents.specs.LinesOfText.{ReadsDocument, cut_at};
+ghost use Rattle.json_documents.specs.LinesOfText.{Answers, ReadsDocument, cut_at, read_one_line};
 ghost use Rattle.agent_docs.specs.ReportText.{was_noop, IsReportText};
 ghost use Rattle.agent_docs.specs.ReportReading.{unclosed, reference_said, status_said, texts_said, text_at as text_under, item_said, changes_said, line_said, lines_said, report_said, says_first, text_in, is_written, report_written, report_in};
 
@@ -14,9 +14,14 @@ use serde_json::Value as Json;
 use std::alloc::Global;
 
 /// The report that this text is written for, in either version.
-#[tactic(auto, using(crate::proofs::ReportsRead::report_cut))]
 pub fn read_report(alloc: Global, text: &str) -> Result<Report, DocStop>
     ensures { ReadsDocument IsReportText text.now result }
+{
+    read_whole(alloc, text)
+}
+
+fn read_whole(alloc: Global, text: &str) -> Result<Report, DocStop>
+    ensures { Answers result (read_one_line report_in text.now) }
 {
     let Some((line, after)) = cut_line(text) else {
         return Err(DocStop::Bad(1));
@@ -33,8 +38,7 @@ pub fn read_report(alloc: Global, text: &str) -> Result<Report, DocStop>
 
 /// The report whose line this is.
 fn report_in(alloc: Global, line: &str) -> Result<Option<Report>, Memory>
-    ensures said { IfOk result (λ o. o ≡ report_in line.now) }
-    ensures few { IfOk result (λ o. IfSome o (λ r. length r.lines < 2 ^ 64)) }
+    ensures { IfOk result (λ o. o ≡ report_in line.now) }
 {
     match read_json(alloc, line)? {
         Some(json) => report_written(alloc, line, &json),
@@ -44,8 +48,7 @@ fn report_in(alloc: Global, line: &str) -> Result<Option<Report>, Memory>
 
 /// The report that the JSON says, where this is its line.
 fn report_written(alloc: Global, line: &str, json: &Json) -> Result<Option<Report>, Memory>
-    ensures said { IfOk result (λ o. o ≡ report_written line.now (view json.now)) }
-    ensures few { IfOk result (λ o. IfSome o (λ r. length r.lines < 2 ^ 64)) }
+    ensures { IfOk result (λ o. o ≡ report_written line.now (view json.now)) }
 {
     match report_said(alloc, json)? {
         Some(report) => {
@@ -105,8 +108,7 @@ fn says_first(json: &Json) -> bool
 
 #[tactic(auto, unfolding(crate::specs::ReportReading::report_said))]
 fn report_said(alloc: Global, json: &Json) -> Result<Option<Report>, Memory>
-    ensures said { IfOk result (λ o. o ≡ report_said (view json.now)) }
-    ensures few { IfOk result (λ o. IfSome o (λ r. length r.lines < 2 ^ 64)) }
+    ensures { IfOk result (λ o. o ≡ report_said (view json.now)) }
 {
     let Some(node) = json.get("node").and_then(Json::as_str) else {
         return Ok(None);
@@ -117,7 +119,6 @@ fn report_said(alloc: Global, json: &Json) -> Result<Option<Report>, Memory>
     let Some(lines) = lines_said(alloc, items.as_slice())? else {
         return Ok(None);
     };
-    let _few = lines.len();
     let node = Text::from_str(alloc, node)?;
     Ok(Some(Report { node, lines }))
 }

@@ -211,16 +211,17 @@ was_read None e same = not_found e same
 was_read (Some (j, [])) e same = (j, refl)
 was_read (Some (j, t ∷ ts)) e same = not_found e same
 
+no_deeper : (j k : Json) (ts : List Token) → value max_depth ts ≡ Some (k, []) →
+    value (tree.depth j) ts ≡ Some (j, []) → tree.depth j ≤ max_depth
+no_deeper j k ts found own =
+    value-depth max_depth ts [] j (found ∙ one_reading max_depth (tree.depth j) ts (k, []) (j, []) found own)
+
 -- what was read from its text nests no deeper
 pub shallow_if_read : (e f : Data) → has_small e ≡ true → read (compact_text e) ≡ Some f → depth e ≤ max_depth
 shallow_if_read e f h same =
     let found = was_read (value max_depth (tokens (compact_text e))) f same in
-    let again : value max_depth (json_tokens (outline e)) ≡ Some (found.0, []) =
-        ap (value max_depth) (sym (its_tokens e h)) ∙ found.1 in
-    let own : value (tree.depth (outline e)) (json_tokens (outline e)) ≡ Some (outline e, []) =
-        ap (value (tree.depth (outline e))) (sym (append-nil (json_tokens (outline e))))
-        ∙ value-json_tokens (outline e) (tree.depth (outline e)) [] (omega arith) in
-    let one : Some (found.0, []) ≡ Some (outline e, []) = one_reading max_depth (tree.depth (outline e)) (json_tokens (outline e)) (found.0, []) (outline e, []) again own in
     let deep : tree.depth (outline e) ≤ max_depth =
-        value-depth max_depth (json_tokens (outline e)) [] (outline e) (again ∙ one) in
+        no_deeper (outline e) found.0 (json_tokens (outline e)) (ap (value max_depth) (sym (its_tokens e h)) ∙ found.1)
+        (ap (value (tree.depth (outline e))) (sym (append-nil (json_tokens (outline e))))
+        ∙ value-json_tokens (outline e) (tree.depth (outline e)) [] (omega arith)) in
     omega (arith, same_depth e, deep)

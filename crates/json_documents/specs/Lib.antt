@@ -3,5 +3,6 @@
 pub mod Tokens
 pub mod SmallNumbers
 pub mod ExactData
+pub mod LineDocuments
 pub mod LinesOfText
 pub mod ProperValues

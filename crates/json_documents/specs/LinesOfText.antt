@@ -23,9 +23,34 @@ abbrev pub has_byte : ℕ → List ℕ → Bool
 has_byte c [] = false
 has_byte c (b ∷ bs) = (b == c) || has_byte c bs
 
+-- ---- documents of one line
+
 -- a text of one line, which ends in a line feed
 abbrev pub IsOneLine : {A : Type 0} → (A → List ℕ → Type 0) → A → List ℕ → Type 0
 IsOneLine IsLine a text = (line : List ℕ) × IsLine a line × (text ≡ line ++ 10 ∷ [])
+
+-- a line, where nothing stands behind it, or else the number of the first bad line
+abbrev pub if_at_end : {A : Type 0} → Option A → List ℕ → Result A ℕ
+if_at_end None after = Err 1
+if_at_end (Some a) [] = Ok a
+if_at_end (Some a) (b ∷ bs) = Err 2
+
+-- what a text of one line is read as, where `line_in` says what a line is
+module _ {A : Type 0} (line_in : List ℕ → Option A) where
+  abbrev pub read_parts : Option (List ℕ × List ℕ) → Result A ℕ
+  read_parts None = Err 1
+  read_parts (Some p) = if_at_end (line_in p.0) p.1
+
+  abbrev pub read_one_line : List ℕ → Result A ℕ
+  read_one_line text = read_parts (cut_line text)
+
+-- exactly what is meant, unless memory ran out
+abbrev pub Answers : {A : Type 0} → Result A DocStop → Result A ℕ → Type 0
+Answers (Ok a) meant = meant ≡ Ok a
+Answers (Err (stop.Bad n)) meant = meant ≡ Err n
+Answers (Err stop.Memory) meant = ⊤
+
+-- ---- documents of any number of lines
 
 -- over which texts are documents, and of what
 module _ {A : Type 0} (IsTextOf : A → List ℕ → Type 0) where

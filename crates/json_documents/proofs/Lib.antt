@@ -1,0 +1,11 @@
+pub mod Cutting
+pub mod DocumentParts
+pub mod Feeds
+pub mod Lengths
+pub mod OneLines
+pub mod Outlines
+pub mod ReadBack
+pub mod ReadData
+pub mod ReadForms
+pub mod SmallForms
+pub mod ValuesBack

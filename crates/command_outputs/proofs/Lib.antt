@@ -1,0 +1,4 @@
+mod Readable
+mod Sent
+mod SentData
+mod Statuses

@@ -1,3 +1,4 @@
+mod Examples
 mod Readable
 mod Sent
 mod SentData

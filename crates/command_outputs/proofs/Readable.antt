@@ -4,11 +4,8 @@ use Rattle.std.proofs.lemmas.Str.{is_utf8-from_IsUtf8, IsUtf8-from_is_utf8}
 use Rattle.std.specs.Prelude.{Result, Ok, Err, IfOk, if◌then◌else◌}
 use Rattle.std.specs.Str.{IsUtf8, is_utf8}
 use Rattle.pp_values.specs.declared.memory.Memory.{Memory}
-use Rattle.pp_values.specs.declared.place.TheConstants.{MAIN_MANIFEST}
-use Rattle.site_bundle.specs.Refusals.{bad_shape}
 use Rattle.command_outputs.specs.declared.output.Output.{Output}
-use Rattle.command_outputs.specs.declared.output.Output.TheVariants as a
-use Rattle.command_outputs.specs.Outputs.{output_meant, manifest_output, refusal_line}
+use Rattle.command_outputs.specs.Outputs.{output_meant, manifest_output, no_text_output}
 use Rattle.compile_core.specs.Puppet.{manifest_meaning}
 
 is_utf8-no_text : (input : List ℕ) → (IsUtf8 input → ⊥) → is_utf8 input ≡ false
@@ -22,15 +19,13 @@ pub IfOk-text : (r : Result Output Memory) (node text input : List ℕ) → text
     IfOk r (λ output. output ≡ manifest_output node input)
 IfOk-text (Ok output) node text input same utf8 is =
     subst (λ bytes. output ≡ manifest_output node bytes) same
-    (is ∙ sym (ap (λ b. if b then output_meant (manifest_meaning node text) else a.BadInput
-    (refusal_line (bad_shape MAIN_MANIFEST.now))) (is_utf8-from_IsUtf8 text utf8)))
+    (is ∙ sym (ap (λ b. if b then output_meant (manifest_meaning node text) else no_text_output) (is_utf8-from_IsUtf8 text utf8)))
 IfOk-text (Err memory) node text input same utf8 is = is
 
 pub IfOk-no_text : (r : Result Output Memory) (node input : List ℕ) → (IsUtf8 input → ⊥) →
-    IfOk r (λ output. output ≡ a.BadInput (refusal_line (bad_shape MAIN_MANIFEST.now))) →
+    IfOk r (λ output. output ≡ no_text_output) →
     IfOk r (λ output. output ≡ manifest_output node input)
 IfOk-no_text (Ok output) node input no_text is =
-    is ∙ sym (ap (λ b. if b then output_meant (manifest_meaning node input) else a.BadInput
-    (refusal_line (bad_shape MAIN_MANIFEST.now)))
+    is ∙ sym (ap (λ b. if b then output_meant (manifest_meaning node input) else no_text_output)
     (is_utf8-no_text input no_text))
 IfOk-no_text (Err memory) node input no_text is = is

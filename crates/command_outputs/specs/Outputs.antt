@@ -17,7 +17,6 @@ use Rattle.site_core.specs.Runs.{Whole}
 use Rattle.site_core.specs.declared.reply.ReplyOf.{ReplyOf}
 use Rattle.site_core.specs.declared.reply.ReplyOf.TheVariants as r
 use Rattle.site_bundle.specs.SiteView.{SiteView}
-use Rattle.site_bundle.specs.Refusals.{Refusal, not_json, bad_shape, too_large}
 use Rattle.site_bundle.specs.declared.bundle.Bundle.{Bundle}
 use Rattle.site_docs.specs.CatalogText.{catalog_text}
 use Rattle.site_docs.specs.FaultText.{fault_text}
@@ -36,12 +35,6 @@ use Rattle.command_outputs.specs.Demo.{demo_site, demo_requests, summary_text}
 use Rattle.command_outputs.specs.Lines.{line}
 use Rattle.command_outputs.specs.Nodes.{NodeRefusal, unknown, faulty, node_meaning}
 
--- the line that tells why an input is not what a command reads
-abbrev pub refusal_line : Refusal → List ℕ
-refusal_line not_json = line (codes "B1")
-refusal_line (bad_shape path) = line (codes "B2 " ++ path)
-refusal_line (too_large path) = line (codes "B3 " ++ path)
-
 -- a catalog is told by its log and by its line
 abbrev pub catalog_output : Catalog → Output
 catalog_output catalog = a.Compiled (log_text catalog.log) (line (catalog_text catalog))
@@ -51,11 +44,13 @@ abbrev pub output_meant : Result (Catalog × ExportSet) Fault → Output
 output_meant (Ok made) = catalog_output made.0
 output_meant (Err fault) = a.Fault (line (fault_text fault))
 
+-- the bytes are no text
+abbrev pub no_text_output : Output
+no_text_output = a.BadInput (line (codes "B2 " ++ MAIN_MANIFEST.now))
+
 -- `manifest`: what the meaning of a manifest is told by, where it is a text
 abbrev pub manifest_output : List ℕ → List ℕ → Output
-manifest_output node input =
-    if is_utf8 input then output_meant (manifest_meaning node input) else a.BadInput
-    (refusal_line (bad_shape MAIN_MANIFEST.now))
+manifest_output node input = if is_utf8 input then output_meant (manifest_meaning node input) else no_text_output
 
 -- `check`: the lines of the faults and the numbers of manifests and of faults, which tell of a refusal where there is a
 -- fault

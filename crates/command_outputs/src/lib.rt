@@ -13,7 +13,6 @@ mod manifest;
 mod node_catalog;
 pub mod node_stop;
 pub mod output;
-mod refusing;
 mod replies;
 mod sequence;
 
@@ -27,5 +26,4 @@ pub use manifest::manifest_output;
 pub use node_catalog::compile_node;
 pub use node_stop::NodeStop;
 pub use output::Output;
-pub use refusing::refuse_bundle;
 pub use sequence::sequence_output;

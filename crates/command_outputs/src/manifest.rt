@@ -1,8 +1,7 @@
 //! The output to a manifest: the log and the node's catalog, or its fault.
 ghost use Rattle.std.specs.Prelude.{◌≡◌, ◌≤◌, [], ◌∷◌, IfOk, length};
 ghost use Rattle.site_core.specs.Meaning.{Compiles};
-ghost use Rattle.site_bundle.specs.Refusals.{bad_shape};
-ghost use Rattle.command_outputs.specs.Outputs.{output_meant, manifest_output, refusal_line};
+ghost use Rattle.command_outputs.specs.Outputs.{output_meant, manifest_output, no_text_output};
 ghost use Rattle.site_bundle.specs.declared.limits.TheConstants.{MOST_FILE_BYTES};
 ghost use Rattle.compile_core.specs.Puppet.{manifest_meaning};
 
@@ -42,7 +41,7 @@ pub fn manifest_output(alloc: Global, node: &str, input: Bytes) -> Result<Output
 
 /// The bytes are no text.
 fn no_text(alloc: Global) -> Result<Output, Memory>
-    ensures { IfOk result (λ output. output ≡ Output.BadInput (refusal_line (bad_shape MAIN_MANIFEST.now))) }
+    ensures { IfOk result (λ output. output ≡ no_text_output) }
 {
     let path = Text::from_str(alloc, MAIN_MANIFEST)?;
     let refusal = stop_text(alloc, &BundleStop::BadShape(path))?;

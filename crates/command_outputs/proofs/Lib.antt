@@ -1,5 +1,7 @@
 mod Examples
+mod NodeTold
 mod Readable
-mod Sent
+mod Reads
+pub mod Sent
 mod SentData
-mod Statuses
+pub mod Statuses

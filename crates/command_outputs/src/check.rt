@@ -40,7 +40,7 @@ fn faults_among<'a>(
         map (λ f. f.now) faults.items ≡ faults_among (map (λ e. e.1.read) manifests.now.entries)) }
 {
     let mut faults = Vec::new(alloc);
-    for (_path, manifest) in manifests {
+    for (_, manifest) in manifests {
         if let Err(fault) = &manifest.read {
             faults.push(fault)?;
         }

@@ -1,0 +1,7 @@
+mod Examples
+mod NodeTold
+mod Readable
+mod Reads
+pub mod Sent
+mod SentData
+pub mod Statuses

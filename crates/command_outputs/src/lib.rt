@@ -1,0 +1,29 @@
+//! What each command gives for its input: the texts that are to be written, and by them the status.
+#![tactic(auto)]
+
+mod batch;
+mod check;
+mod compile;
+mod compiled;
+mod demo;
+pub mod demo_site;
+mod lines;
+mod lookup;
+mod manifest;
+mod node_catalog;
+pub mod node_stop;
+pub mod output;
+mod replies;
+mod sequence;
+
+pub use batch::batch_output;
+pub use check::check_output;
+pub use compile::{compile_output, refuse_node};
+pub use demo::demo_output;
+pub use lines::line;
+pub use lookup::lookup_output;
+pub use manifest::manifest_output;
+pub use node_catalog::compile_node;
+pub use node_stop::NodeStop;
+pub use output::Output;
+pub use sequence::sequence_output;

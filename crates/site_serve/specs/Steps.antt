@@ -1,0 +1,1 @@
+-- What reading a request, answering it and writing the response do.

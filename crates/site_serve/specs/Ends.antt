@@ -15,16 +15,17 @@ use Rattle.http_wire.specs.declared.request.H.{H}
 use Rattle.http_wire.specs.declared.request.HttpRequest.{HttpRequest}
 use Rattle.http_wire.specs.declared.response.HttpResponse.{HttpResponse}
 use Rattle.site_serve.specs.Requests.{Reading, asked_by}
-use Rattle.site_serve.specs.Replies.{seen_of, reply_response, refusal_text}
+use Rattle.site_serve.specs.Replies.{refusal_response, seen_of, reply_response, refusal_text}
 use Rattle.site_serve.specs.declared.conn_end.ConnEnd.{ConnEnd}
 use Rattle.site_serve.specs.declared.conn_end.ConnEnd.TheVariants as end
 use Rattle.site_serve.specs.declared.conn_end.TheConstants.{MOST_ANSWERS}
+use Rattle.site_serve.specs.declared.refusal.Refusal.{Refusal}
 
 -- ---- what requests came to
 
--- a request that asks nothing was refused with a response, or what it asks of the site had a reply
+-- a request that asks nothing was refused, or what it asks of the site had this reply
 pub data Turn (S C F : Type 0) : Type 0 where
-  refused : HttpResponse → Turn S C F
+  refused : Refusal → Turn S C F
   replied : Asked S → ReplyOf C F → Turn S C F
 
 -- what requests ask of a site, and the texts of its catalogs and faults
@@ -39,11 +40,11 @@ dialect said_site catalog fault = record { asks = asked_by said_site; catalog = 
 
 module _ {S C F : Type 0} where
   abbrev pub IsTurn : (HttpRequest → Reading (Asked S)) → HttpRequest → Turn S C F → Type 0
-  IsTurn asks r (refused response) = asks r ≡ Err response
+  IsTurn asks r (refused why) = asks r ≡ Err why
   IsTurn asks r (replied asked reply) = asks r ≡ Ok asked
 
   abbrev pub turn_response : Dialect S C F → Turn S C F → HttpResponse
-  turn_response d (refused response) = response
+  turn_response d (refused why) = refusal_response why
   turn_response d (replied asked reply) = reply_response d.catalog d.fault (seen_of asked) reply
 
   -- the bytes of the responses, in order
@@ -54,12 +55,12 @@ module _ {S C F : Type 0} where
   -- what the site was asked, and its replies
   abbrev pub asked_in : List (Turn S C F) → List (Asked S)
   asked_in [] = []
-  asked_in (refused response ∷ ts) = asked_in ts
+  asked_in (refused why ∷ ts) = asked_in ts
   asked_in (replied asked reply ∷ ts) = asked ∷ asked_in ts
 
   abbrev pub replies_in : List (Turn S C F) → List (ReplyOf C F)
   replies_in [] = []
-  replies_in (refused response ∷ ts) = replies_in ts
+  replies_in (refused why ∷ ts) = replies_in ts
   replies_in (replied asked reply ∷ ts) = reply ∷ replies_in ts
 
 -- ---- how many requests are answered

@@ -1,4 +1,4 @@
--- The responses to what the site replies, and to faulty messages.
+-- The responses to what the site replies, to requests that ask nothing of it, and to faulty messages.
 use Rattle.std.specs.Prelude.{ℕ, codes, List, [], ◌∷◌, ◌++◌, Some, None}
 use Rattle.std.specs.Fmt.{decimal}
 use Rattle.site_core.specs.Asked.{Asked, compile, plain}
@@ -8,7 +8,20 @@ use Rattle.http_wire.specs.declared.request.H.{H}
 use Rattle.http_wire.specs.declared.request.H.TheVariants as h
 use Rattle.http_wire.specs.declared.response.HttpResponse.{HttpResponse}
 use Rattle.http_wire.specs.Responses.{response_text}
-use Rattle.site_serve.specs.Requests.{says}
+use Rattle.site_serve.specs.declared.refusal.Refusal.{Refusal}
+use Rattle.site_serve.specs.declared.refusal.Refusal.TheVariants as why
+
+-- with a body of one line
+abbrev pub says : ℕ → List ℕ → HttpResponse
+says status line = record { status = status; entry = None; k = None; body = line ++ 10 ∷ [] }
+
+abbrev pub refusal_response : Refusal → HttpResponse
+refusal_response why.Path = says 404 (codes "path")
+refusal_response why.Method = says 405 (codes "method")
+refusal_response why.Seen = says 400 (codes "bad seen")
+refusal_response why.Facts = says 400 (codes "bad facts")
+refusal_response why.Site = says 400 (codes "bad site")
+refusal_response why.Report = says 400 (codes "bad report")
 
 -- how many entries the request says that its sender has seen
 abbrev pub seen_of : {S : Type 0} → Asked S → ℕ
@@ -17,15 +30,13 @@ seen_of (plain what) = 0
 
 -- the request came to this entry
 abbrev pub names_entry : ℕ → HttpResponse
-names_entry entry =
-    record { status = 200; entry = Some entry; k = None; body = (codes "entry " ++ decimal entry) ++ 10 ∷ [] }
+names_entry entry = record (says 200 (codes "entry " ++ decimal entry)) { entry = Some entry }
 
 -- by the texts of catalogs and faults
 module _ {C F : Type 0} (catalog : C → List ℕ) (fault : F → List ℕ) where
   abbrev pub reply_response : ℕ → ReplyOf C F → HttpResponse
-  reply_response seen (a.Served entry k c) =
-      record { status = 200; entry = Some entry; k = Some k; body = catalog c ++ 10 ∷ [] }
-  reply_response seen (a.Refused k f) = record { status = 422; entry = None; k = Some k; body = fault f ++ 10 ∷ [] }
+  reply_response seen (a.Served entry k c) = record (says 200 (catalog c)) { entry = Some entry; k = Some k }
+  reply_response seen (a.Refused k f) = record (says 422 (fault f)) { k = Some k }
   reply_response seen (a.UnknownNode k) = says 404 (codes "unknown node")
   reply_response seen (a.SeenAhead n) = says 409 (codes "seen " ++ decimal seen ++ codes " length " ++ decimal n)
   reply_response seen (a.HistoryFull n) = says 503 (codes "full " ++ decimal n)

@@ -1,9 +1,10 @@
 -- What requests ask of a site, and how those are refused that ask nothing.
-use Rattle.std.specs.Prelude.{◌≡◌, ℕ, ◌==◌, if◌then◌else◌, nat_eq, codes, List, [], ◌∷◌, ◌++◌, Option, Some, None, option_map, option_and_then, Result, Ok, Err}
+use Rattle.std.specs.Prelude.{ℕ, ◌==◌, if◌then◌else◌, nat_eq, codes, List, [], ◌∷◌, Option, Some, None, option_map, option_and_then, Result, Ok, Err}
 use Rattle.std.specs.Option.{ok_or}
 use Rattle.std.specs.Str.{is_utf8}
 use Rattle.std.specs.Cmp.Lexicographic.{pointwise}
 use Rattle.serde_json.specs.Read.{read}
+use Rattle.pp_values.specs.Answers.{and_then}
 use Rattle.pp_values.specs.Datum.{Datum}
 use Rattle.res_core.specs.Asked.{Wanted}
 use Rattle.agent_machine.specs.declared.report.Report.{Report}
@@ -13,22 +14,15 @@ use Rattle.site_core.specs.Asked.{Asked, compile, plain, filed}
 use Rattle.site_core.specs.declared.plain.Plain.TheVariants as ask
 use Rattle.http_wire.specs.Fields.{number}
 use Rattle.http_wire.specs.declared.request.HttpRequest.{HttpRequest}
-use Rattle.http_wire.specs.declared.response.HttpResponse.{HttpResponse}
 use Rattle.site_serve.specs.Endpoints.{endpoint_of, method_of}
 use Rattle.site_serve.specs.declared.endpoint.Endpoint.{Endpoint}
 use Rattle.site_serve.specs.declared.endpoint.Endpoint.TheVariants as at
+use Rattle.site_serve.specs.declared.refusal.Refusal.{Refusal}
+use Rattle.site_serve.specs.declared.refusal.Refusal.TheVariants as why
 
--- a response of one line
-abbrev pub says : ℕ → List ℕ → HttpResponse
-says status line = record { status = status; entry = None; k = None; body = line ++ 10 ∷ [] }
-
--- what is asked, or the response to a request that asks nothing
+-- what is asked, or why nothing is
 abbrev pub Reading : Type 0 → Type 0
-Reading A = Result A HttpResponse
-
-abbrev pub and_then : {A B : Type 0} → (A → Reading B) → Reading A → Reading B
-and_then f (Ok a) = f a
-and_then f (Err refusal) = Err refusal
+Reading A = Result A Refusal
 
 -- ---- how many entries the sender has seen
 
@@ -41,7 +35,7 @@ seen_number (b ∷ c ∷ digits) = if b == 48 then None else number (b ∷ c ∷
 -- none where the field is absent
 abbrev pub seen_asked : Option (List ℕ) → Reading ℕ
 seen_asked None = Ok 0
-seen_asked (Some value) = ok_or (seen_number value) (says 400 (codes "bad seen"))
+seen_asked (Some value) = ok_or (seen_number value) why.Seen
 
 -- ---- the facts of a node
 
@@ -52,12 +46,12 @@ facts_said bytes = if is_utf8 bytes then option_and_then given_facts (read bytes
 -- an empty body gives no facts
 abbrev pub facts_asked : List ℕ → Reading (Option Datum)
 facts_asked [] = Ok None
-facts_asked (b ∷ bytes) = ok_or (option_map Some (facts_said (b ∷ bytes))) (says 400 (codes "bad facts"))
+facts_asked (b ∷ bytes) = ok_or (option_map Some (facts_said (b ∷ bytes))) why.Facts
 
 abbrev pub compile_asked : {S : Type 0} → List ℕ → Option (List ℕ) → List ℕ → Reading (Asked S)
 compile_asked node value body =
-    and_then (λ seen. and_then (λ facts. Ok (compile (record { node = node; facts = facts; seen = seen })))
-    (facts_asked body)) (seen_asked value)
+    and_then (seen_asked value) (λ seen. and_then (facts_asked body)
+    (λ facts. Ok (compile (record { node = node; facts = facts; seen = seen }))))
 
 -- ---- reports
 
@@ -67,14 +61,13 @@ if_of node report = if pointwise nat_eq report.node node then Some report else N
 
 abbrev pub report_asked : {S : Type 0} → List ℕ → List ℕ → Reading (Asked S)
 report_asked node body =
-    ok_or (option_map (λ report. plain (filed report)) (option_and_then (if_of node) (report_said body)))
-    (says 400 (codes "bad report"))
+    ok_or (option_map (λ report. plain (filed report)) (option_and_then (if_of node) (report_said body))) why.Report
 
 -- ---- requests
 
 module _ {S : Type 0} (said_site : List ℕ → Option S) where
   abbrev pub site_asked : List ℕ → Reading (Asked S)
-  site_asked body = ok_or (option_map (λ site. plain (ask.Deploy site)) (said_site body)) (says 400 (codes "bad site"))
+  site_asked body = ok_or (option_map (λ site. plain (ask.Deploy site)) (said_site body)) why.Site
 
   abbrev pub asked_at : Endpoint → HttpRequest → Reading (Asked S)
   asked_at (at.Catalog node) r = compile_asked node r.seen r.body
@@ -84,9 +77,9 @@ module _ {S : Type 0} (said_site : List ℕ → Option S) where
 
   -- the path is looked at first, then the method
   abbrev pub asked_with : Option Endpoint → HttpRequest → Reading (Asked S)
-  asked_with None r = Err (says 404 (codes "path"))
+  asked_with None r = Err why.Path
   asked_with (Some endpoint) r =
-      if pointwise nat_eq r.method (method_of endpoint) then asked_at endpoint r else Err (says 405 (codes "method"))
+      if pointwise nat_eq r.method (method_of endpoint) then asked_at endpoint r else Err why.Method
 
   abbrev pub asked_by : HttpRequest → Reading (Asked S)
   asked_by r = asked_with (endpoint_of r.path) r

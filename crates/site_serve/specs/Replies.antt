@@ -28,6 +28,20 @@ abbrev pub seen_of : {S : Type 0} → Asked S → ℕ
 seen_of (compile w) = w.seen
 seen_of (plain what) = 0
 
+-- ---- replies
+
+abbrev pub served_response : ℕ → ℕ → List ℕ → HttpResponse
+served_response entry k catalog = record (says 200 catalog) { entry = Some entry; k = Some k }
+
+abbrev pub refused_response : ℕ → List ℕ → HttpResponse
+refused_response k fault = record (says 422 fault) { k = Some k }
+
+abbrev pub full_response : ℕ → HttpResponse
+full_response length = says 503 (codes "full " ++ decimal length)
+
+abbrev pub ahead_response : ℕ → ℕ → HttpResponse
+ahead_response seen length = says 409 (codes "seen " ++ (decimal seen ++ (codes " length " ++ decimal length)))
+
 -- the request came to this entry
 abbrev pub names_entry : ℕ → HttpResponse
 names_entry entry = record (says 200 (codes "entry " ++ decimal entry)) { entry = Some entry }
@@ -35,15 +49,17 @@ names_entry entry = record (says 200 (codes "entry " ++ decimal entry)) { entry 
 -- by the texts of catalogs and faults
 module _ {C F : Type 0} (catalog : C → List ℕ) (fault : F → List ℕ) where
   abbrev pub reply_response : ℕ → ReplyOf C F → HttpResponse
-  reply_response seen (a.Served entry k c) = record (says 200 (catalog c)) { entry = Some entry; k = Some k }
-  reply_response seen (a.Refused k f) = record (says 422 (fault f)) { k = Some k }
+  reply_response seen (a.Served entry k c) = served_response entry k (catalog c)
+  reply_response seen (a.Refused k f) = refused_response k (fault f)
   reply_response seen (a.UnknownNode k) = says 404 (codes "unknown node")
-  reply_response seen (a.SeenAhead n) = says 409 (codes "seen " ++ decimal seen ++ codes " length " ++ decimal n)
-  reply_response seen (a.HistoryFull n) = says 503 (codes "full " ++ decimal n)
+  reply_response seen (a.SeenAhead length) = ahead_response seen length
+  reply_response seen (a.HistoryFull length) = full_response length
   reply_response seen (a.Deactivated entry) = names_entry entry
   reply_response seen (a.Deployed entry) = names_entry entry
   reply_response seen (a.Reported entry) = names_entry entry
   reply_response seen a.Memory = says 503 (codes "memory")
+
+-- ---- faulty messages
 
 -- how a faulty message is answered; one that the end of the input cuts off is not
 abbrev pub refusal_text : H → List ℕ

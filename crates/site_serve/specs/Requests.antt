@@ -48,32 +48,29 @@ abbrev pub facts_asked : List ℕ → Reading (Option Datum)
 facts_asked [] = Ok None
 facts_asked (b ∷ bytes) = ok_or (option_map Some (facts_said (b ∷ bytes))) why.Facts
 
-abbrev pub compile_asked : {S : Type 0} → List ℕ → Option (List ℕ) → List ℕ → Reading (Asked S)
-compile_asked node value body =
-    and_then (seen_asked value) (λ seen. and_then (facts_asked body)
-    (λ facts. Ok (compile (record { node = node; facts = facts; seen = seen }))))
+-- ---- what each path takes
 
--- ---- reports
+abbrev pub wanted_by : List ℕ → Option (List ℕ) → List ℕ → Reading Wanted
+wanted_by node value body =
+    and_then (seen_asked value) (λ seen. and_then (facts_asked body)
+    (λ facts. Ok (record { node = node; facts = facts; seen = seen })))
 
 -- a report of this node
 abbrev pub if_of : List ℕ → Report → Option Report
 if_of node report = if pointwise nat_eq report.node node then Some report else None
 
-abbrev pub report_asked : {S : Type 0} → List ℕ → List ℕ → Reading (Asked S)
-report_asked node body =
-    ok_or (option_map (λ report. plain (filed report)) (option_and_then (if_of node) (report_said body))) why.Report
-
--- ---- requests
+abbrev pub report_asked : List ℕ → List ℕ → Reading Report
+report_asked node body = ok_or (option_and_then (if_of node) (report_said body)) why.Report
 
 module _ {S : Type 0} (said_site : List ℕ → Option S) where
-  abbrev pub site_asked : List ℕ → Reading (Asked S)
-  site_asked body = ok_or (option_map (λ site. plain (ask.Deploy site)) (said_site body)) why.Site
+  abbrev pub site_asked : List ℕ → Reading S
+  site_asked body = ok_or (said_site body) why.Site
 
   abbrev pub asked_at : Endpoint → HttpRequest → Reading (Asked S)
-  asked_at (at.Catalog node) r = compile_asked node r.seen r.body
+  asked_at (at.Catalog node) r = and_then (wanted_by node r.seen r.body) (λ wanted. Ok (compile wanted))
   asked_at (at.Node node) r = Ok (plain (ask.Deactivate node))
-  asked_at at.Site r = site_asked r.body
-  asked_at (at.Report node) r = report_asked node r.body
+  asked_at (at.Report node) r = and_then (report_asked node r.body) (λ report. Ok (plain (filed report)))
+  asked_at at.Site r = and_then (site_asked r.body) (λ site. Ok (plain (ask.Deploy site)))
 
   -- the path is looked at first, then the method
   abbrev pub asked_with : Option Endpoint → HttpRequest → Reading (Asked S)

@@ -1,2 +1,4 @@
 pub mod Replying
 pub mod Talking
+mod Routing
+mod Asking

@@ -18,7 +18,7 @@ use Rattle.site_core.specs.Asked.{Asked, compile, plain, filed}
 use Rattle.site_core.specs.declared.plain.Plain.TheVariants as ask
 use Rattle.http_wire.specs.declared.request.HttpRequest.{HttpRequest}
 use Rattle.site_serve.specs.Endpoints.{endpoint_of, method_of}
-use Rattle.site_serve.specs.Requests.{Reading, seen_asked, facts_said, facts_asked, wanted_by, report_asked, site_asked, asked_at, asked_with, asked_by}
+use Rattle.site_serve.specs.Requests.{Reading, seen_asked, facts_said, facts_asked, wanted_by, site_asked, AsksAt, AsksBy, AsksOf, Asks}
 use Rattle.site_serve.specs.Steps.{gives_facts}
 use Rattle.site_serve.specs.declared.endpoint.Endpoint.{Endpoint}
 use Rattle.site_serve.specs.declared.endpoint.Endpoint.TheVariants as at
@@ -60,30 +60,30 @@ wanted_facts node value body w is =
     subst (λ (v : Wanted). IsTrue (has_facts v.facts)) e (asked_facts body facts.0 facts.1)
 
 module _ {S : Type 0} (said_site : List ℕ → Option S) where
-  at_facts : (endpoint : Endpoint) (r : HttpRequest) (a : Asked S) → asked_at said_site endpoint r ≡ Ok a →
+  at_facts : (endpoint : Endpoint) (r : HttpRequest) (a : Asked S) → AsksAt said_site endpoint r (Ok a) →
       IsTrue (gives_facts a)
   at_facts (at.Catalog node) r a is =
-      let wanted = stepped (wanted_by node r.seen r.body) _ a is in
+      let wanted = stepped (wanted_by node r.seen r.body) _ a (sym is) in
       let e : compile wanted.0 ≡ a = cc (wanted.2) in
       subst (λ x. IsTrue (gives_facts x)) e (wanted_facts node r.seen r.body wanted.0 wanted.1)
   at_facts (at.Node node) r a is =
       let e : plain (ask.Deactivate node) ≡ a = cc (is) in subst (λ x. IsTrue (gives_facts x)) e refl
-  at_facts (at.Report node) r a is =
-      let report = stepped (report_asked node r.body) _ a is in
+  at_facts (at.Report node) r a (read, meant, is) =
+      let report = stepped read _ a (sym is) in
       let e : plain (filed report.0) ≡ a = cc (report.2) in subst (λ x. IsTrue (gives_facts x)) e refl
   at_facts at.Site r a is =
-      let site = stepped (site_asked said_site r.body) _ a is in
+      let site = stepped (site_asked said_site r.body) _ a (sym is) in
       let e : plain (ask.Deploy site.0) ≡ a = cc (site.2) in subst (λ x. IsTrue (gives_facts x)) e refl
 
-  tested_facts : (c : Bool) (endpoint : Endpoint) (r : HttpRequest) (a : Asked S) →
-      (if c then asked_at said_site endpoint r else Err why.Method) ≡ Ok a → IsTrue (gives_facts a)
-  tested_facts true endpoint r a is = at_facts endpoint r a is
-  tested_facts false endpoint r a is = absurd (cc is)
+  by_facts : (c : Bool) (endpoint : Endpoint) (r : HttpRequest) (a : Asked S) →
+      AsksBy said_site c endpoint r (Ok a) → IsTrue (gives_facts a)
+  by_facts true endpoint r a is = at_facts endpoint r a is
+  by_facts false endpoint r a is = absurd (cc is)
 
-  with_facts : (o : Option Endpoint) (r : HttpRequest) (a : Asked S) → asked_with said_site o r ≡ Ok a →
+  of_facts : (o : Option Endpoint) (r : HttpRequest) (a : Asked S) → AsksOf said_site o r (Ok a) →
       IsTrue (gives_facts a)
-  with_facts None r a is = absurd (cc is)
-  with_facts (Some endpoint) r a is = tested_facts _ endpoint r a is
+  of_facts None r a is = absurd (cc is)
+  of_facts (Some endpoint) r a is = by_facts (pointwise nat_eq r.method (method_of endpoint)) endpoint r a is
 
-  pub gives : (r : HttpRequest) (a : Asked S) → asked_by said_site r ≡ Ok a → IsTrue (gives_facts a)
-  gives r a is = with_facts (endpoint_of r.path) r a is
+  pub gives : (r : HttpRequest) (a : Asked S) → Asks said_site r (Ok a) → IsTrue (gives_facts a)
+  gives r a is = of_facts (endpoint_of r.path) r a is

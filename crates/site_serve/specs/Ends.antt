@@ -14,7 +14,7 @@ use Rattle.http_wire.specs.Responses.{response_text}
 use Rattle.http_wire.specs.declared.request.H.{H}
 use Rattle.http_wire.specs.declared.request.HttpRequest.{HttpRequest}
 use Rattle.http_wire.specs.declared.response.HttpResponse.{HttpResponse}
-use Rattle.site_serve.specs.Requests.{Reading, asked_by}
+use Rattle.site_serve.specs.Requests.{Reading, Asks}
 use Rattle.site_serve.specs.Replies.{refusal_response, seen_of, reply_response, refusal_text}
 use Rattle.site_serve.specs.declared.conn_end.ConnEnd.{ConnEnd}
 use Rattle.site_serve.specs.declared.conn_end.ConnEnd.TheVariants as end
@@ -29,19 +29,19 @@ pub data Turn (S C F : Type 0) : Type 0 where
   replied : Asked S → ReplyOf C F → Turn S C F
 
 -- what requests ask of a site, and the texts of its catalogs and faults
-pub record Dialect (S C F : Type 0) : Type 0 where
-  pub asks : HttpRequest → Reading (Asked S)
+pub record Dialect (S C F : Type 0) : Type 1 where
+  pub asks : HttpRequest → Reading (Asked S) → Type 0
   pub catalog : C → List ℕ
   pub fault : F → List ℕ
 
 -- that of a language, by the sites that bytes say and by its texts
 abbrev pub dialect : {S C F : Type 0} → (List ℕ → Option S) → (C → List ℕ) → (F → List ℕ) → Dialect S C F
-dialect said_site catalog fault = record { asks = asked_by said_site; catalog = catalog; fault = fault }
+dialect said_site catalog fault = record { asks = Asks said_site; catalog = catalog; fault = fault }
 
 module _ {S C F : Type 0} where
-  abbrev pub IsTurn : (HttpRequest → Reading (Asked S)) → HttpRequest → Turn S C F → Type 0
-  IsTurn asks r (refused why) = asks r ≡ Err why
-  IsTurn asks r (replied asked reply) = asks r ≡ Ok asked
+  abbrev pub IsTurn : (HttpRequest → Reading (Asked S) → Type 0) → HttpRequest → Turn S C F → Type 0
+  IsTurn asks r (refused why) = asks r (Err why)
+  IsTurn asks r (replied asked reply) = asks r (Ok asked)
 
   abbrev pub turn_response : Dialect S C F → Turn S C F → HttpResponse
   turn_response d (refused why) = refusal_response why

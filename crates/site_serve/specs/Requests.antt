@@ -1,14 +1,14 @@
 -- What requests ask of a site, and how those are refused that ask nothing.
-use Rattle.std.specs.Prelude.{ℕ, ◌==◌, if◌then◌else◌, nat_eq, codes, List, [], ◌∷◌, Option, Some, None, option_map, option_and_then, Result, Ok, Err}
+use Rattle.std.specs.Prelude.{◌≡◌, ℕ, Bool, true, false, ◌==◌, if◌then◌else◌, nat_eq, codes, List, [], ◌∷◌, Option, Some, None, option_map, option_and_then, Result, Ok, Err}
 use Rattle.std.specs.Option.{ok_or}
-use Rattle.std.specs.Str.{is_utf8}
+use Rattle.std.specs.Str.{is_utf8, IsUtf8}
 use Rattle.std.specs.Cmp.Lexicographic.{pointwise}
 use Rattle.serde_json.specs.Read.{read}
 use Rattle.pp_values.specs.Answers.{and_then}
 use Rattle.pp_values.specs.Datum.{Datum}
 use Rattle.res_core.specs.Asked.{Wanted}
 use Rattle.agent_machine.specs.declared.report.Report.{Report}
-use Rattle.agent_docs.specs.ReportsSaid.{report_said}
+use Rattle.agent_docs.specs.ReportText.{IsReportText}
 use Rattle.site_bundle.specs.GivenFacts.{given_facts}
 use Rattle.site_core.specs.Asked.{Asked, compile, plain, filed}
 use Rattle.site_core.specs.declared.plain.Plain.TheVariants as ask
@@ -55,28 +55,35 @@ wanted_by node value body =
     and_then (seen_asked value) (λ seen. and_then (facts_asked body)
     (λ facts. Ok (record { node = node; facts = facts; seen = seen })))
 
--- a report of this node
-abbrev pub if_of : List ℕ → Report → Option Report
-if_of node report = if pointwise nat_eq report.node node then Some report else None
+-- the bytes are the text of this report, and it is one of this node
+abbrev pub IsReportOf : List ℕ → List ℕ → Report → Type 0
+IsReportOf node body report = IsUtf8 body × IsReportText report body × (report.node ≡ node)
 
-abbrev pub report_asked : List ℕ → List ℕ → Reading Report
-report_asked node body = ok_or (option_and_then (if_of node) (report_said body)) why.Report
+abbrev pub ReportAsked : List ℕ → List ℕ → Reading Report → Type 0
+ReportAsked node body (Ok report) = IsReportOf node body report
+ReportAsked node body (Err refusal) = (refusal ≡ why.Report) × ((report : Report) → IsReportOf node body report → ⊥)
 
 module _ {S : Type 0} (said_site : List ℕ → Option S) where
   abbrev pub site_asked : List ℕ → Reading S
   site_asked body = ok_or (said_site body) why.Site
 
-  abbrev pub asked_at : Endpoint → HttpRequest → Reading (Asked S)
-  asked_at (at.Catalog node) r = and_then (wanted_by node r.seen r.body) (λ wanted. Ok (compile wanted))
-  asked_at (at.Node node) r = Ok (plain (ask.Deactivate node))
-  asked_at (at.Report node) r = and_then (report_asked node r.body) (λ report. Ok (plain (filed report)))
-  asked_at at.Site r = and_then (site_asked r.body) (λ site. Ok (plain (ask.Deploy site)))
+  -- what a request asks whose path and method fit
+  abbrev pub AsksAt : Endpoint → HttpRequest → Reading (Asked S) → Type 0
+  AsksAt (at.Catalog node) r result = result ≡ and_then (wanted_by node r.seen r.body) (λ wanted. Ok (compile wanted))
+  AsksAt (at.Node node) r result = result ≡ Ok (plain (ask.Deactivate node))
+  AsksAt (at.Report node) r result =
+      (read : Reading Report) × ReportAsked node r.body read
+      × (result ≡ and_then read (λ report. Ok (plain (filed report))))
+  AsksAt at.Site r result = result ≡ and_then (site_asked r.body) (λ site. Ok (plain (ask.Deploy site)))
 
-  -- the path is looked at first, then the method
-  abbrev pub asked_with : Option Endpoint → HttpRequest → Reading (Asked S)
-  asked_with None r = Err why.Path
-  asked_with (Some endpoint) r =
-      if pointwise nat_eq r.method (method_of endpoint) then asked_at endpoint r else Err why.Method
+  abbrev pub AsksBy : Bool → Endpoint → HttpRequest → Reading (Asked S) → Type 0
+  AsksBy true endpoint r result = AsksAt endpoint r result
+  AsksBy false endpoint r result = result ≡ Err why.Method
 
-  abbrev pub asked_by : HttpRequest → Reading (Asked S)
-  asked_by r = asked_with (endpoint_of r.path) r
+  abbrev pub AsksOf : Option Endpoint → HttpRequest → Reading (Asked S) → Type 0
+  AsksOf None r result = result ≡ Err why.Path
+  AsksOf (Some endpoint) r result = AsksBy (pointwise nat_eq r.method (method_of endpoint)) endpoint r result
+
+  -- What the request asks, or why it asks nothing: the path is looked at first, then the method.
+  abbrev pub Asks : HttpRequest → Reading (Asked S) → Type 0
+  Asks r result = AsksOf (endpoint_of r.path) r result

@@ -18,6 +18,7 @@ use Rattle.http_wire.specs.declared.request.H.TheVariants as h
 use Rattle.http_wire.specs.declared.request.HttpRequest.{HttpRequest}
 use Rattle.http_wire.specs.declared.response.HttpResponse.{HttpResponse}
 use Rattle.site_serve.specs.Endpoints.{node_behind, site_at}
+use Rattle.site_serve.specs.Requests.{Reading}
 use Rattle.site_serve.specs.Replies.{says, seen_of, reply_response, refusal_text}
 use Rattle.site_serve.specs.Ends.{Turn, refused, replied, Dialect, IsTurn, turn_response, HasReplied, HasTalked, AllOpen}
 use Rattle.site_serve.specs.declared.ask_stop.AskStop.{AskStop}
@@ -28,7 +29,6 @@ use Rattle.site_serve.specs.declared.conn_end.ConnEnd.{ConnEnd}
 use Rattle.site_serve.specs.declared.conn_end.ConnEnd.TheVariants as end
 use Rattle.site_serve.specs.declared.endpoint.Endpoint.{Endpoint}
 use Rattle.site_serve.specs.declared.endpoint.Endpoint.TheVariants as at
-use Rattle.site_serve.specs.declared.refusal.Refusal.{Refusal}
 use Rattle.site_serve.specs.declared.routes.Route.{Route}
 use Rattle.site_serve.specs.declared.routes.Route.TheVariants as route
 
@@ -70,18 +70,15 @@ asked (call.Deactivate node) = plain (ask.Deactivate node)
 asked (call.Deploy site) = plain (ask.Deploy site)
 asked (call.File report) = plain (filed report)
 
--- what is meant is this refusal, unless memory ran out
-abbrev pub IsRefused : {A : Type 0} → AskStop → Result A Refusal → Type 0
-IsRefused (stop.Refused why) meant = meant ≡ Err why
-IsRefused stop.Memory meant = ⊤
+-- what was read is as it is meant, where a value is seen as `shown` says, unless memory ran out
+abbrev pub ReadsBy : {A B : Type 0} → (A → B) → Result A AskStop → (Reading B → Type 0) → Type 0
+ReadsBy shown (Ok x) Meant = Meant (Ok (shown x))
+ReadsBy shown (Err (stop.Refused why)) Meant = Meant (Err why)
+ReadsBy shown (Err stop.Memory) Meant = ⊤
 
--- exactly what is meant, where a value is seen as `shown` says, unless memory ran out
-abbrev pub ReadsAs : {A B : Type 0} → (A → B) → Result A AskStop → Result B Refusal → Type 0
-ReadsAs shown (Ok x) meant = meant ≡ Ok (shown x)
-ReadsAs shown (Err s) meant = IsRefused s meant
-
-abbrev pub Reads : {A : Type 0} → Result A AskStop → Result A Refusal → Type 0
-Reads result meant = ReadsAs (λ x. x) result meant
+-- exactly what is meant
+abbrev pub ReadsAs : {A B : Type 0} → (A → B) → Result A AskStop → Reading B → Type 0
+ReadsAs shown result meant = ReadsBy shown result (λ r. r ≡ meant)
 
 -- facts that are sent are facts
 abbrev pub gives_facts : {S : Type 0} → Asked S → Bool

@@ -2,8 +2,8 @@
 ghost use Rattle.std.specs.Prelude.{◌≡◌, option_map, IfOk};
 ghost use Rattle.pp_values.specs.Views.{view};
 ghost use Rattle.res_core.specs.RequestViews.{wanted};
-ghost use Rattle.site_serve.specs.Requests.{seen_number, seen_asked, facts_said, facts_asked, wanted_by, report_asked, site_asked, asked_at, asked_by};
-ghost use Rattle.site_serve.specs.Steps.{asked, Reads, ReadsAs};
+ghost use Rattle.site_serve.specs.Requests.{seen_number, seen_asked, facts_said, facts_asked, wanted_by, ReportAsked, site_asked, AsksAt, Asks};
+ghost use Rattle.site_serve.specs.Steps.{asked, ReadsBy, ReadsAs};
 
 use crate::ask_stop::AskStop;
 use crate::call::Call;
@@ -28,7 +28,7 @@ pub(crate) fn asked<L: Language>(
     routes: &Routes,
     request: &HttpRequest,
 ) -> Result<Call<L::Site>, AskStop>
-    ensures { ReadsAs asked result (asked_by L.said_site request.now) }
+    ensures { ReadsBy asked result (Asks L.said_site request.now) }
 {
     let Some(endpoint) = routes.endpoint(alloc, request.path.as_str())? else {
         return Err(AskStop::Refused(Refusal::Path));
@@ -45,7 +45,7 @@ fn asked_at<L: Language>(
     endpoint: Endpoint,
     request: &HttpRequest,
 ) -> Result<Call<L::Site>, AskStop>
-    ensures { ReadsAs asked result (asked_at L.said_site endpoint request.now) }
+    ensures { ReadsBy asked result (AsksAt L.said_site endpoint request.now) }
 {
     match endpoint {
         Endpoint::Catalog(node) => {
@@ -79,7 +79,7 @@ fn wanted(
 
 /// How many entries the sender has seen.
 fn seen_asked(value: &Option<Text>) -> Result<u32, AskStop>
-    ensures { Reads result (seen_asked value.now) }
+    ensures { ReadsAs (λ n. n) result (seen_asked value.now) }
 {
     let Some(value) = value else {
         return Ok(0);
@@ -125,7 +125,7 @@ fn facts_said(alloc: Global, body: &[u8]) -> Result<Option<Value>, Memory>
 }
 
 fn site_of<L: Language>(alloc: Global, language: &L, body: &Bytes) -> Result<L::Site, AskStop>
-    ensures { Reads result (site_asked L.said_site body.now) }
+    ensures { ReadsAs (λ site. site) result (site_asked L.said_site body.now) }
 {
     match language.site_of(alloc, body.as_slice()) {
         Ok(site) => Ok(site),
@@ -136,9 +136,12 @@ fn site_of<L: Language>(alloc: Global, language: &L, body: &Bytes) -> Result<L::
 
 /// The report of this node that is sent.
 fn report_of(alloc: Global, node: &Text, body: &Bytes) -> Result<Report, AskStop>
-    ensures { Reads result (report_asked node.now body.now) }
+    ensures { ReadsBy (λ report. report) result (ReportAsked node.now body.now) }
 {
-    match read_report(alloc, body.as_slice()) {
+    let Ok(text) = str::from_utf8(body.as_slice()) else {
+        return Err(AskStop::Refused(Refusal::Report));
+    };
+    match read_report(alloc, text) {
         Ok(report) if report.node.is(node.as_str()) => Ok(report),
         Ok(_) => Err(AskStop::Refused(Refusal::Report)),
         Err(DocStop::Bad(_)) => Err(AskStop::Refused(Refusal::Report)),

@@ -31,7 +31,7 @@ seen_of (plain what) = 0
 -- ---- replies
 
 abbrev pub served_response : ℕ → ℕ → List ℕ → HttpResponse
-served_response entry k catalog = record (says 200 catalog) { entry = Some entry; k = Some k }
+served_response entry k catalog = record (record (says 200 catalog) { entry = Some entry }) { k = Some k }
 
 abbrev pub refused_response : ℕ → List ℕ → HttpResponse
 refused_response k fault = record (says 422 fault) { k = Some k }

@@ -1,5 +1,5 @@
 //! Responses.
-ghost use Rattle.std.specs.Prelude.{◌≡◌, ◌++◌, ◌∷◌, [], IfOk, string_bytes};
+ghost use Rattle.std.specs.Prelude.{◌≡◌, Some, IfOk, string_bytes};
 ghost use Rattle.site_serve.specs.Replies.{says, refusal_response, served_response, refused_response, full_response, ahead_response, names_entry, reply_response};
 ghost use Rattle.site_serve.specs.Steps.{faulty_response};
 
@@ -82,28 +82,52 @@ pub(crate) fn reply_response<L: Language>(
     }
 }
 
+fn with_entry(response: HttpResponse, entry: u32) -> HttpResponse
+    ensures { result ≡ record response { entry = Some entry } }
+{
+    let HttpResponse {
+        status,
+        entry: _,
+        k,
+        body,
+    } = response;
+    HttpResponse {
+        status,
+        entry: Some(entry),
+        k,
+        body,
+    }
+}
+
+fn with_k(response: HttpResponse, k: u32) -> HttpResponse
+    ensures { result ≡ record response { k = Some k } }
+{
+    let HttpResponse {
+        status,
+        entry,
+        k: _,
+        body,
+    } = response;
+    HttpResponse {
+        status,
+        entry,
+        k: Some(k),
+        body,
+    }
+}
+
 fn served(alloc: Global, entry: u32, k: u32, catalog: Text) -> Result<HttpResponse, Memory>
     ensures { IfOk result (λ response. response ≡ served_response entry k catalog) }
 {
-    let line = says(alloc, StatusCode::OK, catalog.into_string(alloc)?)?;
-    Ok(HttpResponse {
-        status: line.status,
-        entry: Some(entry),
-        k: Some(k),
-        body: line.body,
-    })
+    let response = says(alloc, StatusCode::OK, catalog.into_string(alloc)?)?;
+    Ok(with_k(with_entry(response, entry), k))
 }
 
 fn refused(alloc: Global, k: u32, fault: Text) -> Result<HttpResponse, Memory>
     ensures { IfOk result (λ response. response ≡ refused_response k fault) }
 {
-    let line = says(alloc, StatusCode::UNPROCESSABLE_ENTITY, fault.into_string(alloc)?)?;
-    Ok(HttpResponse {
-        status: line.status,
-        entry: None,
-        k: Some(k),
-        body: line.body,
-    })
+    let response = says(alloc, StatusCode::UNPROCESSABLE_ENTITY, fault.into_string(alloc)?)?;
+    Ok(with_k(response, k))
 }
 
 fn full(alloc: Global, length: u32) -> Result<HttpResponse, Memory>
@@ -121,11 +145,6 @@ fn ahead(alloc: Global, seen: u32, length: u32) -> Result<HttpResponse, Memory>
 fn entry_named(alloc: Global, entry: u32) -> Result<HttpResponse, Memory>
     ensures { IfOk result (λ response. response ≡ names_entry entry) }
 {
-    let line = says(alloc, StatusCode::OK, format!(in alloc; "entry {entry}")?)?;
-    Ok(HttpResponse {
-        status: line.status,
-        entry: Some(entry),
-        k: None,
-        body: line.body,
-    })
+    let response = says(alloc, StatusCode::OK, format!(in alloc; "entry {entry}")?)?;
+    Ok(with_entry(response, entry))
 }

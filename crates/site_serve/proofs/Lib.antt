@@ -1,4 +1,5 @@
-pub mod Replying
+mod Replying
 pub mod Talking
 mod Routing
 mod Asking
+mod Examples

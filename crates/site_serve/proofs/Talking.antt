@@ -93,43 +93,16 @@ module _ {S C F : Type 0} where
       ap (λ l. response_text (turn_response d u) ++ l) (texts_push d ts t)
       ∙ sym (append_assoc (response_text (turn_response d u)) (texts_of d ts) (response_text (turn_response d t)))
 
--- ---- another word for the replies
-
-module _ {S C F : Type 0} (d : Dialect S C F) (R Q : List (Asked S) → List (ReplyOf C F) → Type 0)
-    (as : (asked : List (Asked S)) (replies : List (ReplyOf C F)) → R asked replies → Q asked replies) where
-  talked_as : (bytes rest due : List ℕ) (rs : List HttpRequest) → HasTalked d R bytes rest due rs →
-      HasTalked d Q bytes rest due rs
-  talked_as bytes rest due rs talk = record {
-    begins = talk.begins;
-    turns = talk.turns;
-    each = talk.each;
-    replies = as (asked_in talk.turns) (replies_in talk.turns) talk.replies;
-    due_is = talk.due_is;
-  }
-
-  stopped_as : (before after : Stream) → HasStopped d R before after → HasStopped d Q before after
-  stopped_as before after is = record {
-    bytes = is.bytes;
-    rest = is.rest;
-    text = is.text;
-    due = is.due;
-    rs = is.rs;
-    talked = talked_as is.bytes is.rest is.due is.rs is.talked;
-    traded = is.traded;
-    taken = is.taken;
-    front = is.front;
-  }
-
-  -- What is known of the replies may be said otherwise.
-  pub ends_as : (e : ConnEnd) (before after : Stream) → Ends d R e before after → Ends d Q e before after
-  ends_as end.Closed before after (bytes, rest, text, rs, talk, traded, why) =
-      (bytes, rest, text, rs, talked_as bytes rest text rs talk, traded, why)
-  ends_as (end.Bad why offset) before after (bytes, rest, text, rs, talk, traded, going, refuses, place) =
-      (bytes, rest, text, rs, talked_as bytes rest text rs talk, traded, going, refuses, place)
-  ends_as end.ReadFault before after (bytes, rest, text, rs, talk, traded, going, open_, rose) =
-      (bytes, rest, text, rs, talked_as bytes rest text rs talk, traded, going, open_, rose)
-  ends_as end.WriteFault before after (stopped, rose) = (stopped_as before after stopped, rose)
-  ends_as end.Memory before after stopped = stopped_as before after stopped
+-- for callers: whatever the end, the site was asked something and replied so, perhaps nothing
+module _ {S C F : Type 0} (d : Dialect S C F) (R : List (Asked S) → List (ReplyOf C F) → Type 0) where
+  pub replied_by : (e : ConnEnd) (before after : Stream) → Ends d R e before after →
+      (asked : List (Asked S)) × (replies : List (ReplyOf C F)) × R asked replies
+  replied_by end.Closed before after x = (asked_in x.4.turns, replies_in x.4.turns, x.4.replies)
+  replied_by (end.Bad why offset) before after x = (asked_in x.4.turns, replies_in x.4.turns, x.4.replies)
+  replied_by end.ReadFault before after x = (asked_in x.4.turns, replies_in x.4.turns, x.4.replies)
+  replied_by end.WriteFault before after x =
+      (asked_in x.0.talked.turns, replies_in x.0.talked.turns, x.0.talked.replies)
+  replied_by end.Memory before after x = (asked_in x.talked.turns, replies_in x.talked.turns, x.talked.replies)
 
 -- ---- one request after another
 

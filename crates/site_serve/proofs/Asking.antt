@@ -63,16 +63,16 @@ module _ {S : Type 0} (said_site : List ℕ → Option S) where
   at_facts : (endpoint : Endpoint) (r : HttpRequest) (a : Asked S) → AsksAt said_site endpoint r (Ok a) →
       IsTrue (gives_facts a)
   at_facts (at.Catalog node) r a is =
-      let wanted = stepped (wanted_by node r.seen r.body) _ a (sym is) in
+      let wanted = stepped (wanted_by node r.seen r.body) _ a is in
       let e : compile wanted.0 ≡ a = cc (wanted.2) in
       subst (λ x. IsTrue (gives_facts x)) e (wanted_facts node r.seen r.body wanted.0 wanted.1)
   at_facts (at.Node node) r a is =
       let e : plain (ask.Deactivate node) ≡ a = cc (is) in subst (λ x. IsTrue (gives_facts x)) e refl
   at_facts (at.Report node) r a (read, meant, is) =
-      let report = stepped read _ a (sym is) in
+      let report = stepped read _ a is in
       let e : plain (filed report.0) ≡ a = cc (report.2) in subst (λ x. IsTrue (gives_facts x)) e refl
   at_facts at.Site r a is =
-      let site = stepped (site_asked said_site r.body) _ a (sym is) in
+      let site = stepped (site_asked said_site r.body) _ a is in
       let e : plain (ask.Deploy site.0) ≡ a = cc (site.2) in subst (λ x. IsTrue (gives_facts x)) e refl
 
   by_facts : (c : Bool) (endpoint : Endpoint) (r : HttpRequest) (a : Asked S) →

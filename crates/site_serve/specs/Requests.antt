@@ -55,6 +55,9 @@ wanted_by node value body =
     and_then (seen_asked value) (λ seen. and_then (facts_asked body)
     (λ facts. Ok (record { node = node; facts = facts; seen = seen })))
 
+abbrev pub site_asked : {S : Type 0} → (List ℕ → Option S) → List ℕ → Reading S
+site_asked said_site body = ok_or (said_site body) why.Site
+
 -- the bytes are the text of this report, and it is one of this node
 abbrev pub IsReportOf : List ℕ → List ℕ → Report → Type 0
 IsReportOf node body report = IsUtf8 body × IsReportText report body × (report.node ≡ node)
@@ -63,27 +66,35 @@ abbrev pub ReportAsked : List ℕ → List ℕ → Reading Report → Type 0
 ReportAsked node body (Ok report) = IsReportOf node body report
 ReportAsked node body (Err refusal) = (refusal ≡ why.Report) × ((report : Report) → IsReportOf node body report → ⊥)
 
-module _ {S : Type 0} (said_site : List ℕ → Option S) where
-  abbrev pub site_asked : List ℕ → Reading S
-  site_asked body = ok_or (said_site body) why.Site
+module _ {S : Type 0} where
+  abbrev pub compile_asked : List ℕ → HttpRequest → Reading (Asked S)
+  compile_asked node r = and_then (wanted_by node r.seen r.body) (λ wanted. Ok (compile wanted))
 
+  abbrev pub FilingAsked : List ℕ → List ℕ → Reading (Asked S) → Type 0
+  FilingAsked node body result =
+      (read : Reading Report) × ReportAsked node body read
+      × (and_then read (λ report. Ok (plain (filed report))) ≡ result)
+
+  abbrev pub deployment_asked : (List ℕ → Option S) → List ℕ → Reading (Asked S)
+  deployment_asked said_site body = and_then (site_asked said_site body) (λ site. Ok (plain (ask.Deploy site)))
+
+-- where `said_site` tells which site bytes say
+module _ {S : Type 0} (said_site : List ℕ → Option S) where
   -- what a request asks whose path and method fit
   abbrev pub AsksAt : Endpoint → HttpRequest → Reading (Asked S) → Type 0
-  AsksAt (at.Catalog node) r result = result ≡ and_then (wanted_by node r.seen r.body) (λ wanted. Ok (compile wanted))
-  AsksAt (at.Node node) r result = result ≡ Ok (plain (ask.Deactivate node))
-  AsksAt (at.Report node) r result =
-      (read : Reading Report) × ReportAsked node r.body read
-      × (result ≡ and_then read (λ report. Ok (plain (filed report))))
-  AsksAt at.Site r result = result ≡ and_then (site_asked r.body) (λ site. Ok (plain (ask.Deploy site)))
+  AsksAt (at.Catalog node) r = λ result. compile_asked node r ≡ result
+  AsksAt (at.Node node) r = λ result. Ok (plain (ask.Deactivate node)) ≡ result
+  AsksAt (at.Report node) r = λ result. FilingAsked node r.body result
+  AsksAt at.Site r = λ result. deployment_asked said_site r.body ≡ result
 
   abbrev pub AsksBy : Bool → Endpoint → HttpRequest → Reading (Asked S) → Type 0
-  AsksBy true endpoint r result = AsksAt endpoint r result
-  AsksBy false endpoint r result = result ≡ Err why.Method
+  AsksBy true endpoint r = AsksAt endpoint r
+  AsksBy false endpoint r = λ result. Err why.Method ≡ result
 
   abbrev pub AsksOf : Option Endpoint → HttpRequest → Reading (Asked S) → Type 0
-  AsksOf None r result = result ≡ Err why.Path
-  AsksOf (Some endpoint) r result = AsksBy (pointwise nat_eq r.method (method_of endpoint)) endpoint r result
+  AsksOf None r = λ result. Err why.Path ≡ result
+  AsksOf (Some endpoint) r = AsksBy (pointwise nat_eq r.method (method_of endpoint)) endpoint r
 
   -- What the request asks, or why it asks nothing: the path is looked at first, then the method.
   abbrev pub Asks : HttpRequest → Reading (Asked S) → Type 0
-  Asks r result = AsksOf (endpoint_of r.path) r result
+  Asks r = AsksOf (endpoint_of r.path) r

@@ -70,15 +70,19 @@ asked (call.Deactivate node) = plain (ask.Deactivate node)
 asked (call.Deploy site) = plain (ask.Deploy site)
 asked (call.File report) = plain (filed report)
 
--- what was read is as it is meant, where a value is seen as `shown` says, unless memory ran out
+-- what is meant is this refusal, unless memory ran out
+abbrev pub IsRefused : {A : Type 0} → AskStop → (Reading A → Type 0) → Type 0
+IsRefused (stop.Refused why) Meant = Meant (Err why)
+IsRefused stop.Memory Meant = ⊤
+
+-- what was read is meant, where a value is seen as `shown` says, unless memory ran out
 abbrev pub ReadsBy : {A B : Type 0} → (A → B) → Result A AskStop → (Reading B → Type 0) → Type 0
 ReadsBy shown (Ok x) Meant = Meant (Ok (shown x))
-ReadsBy shown (Err (stop.Refused why)) Meant = Meant (Err why)
-ReadsBy shown (Err stop.Memory) Meant = ⊤
+ReadsBy shown (Err s) Meant = IsRefused s Meant
 
--- exactly what is meant
+-- where just this is meant
 abbrev pub ReadsAs : {A B : Type 0} → (A → B) → Result A AskStop → Reading B → Type 0
-ReadsAs shown result meant = ReadsBy shown result (λ r. r ≡ meant)
+ReadsAs shown result meant = ReadsBy shown result (λ r. meant ≡ r)
 
 -- facts that are sent are facts
 abbrev pub gives_facts : {S : Type 0} → Asked S → Bool

@@ -2,7 +2,7 @@
 ghost use Rattle.std.specs.Prelude.{◌≡◌, option_map, IfOk};
 ghost use Rattle.pp_values.specs.Views.{view};
 ghost use Rattle.res_core.specs.RequestViews.{wanted};
-ghost use Rattle.site_serve.specs.Requests.{seen_number, seen_asked, facts_said, facts_asked, wanted_by, ReportAsked, site_asked, AsksAt, Asks};
+ghost use Rattle.site_serve.specs.Requests.{seen_number, seen_asked, facts_said, facts_asked, wanted_by, ReportAsked, site_asked, compile_asked, FilingAsked, deployment_asked, AsksAt, AsksOf, Asks};
 ghost use Rattle.site_serve.specs.Steps.{asked, ReadsBy, ReadsAs};
 
 use crate::ask_stop::AskStop;
@@ -30,13 +30,28 @@ pub(crate) fn asked<L: Language>(
 ) -> Result<Call<L::Site>, AskStop>
     ensures { ReadsBy asked result (Asks L.said_site request.now) }
 {
-    let Some(endpoint) = routes.endpoint(alloc, request.path.as_str())? else {
-        return Err(AskStop::Refused(Refusal::Path));
-    };
-    if request.method.as_str() != endpoint.method() {
-        return Err(AskStop::Refused(Refusal::Method));
+    let endpoint = routes.endpoint(alloc, request.path.as_str())?;
+    asked_of(alloc, language, endpoint, request)
+}
+
+fn asked_of<L: Language>(
+    alloc: Global,
+    language: &L,
+    endpoint: Option<Endpoint>,
+    request: &HttpRequest,
+) -> Result<Call<L::Site>, AskStop>
+    ensures { ReadsBy asked result (AsksOf L.said_site endpoint request.now) }
+{
+    match endpoint {
+        Some(endpoint) => {
+            if request.method.as_str() == endpoint.method() {
+                asked_at(alloc, language, endpoint, request)
+            } else {
+                Err(AskStop::Refused(Refusal::Method))
+            }
+        }
+        None => Err(AskStop::Refused(Refusal::Path)),
     }
-    asked_at(alloc, language, endpoint, request)
 }
 
 fn asked_at<L: Language>(
@@ -48,20 +63,36 @@ fn asked_at<L: Language>(
     ensures { ReadsBy asked result (AsksAt L.said_site endpoint request.now) }
 {
     match endpoint {
-        Endpoint::Catalog(node) => {
-            let wanted = wanted(alloc, node, &request.seen, &request.body)?;
-            Ok(Call::Compile(wanted))
-        }
+        Endpoint::Catalog(node) => compile_asked(alloc, node, request),
         Endpoint::Node(node) => Ok(Call::Deactivate(node)),
-        Endpoint::Site => {
-            let site = site_of(alloc, language, &request.body)?;
-            Ok(Call::Deploy(site))
-        }
-        Endpoint::Report(node) => {
-            let report = report_of(alloc, &node, &request.body)?;
-            Ok(Call::File(report))
-        }
+        Endpoint::Report(node) => filing_asked(alloc, &node, &request.body),
+        Endpoint::Site => deployment_asked(alloc, language, &request.body),
     }
+}
+
+fn compile_asked<S>(alloc: Global, node: Text, request: &HttpRequest) -> Result<Call<S>, AskStop>
+    ensures { ReadsAs asked result (compile_asked node request.now) }
+{
+    let wanted = wanted(alloc, node, &request.seen, &request.body)?;
+    Ok(Call::Compile(wanted))
+}
+
+fn filing_asked<S>(alloc: Global, node: &Text, body: &Bytes) -> Result<Call<S>, AskStop>
+    ensures { ReadsBy asked result (FilingAsked node.now body.now) }
+{
+    let report = report_of(alloc, node, body)?;
+    Ok(Call::File(report))
+}
+
+fn deployment_asked<L: Language>(
+    alloc: Global,
+    language: &L,
+    body: &Bytes,
+) -> Result<Call<L::Site>, AskStop>
+    ensures { ReadsAs asked result (deployment_asked L.said_site body.now) }
+{
+    let site = site_of(alloc, language, body)?;
+    Ok(Call::Deploy(site))
 }
 
 fn wanted(

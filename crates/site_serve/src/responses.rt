@@ -13,7 +13,7 @@ use site_io::Bytes;
 use std::alloc::Global;
 
 /// A response of one line.
-fn says(alloc: Global, status: StatusCode, line: String) -> Result<HttpResponse, Memory>
+fn says(status: StatusCode, line: String) -> Result<HttpResponse, Memory>
     ensures { IfOk result (λ response. response ≡ says status (string_bytes line)) }
 {
     let mut line = line;
@@ -29,7 +29,7 @@ fn says(alloc: Global, status: StatusCode, line: String) -> Result<HttpResponse,
 fn words(alloc: Global, status: StatusCode, line: &str) -> Result<HttpResponse, Memory>
     ensures { IfOk result (λ response. response ≡ says status line.now) }
 {
-    says(alloc, status, String::from_str(alloc, line)?)
+    says(status, String::from_str(alloc, line)?)
 }
 
 pub(crate) fn refusal_response(alloc: Global, why: Refusal) -> Result<HttpResponse, Memory>
@@ -119,32 +119,32 @@ fn with_k(response: HttpResponse, k: u32) -> HttpResponse
 fn served(alloc: Global, entry: u32, k: u32, catalog: Text) -> Result<HttpResponse, Memory>
     ensures { IfOk result (λ response. response ≡ served_response entry k catalog) }
 {
-    let response = says(alloc, StatusCode::OK, catalog.into_string(alloc)?)?;
+    let response = says(StatusCode::OK, catalog.into_string(alloc)?)?;
     Ok(with_k(with_entry(response, entry), k))
 }
 
 fn refused(alloc: Global, k: u32, fault: Text) -> Result<HttpResponse, Memory>
     ensures { IfOk result (λ response. response ≡ refused_response k fault) }
 {
-    let response = says(alloc, StatusCode::UNPROCESSABLE_ENTITY, fault.into_string(alloc)?)?;
+    let response = says(StatusCode::UNPROCESSABLE_ENTITY, fault.into_string(alloc)?)?;
     Ok(with_k(response, k))
 }
 
 fn full(alloc: Global, length: u32) -> Result<HttpResponse, Memory>
     ensures { IfOk result (λ response. response ≡ full_response length) }
 {
-    says(alloc, StatusCode::SERVICE_UNAVAILABLE, format!(in alloc; "full {length}")?)
+    says(StatusCode::SERVICE_UNAVAILABLE, format!(in alloc; "full {length}")?)
 }
 
 fn ahead(alloc: Global, seen: u32, length: u32) -> Result<HttpResponse, Memory>
     ensures { IfOk result (λ response. response ≡ ahead_response seen length) }
 {
-    says(alloc, StatusCode::CONFLICT, format!(in alloc; "seen {seen} length {length}")?)
+    says(StatusCode::CONFLICT, format!(in alloc; "seen {seen} length {length}")?)
 }
 
 fn entry_named(alloc: Global, entry: u32) -> Result<HttpResponse, Memory>
     ensures { IfOk result (λ response. response ≡ names_entry entry) }
 {
-    let response = says(alloc, StatusCode::OK, format!(in alloc; "entry {entry}")?)?;
+    let response = says(StatusCode::OK, format!(in alloc; "entry {entry}")?)?;
     Ok(with_entry(response, entry))
 }

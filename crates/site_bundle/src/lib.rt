@@ -5,7 +5,7 @@ pub mod bundle;
 pub mod bundle_stop;
 mod document;
 mod files;
-mod given_facts;
+pub mod given_facts;
 pub mod kept_files;
 pub mod limits;
 pub mod listed_nodes;
@@ -20,7 +20,6 @@ pub mod stop_lines;
 
 pub use bundle::Bundle;
 pub use bundle_stop::BundleStop;
-pub use given_facts::given_facts;
 pub use limits::{MOST_BUNDLE_BYTES, MOST_FILE_BYTES, MOST_NAME_CHARACTERS, MOST_REQUESTS};
 pub use listed_nodes::ListedNodes;
 pub use node_name::is_node_name;

@@ -1,5 +1,5 @@
 mod Replying
 pub mod Talking
 mod Routing
-mod Asking
+mod Asked
 mod Examples

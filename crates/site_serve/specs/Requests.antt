@@ -1,5 +1,5 @@
 -- What requests ask of a site, and how those are refused that ask nothing.
-use Rattle.std.specs.Prelude.{◌≡◌, ℕ, Bool, true, false, ◌==◌, if◌then◌else◌, nat_eq, codes, List, [], ◌∷◌, Option, Some, None, option_map, option_and_then, Result, Ok, Err}
+use Rattle.std.specs.Prelude.{◌≡◌, ◌≢◌, ◌⊎◌, ℕ, Bool, true, false, ◌==◌, if◌then◌else◌, nat_eq, codes, List, [], ◌∷◌, Option, Some, None, option_map, option_and_then, Result, Ok, Err}
 use Rattle.std.specs.Option.{ok_or}
 use Rattle.std.specs.Str.{is_utf8, IsUtf8}
 use Rattle.std.specs.Cmp.Lexicographic.{pointwise}
@@ -58,13 +58,16 @@ wanted_by node value body =
 abbrev pub site_asked : {S : Type 0} → (List ℕ → Option S) → List ℕ → Reading S
 site_asked said_site body = ok_or (said_site body) why.Site
 
--- the bytes are the text of this report, and it is one of this node
-abbrev pub IsReportOf : List ℕ → List ℕ → Report → Type 0
-IsReportOf node body report = IsUtf8 body × IsReportText report body × (report.node ≡ node)
+-- the bytes are the text of this report
+abbrev pub IsSent : List ℕ → Report → Type 0
+IsSent body report = IsUtf8 body × IsReportText report body
 
+-- refused where the body is the text of no report, or of another node's
 abbrev pub ReportAsked : List ℕ → List ℕ → Reading Report → Type 0
-ReportAsked node body (Ok report) = IsReportOf node body report
-ReportAsked node body (Err refusal) = (refusal ≡ why.Report) × ((report : Report) → IsReportOf node body report → ⊥)
+ReportAsked node body (Ok report) = IsSent body report × (report.node ≡ node)
+ReportAsked node body (Err refusal) =
+    (refusal ≡ why.Report)
+    × (((report : Report) → IsSent body report → ⊥) ⊎ ((report : Report) × IsSent body report × (report.node ≢ node)))
 
 module _ {S : Type 0} where
   abbrev pub compile_asked : List ℕ → HttpRequest → Reading (Asked S)

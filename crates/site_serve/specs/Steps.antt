@@ -5,6 +5,7 @@ use Rattle.matchit.specs.Router.{RouteOf}
 use Rattle.matchit.specs.Seek.{first}
 use Rattle.res_core.specs.AskedFacts.{has_facts}
 use Rattle.res_core.specs.RequestViews.{wanted}
+use Rattle.agent_machine.specs.declared.report.Report.{Report}
 use Rattle.site_io.specs.Stream.{Stream, Rose, HasWritten, HasTraded}
 use Rattle.site_core.specs.Asked.{Asked, compile, plain, filed}
 use Rattle.site_core.specs.Meaning.{Meaning}
@@ -18,7 +19,7 @@ use Rattle.http_wire.specs.declared.request.H.TheVariants as h
 use Rattle.http_wire.specs.declared.request.HttpRequest.{HttpRequest}
 use Rattle.http_wire.specs.declared.response.HttpResponse.{HttpResponse}
 use Rattle.site_serve.specs.Endpoints.{node_behind, site_at}
-use Rattle.site_serve.specs.Requests.{Reading}
+use Rattle.site_serve.specs.Requests.{Reading, IsSent}
 use Rattle.site_serve.specs.Replies.{says, seen_of, reply_response, refusal_text}
 use Rattle.site_serve.specs.Ends.{Turn, refused, replied, Dialect, IsTurn, turn_response, HasReplied, HasTalked, AllOpen}
 use Rattle.site_serve.specs.declared.ask_stop.AskStop.{AskStop}
@@ -83,6 +84,12 @@ ReadsBy shown (Err s) Meant = IsRefused s Meant
 -- where just this is meant
 abbrev pub ReadsAs : {A B : Type 0} → (A → B) → Result A AskStop → Reading B → Type 0
 ReadsAs shown result meant = ReadsBy shown result (λ r. meant ≡ r)
+
+-- the report that is sent, if one is
+abbrev pub ReadsSent : {M : Type 0} → List ℕ → Result (Option Report) M → Type 0
+ReadsSent body (Ok (Some report)) = IsSent body report
+ReadsSent body (Ok None) = (report : Report) → IsSent body report → ⊥
+ReadsSent body (Err memory) = ⊤
 
 -- facts that are sent are facts
 abbrev pub gives_facts : {S : Type 0} → Asked S → Bool

@@ -3,7 +3,7 @@ ghost use Rattle.std.specs.Prelude.{◌≡◌, option_map, IfOk};
 ghost use Rattle.pp_values.specs.Views.{view};
 ghost use Rattle.res_core.specs.RequestViews.{wanted};
 ghost use Rattle.site_serve.specs.Requests.{seen_number, seen_asked, facts_said, facts_asked, wanted_by, ReportAsked, site_asked, compile_asked, FilingAsked, deployment_asked, AsksAt, AsksOf, Asks};
-ghost use Rattle.site_serve.specs.Steps.{asked, ReadsBy, ReadsAs};
+ghost use Rattle.site_serve.specs.Steps.{asked, ReadsBy, ReadsAs, ReadsSent};
 
 use crate::ask_stop::AskStop;
 use crate::call::Call;
@@ -16,7 +16,7 @@ use http_wire::{HttpRequest, number};
 use pp_values::{Memory, Text, Value};
 use res_core::request::CompileRequest;
 use serde_json::Value as Json;
-use site_bundle::given_facts;
+use site_bundle::given_facts::given_facts;
 use site_core::{Language, SiteStop};
 use site_io::Bytes;
 use std::alloc::Global;
@@ -80,8 +80,10 @@ fn compile_asked<S>(alloc: Global, node: Text, request: &HttpRequest) -> Result<
 fn filing_asked<S>(alloc: Global, node: &Text, body: &Bytes) -> Result<Call<S>, AskStop>
     ensures { ReadsBy asked result (FilingAsked node.now body.now) }
 {
-    let report = report_of(alloc, node, body)?;
-    Ok(Call::File(report))
+    match report_of(alloc, node, body) {
+        Ok(report) => Ok(Call::File(report)),
+        Err(stop) => Err(stop),
+    }
 }
 
 fn deployment_asked<L: Language>(
@@ -169,13 +171,29 @@ fn site_of<L: Language>(alloc: Global, language: &L, body: &Bytes) -> Result<L::
 fn report_of(alloc: Global, node: &Text, body: &Bytes) -> Result<Report, AskStop>
     ensures { ReadsBy (λ report. report) result (ReportAsked node.now body.now) }
 {
-    let Ok(text) = str::from_utf8(body.as_slice()) else {
-        return Err(AskStop::Refused(Refusal::Report));
+    match report_sent(alloc, body.as_slice()) {
+        Ok(Some(report)) => {
+            if report.node.is(node.as_str()) {
+                Ok(report)
+            } else {
+                Err(AskStop::Refused(Refusal::Report))
+            }
+        }
+        Ok(None) => Err(AskStop::Refused(Refusal::Report)),
+        Err(_memory) => Err(AskStop::Memory),
+    }
+}
+
+/// The report whose text the bytes are.
+fn report_sent(alloc: Global, body: &[u8]) -> Result<Option<Report>, Memory>
+    ensures { ReadsSent body.now result }
+{
+    let Ok(text) = str::from_utf8(body) else {
+        return Ok(None);
     };
     match read_report(alloc, text) {
-        Ok(report) if report.node.is(node.as_str()) => Ok(report),
-        Ok(_) => Err(AskStop::Refused(Refusal::Report)),
-        Err(DocStop::Bad(_)) => Err(AskStop::Refused(Refusal::Report)),
-        Err(DocStop::Memory) => Err(AskStop::Memory),
+        Ok(report) => Ok(Some(report)),
+        Err(DocStop::Bad(_)) => Ok(None),
+        Err(DocStop::Memory) => Err(Memory),
     }
 }

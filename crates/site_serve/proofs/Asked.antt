@@ -1,9 +1,11 @@
--- What is asked has facts where it has any.
-use Rattle.std.proofs.Common.{◌≡◌, ℕ, Bool, true, false, IsTrue, List, [], ◌∷◌, Option, Some, None, refl, sym, ap, ◌∙◌, subst}
+-- Reports that are sent; what is asked has facts where it has any.
+use Rattle.std.proofs.Common.{◌≡◌, ◌⊎◌, inl, inr, ℕ, Bool, true, false, IsTrue, List, [], ◌∷◌, Option, Some, None, refl, sym, ap, ◌∙◌, subst}
 use Rattle.std.specs.Prelude.{Result, Ok, Err, if◌then◌else◌, nat_eq, option_map, option_and_then}
 use Rattle.std.specs.Option.{ok_or}
 use Rattle.std.specs.Str.{is_utf8}
 use Rattle.std.specs.Cmp.Lexicographic.{pointwise}
+use Rattle.std.proofs.lemmas.Bool.Decides.{Decides-eqb}
+use Rattle.std.proofs.lemmas.Slice.Eq.{slice_eq-Decides}
 use Rattle.serde_json.specs.Data.{Data}
 use Rattle.serde_json.specs.Read.{read}
 use Rattle.pp_values.specs.Answers.{and_then}
@@ -12,18 +14,56 @@ use Rattle.pp_values.specs.Facts.{are_facts}
 use Rattle.res_core.specs.Asked.{Wanted}
 use Rattle.res_core.specs.AskedFacts.{has_facts}
 use Rattle.agent_machine.specs.declared.report.Report.{Report}
+use Rattle.json_documents.specs.LinesOfText.{IsFirstBad}
+use Rattle.agent_docs.specs.ReportText.{IsReportText}
 use Rattle.site_bundle.specs.GivenFacts.{given_facts}
 use Rattle.site_bundle.proofs.FactSteps.{given_are_facts}
 use Rattle.site_core.specs.Asked.{Asked, compile, plain, filed}
 use Rattle.site_core.specs.declared.plain.Plain.TheVariants as ask
 use Rattle.http_wire.specs.declared.request.HttpRequest.{HttpRequest}
 use Rattle.site_serve.specs.Endpoints.{endpoint_of, method_of}
-use Rattle.site_serve.specs.Requests.{Reading, seen_asked, facts_said, facts_asked, wanted_by, site_asked, AsksAt, AsksBy, AsksOf, Asks}
-use Rattle.site_serve.specs.Steps.{gives_facts}
+use Rattle.site_serve.specs.Requests.{Reading, seen_asked, facts_said, facts_asked, wanted_by, IsSent, ReportAsked, site_asked, FilingAsked, AsksAt, AsksBy, AsksOf, Asks}
+use Rattle.site_serve.specs.Steps.{IsRefused, gives_facts}
+use Rattle.site_serve.specs.declared.ask_stop.AskStop.{AskStop}
+use Rattle.site_serve.specs.declared.ask_stop.AskStop.TheVariants as stop
 use Rattle.site_serve.specs.declared.endpoint.Endpoint.{Endpoint}
 use Rattle.site_serve.specs.declared.endpoint.Endpoint.TheVariants as at
 use Rattle.site_serve.specs.declared.refusal.Refusal.{Refusal}
 use Rattle.site_serve.specs.declared.refusal.Refusal.TheVariants as why
+
+-- ---- reports
+
+-- a text whose first lines are those of no report is the text of none
+pub none_sent : (n : ℕ) (body text : List ℕ) → text ≡ body → IsFirstBad IsReportText n text →
+    (report : Report) → IsSent body report → ⊥
+none_sent n body text same bad report sent =
+    bad.3 (report, text, subst (λ l. IsReportText report l) (sym same) sent.1, refl)
+
+pub is_of : (node body : List ℕ) (report : Report) → IsSent body report → pointwise nat_eq report.node node ≡ true →
+    ReportAsked node body (Ok report)
+is_of node body report sent same = (sent, (slice_eq-Decides Decides-eqb report.node node true (sym same)).0 refl)
+
+pub of_another : (node body : List ℕ) (report : Report) → IsSent body report →
+    pointwise nat_eq report.node node ≡ false → ReportAsked node body (Err why.Report)
+of_another node body report sent other =
+    (refl, inr (report, sent, (λ e. absurd (cc (sym ((slice_eq-Decides Decides-eqb report.node node _ refl).1 e)
+    ∙ other)))))
+
+pub of_none : (node body : List ℕ) → ((report : Report) → IsSent body report → ⊥) →
+    ReportAsked node body (Err why.Report)
+of_none node body none = (refl, inl none)
+
+module _ {S : Type 0} where
+  pub filing_read : (node body : List ℕ) (report : Report) → ReportAsked node body (Ok report) →
+      FilingAsked {S = S} node body (Ok (plain (filed report)))
+  filing_read node body report is = (Ok report, is, refl)
+
+  pub filing_stopped : (node body : List ℕ) (s : AskStop) → IsRefused s (ReportAsked node body) →
+      IsRefused s (FilingAsked {S = S} node body)
+  filing_stopped node body (stop.Refused refusal) is = (Err refusal, is, refl)
+  filing_stopped node body stop.Memory is = tt
+
+-- ---- facts
 
 -- a step answers, where the one before it did
 stepped : {A B : Type 0} (r : Reading A) (next : A → Reading B) (b : B) → and_then r next ≡ Ok b →

@@ -2,4 +2,5 @@ mod Replying
 pub mod Talking
 mod Routing
 mod Asked
+mod Responding
 mod Examples

@@ -11,11 +11,13 @@ use Rattle.site_core.specs.Fits.{Listed}
 use Rattle.site_core.specs.declared.reply.ReplyOf.{ReplyOf}
 use Rattle.shared_site.specs.Known.{Known}
 use Rattle.http_wire.specs.Messages.{HasNext, HasNone, Begins, Refuses, IsOpen}
-use Rattle.http_wire.specs.Reading.{HasGathered}
-use Rattle.http_wire.specs.Responses.{response_text, HasBegun}
+use Rattle.http_wire.specs.Reading.{HasGathered, StopsBy, ReadsNext}
+use Rattle.http_wire.specs.Responses.{response_text, HasBegun, WritesText}
 use Rattle.http_wire.specs.declared.request.H.{H}
 use Rattle.http_wire.specs.declared.request.HttpRequest.{HttpRequest}
+use Rattle.http_wire.specs.declared.request.WireStop.{WireStop}
 use Rattle.http_wire.specs.declared.response.HttpResponse.{HttpResponse}
+use Rattle.http_wire.specs.declared.response.WriteStop.{WriteStop}
 use Rattle.site_serve.specs.Replies.{refusal_text}
 use Rattle.site_serve.specs.Ends.{Turn, refused, replied, Dialect, IsTurn, turn_response, texts_of, asked_in, replies_in, AllOpen, GoOn, EndHere, AreTaken, IsFront, HasTalked, HasStopped, Ends, HasReplied}
 use Rattle.site_serve.specs.Steps.{EndsRefused, Takes, Responds, HasServed}
@@ -24,6 +26,24 @@ use Rattle.site_serve.specs.declared.conn_end.ConnEnd.TheVariants as end
 use Rattle.site_serve.specs.declared.conn_end.TheConstants.{MOST_ANSWERS}
 use Rattle.site_serve.specs.declared.refusal.Refusal.{Refusal}
 use Rattle.site_serve.proofs.Replying.{none_replied, one_replied}
+
+-- ---- what came of a read and of a write, by their answers
+
+pub read_one : (unread rest : List ℕ) (r : Option HttpRequest) (request : HttpRequest) (before after : Stream) →
+    r ≡ Some request → ReadsNext unread rest (Ok r) before after → ReadsNext unread rest (Ok (Some request)) before after
+read_one unread rest r request before after is reads = subst (λ x. ReadsNext unread rest (Ok x) before after) is reads
+
+pub read_none : (unread rest : List ℕ) (r : Option HttpRequest) (before after : Stream) → r ≡ None →
+    ReadsNext unread rest (Ok r) before after → ReadsNext unread rest (Ok None) before after
+read_none unread rest r before after is reads = subst (λ x. ReadsNext unread rest (Ok x) before after) is reads
+
+pub read_stopped : (unread rest : List ℕ) (s t : WireStop) (before after : Stream) → s ≡ t →
+    ReadsNext unread rest (Err s) before after → StopsBy unread rest t before after
+read_stopped unread rest s t before after is reads = subst (λ x. StopsBy unread rest x before after) is reads
+
+pub write_stopped : (s t : WriteStop) (text : List ℕ) (before after : Stream) → s ≡ t →
+    WritesText {U = Unit {0}} text (Err s) before after → WritesText {U = Unit {0}} text (Err t) before after
+write_stopped s t text before after is writes = subst (λ x. WritesText {U = Unit {0}} text (Err x) before after) is writes
 
 -- ---- requests at the front of bytes
 
@@ -254,12 +274,11 @@ module _ {S C F : Type 0} (meaning : Meaning S C F) (listed : Listed S) (d : Dia
           traded_on got.more mid got.read, goes_on, subst IsOpen got.grown open_,
           Rose-after before.faults now.faults mid.faults done.traded.later rose)
 
-      pub refused_at : (after : Stream) (why : H) (place : ℕ) (e : ConnEnd) → Refuses why bytes (mid.left ≡ Some []) →
-          place ≡ 0 → EndsRefused why (offset + place) e mid after → Ends d (HasReplied meaning listed p q) e before after
-      refused_at after why place e refuses first ends =
+      pub refused_at : (after : Stream) (why : H) (e : ConnEnd) → Refuses why bytes (mid.left ≡ Some []) →
+          EndsRefused why offset e mid after → Ends d (HasReplied meaning listed p q) e before after
+      refused_at after why e refuses ends =
           refused_with got.more mid got.read after why e
-          (subst (λ l. Refuses why l (mid.left ≡ Some [])) got.grown refuses)
-          (subst (λ n. EndsRefused why n e mid after) (omega (arith, first)) ends)
+          (subst (λ l. Refuses why l (mid.left ≡ Some [])) got.grown refuses) ends
 
       -- a request was read
       module _ (request : HttpRequest) (back : List ℕ) (next : HasNext bytes request back) (q' : Known S)

@@ -52,7 +52,8 @@ pub fn serve_connection<L: Language + Drop, C: Source + Sink, G: Gate, R: Wait>(
                 offset += request.size as u64;
             }
             Ok(None) => return ConnEnd::Closed,
-            Err(WireStop::Bad(why, place)) => return refuse(alloc, connection, why, offset + place),
+            // The place that is told counts from the message's first byte.
+            Err(WireStop::Bad(why, _)) => return refuse(alloc, connection, why, offset),
             Err(WireStop::ReadFault) => return ConnEnd::ReadFault,
             Err(WireStop::Memory) => return ConnEnd::Memory,
         }

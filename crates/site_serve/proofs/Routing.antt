@@ -1,6 +1,6 @@
 -- The routes find what the path names.
-use Rattle.std.proofs.Common.{◌≡◌, ℕ, zero, suc, ◌-◌, Bool, true, false, ◌==◌, IsTrue, List, [], ◌∷◌, ◌++◌, length, drop, Option, Some, None, refl, sym, ap, ◌∙◌, subst, ⊤}
-use Rattle.std.specs.Prelude.{nat_eq, if◌then◌else◌, cond, codes, option_map, option_and_then}
+use Rattle.std.proofs.Common.{◌≡◌, ℕ, zero, suc, ◌-◌, Bool, true, false, ◌==◌, IsTrue, List, [], ◌∷◌, ◌++◌, length, drop, Option, Some, None, refl, sym, ap, ◌∙◌, subst}
+use Rattle.std.specs.Prelude.{Result, IfOk, nat_eq, if◌then◌else◌, cond, codes, option_map, option_and_then}
 use Rattle.std.specs.Cmp.Lexicographic.{pointwise}
 use Rattle.std.specs.List.{list_all, starts_with}
 use Rattle.std.proofs.lemmas.Bool.{and_from, and_parts, eqb-true}
@@ -44,7 +44,15 @@ module _ {K : Type 0} where
   behind [] rs path k is = is
   behind (b ∷ word) rs path k is = one_byte b rs (word ++ path) k (behind word (step b rs) path k is)
 
-  no_rows : (c : Bool) (n : ℕ) → (cond c (0, [] {A = ℕ × K}) (n, [])).1 ≡ []
+  or_none : (o p x : Option K) → o ≡ None → p ≡ None → x ≡ None → or_route o (or_route p x) ≡ None
+  or_none o p x first second third =
+      ap (λ a. or_route a (or_route p x)) first ∙ ap (λ a. or_route a x) second ∙ third
+
+  -- what a parameter takes where no row goes on with one
+  abbrev no_step : Bool → ℕ → ℕ × RowsOf K
+  no_step c n = cond c (0, []) (n, [])
+
+  no_rows : (c : Bool) (n : ℕ) → (no_step c n).1 ≡ []
   no_rows true n = refl
   no_rows false n = refl
 
@@ -54,8 +62,11 @@ module _ {K : Type 0} where
   nothing (suc skip) [] = refl
   nothing (suc skip) (b ∷ path) = nothing skip path
   nothing zero (b ∷ path) =
-      rw (no_rows (has_slash (b ∷ path)) (length (b ∷ path)), nothing 0 path,
-      nothing ((cond (has_slash (b ∷ path)) (0, [] {A = ℕ × K}) (length (b ∷ path), [])).0 - 1) path) refl
+      or_none _ _ _ (nothing 0 path)
+      (subst (λ rs. seek {K = K} ((no_step (has_slash (b ∷ path)) (length (b ∷ path))).0 - 1) rs path ≡ None)
+      (sym (no_rows (has_slash (b ∷ path)) (length (b ∷ path))))
+      (nothing ((no_step (has_slash (b ∷ path)) (length (b ∷ path))).0 - 1) path))
+      refl
 
   all_taken : (rs : RowsOf K) (path : List ℕ) → seek (length path) rs path ≡ own rs
   unfolding seek
@@ -69,9 +80,12 @@ module _ {K : Type 0} where
   no_literal true k path is = absurd cc
   no_literal false k path is = nothing 0 path
 
+  -- what a parameter takes where a row ends with one
+  abbrev one_step : Bool → ℕ → K → ℕ × RowsOf K
+  one_step c n k = cond c (0, []) (n, ends_here k)
+
   whole : (c : Bool) (k : K) (path : List ℕ) → c ≡ false →
-      seek ((cond c (0, []) (suc (length path), ends_here k)).0 - 1) (cond c (0, []) (suc (length path), ends_here k)).1 path
-      ≡ Some k
+      seek ((one_step c (suc (length path)) k).0 - 1) (one_step c (suc (length path)) k).1 path ≡ Some k
   whole true k path is = absurd cc
   whole false k path is = all_taken (ends_here k) path
 
@@ -202,9 +216,14 @@ named_picked (Some route.Report) path = refl
 named_picked (Some route.Site) path = refl
 named_picked None path = refl
 
-pub named_is : (path : List ℕ) → named_by (route_of path) path ≡ endpoint_of path
+named_is : (path : List ℕ) → named_by (route_of path) path ≡ endpoint_of path
 named_is path =
     named_picked (route_of path) path
     ∙ first_is (route_of path) (node_behind (codes "/catalog/") path) (node_behind (codes "/node/") path)
     (node_behind (codes "/report/") path) (site_at path) (catalog_routed path) (node_routed path) (report_routed path)
     (λ e. is_site path (pointwise nat_eq path (codes "/site")) e refl)
+
+pub endpoint_named : {M : Type 0} (path : List ℕ) (r : Option Route) (result : Result (Option Endpoint) M) →
+    r ≡ route_of path → IfOk result (λ e. e ≡ named_by r path) → IfOk result (λ e. e ≡ endpoint_of path)
+endpoint_named path r result is named =
+    subst (λ x. IfOk result (λ e. e ≡ x)) (ap (λ o. named_by o path) is ∙ named_is path) named

@@ -69,7 +69,7 @@ module _ {S : Type 0} where
 stepped : {A B : Type 0} (r : Reading A) (next : A → Reading B) (b : B) → and_then r next ≡ Ok b →
     (a : A) × (r ≡ Ok a) × (next a ≡ Ok b)
 stepped (Ok a) next b is = (a, refl, is)
-stepped (Err why) next b is = absurd (cc is)
+stepped (Err refusal) next b is = absurd (cc is)
 
 of_data : (o : Option Data) (d : Datum) → option_and_then given_facts o ≡ Some d → IsTrue (are_facts d)
 of_data None d is = absurd (cc is)

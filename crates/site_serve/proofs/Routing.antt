@@ -1,6 +1,6 @@
 -- The routes find what the path names.
-use Rattle.std.proofs.Common.{◌≡◌, ℕ, zero, suc, ◌-◌, Bool, true, false, ◌==◌, IsTrue, List, [], ◌∷◌, ◌++◌, length, drop, Option, Some, None, refl, sym, ap, ◌∙◌, subst}
-use Rattle.std.specs.Prelude.{Result, IfOk, nat_eq, if◌then◌else◌, cond, codes, option_map, option_and_then}
+use Rattle.std.proofs.Common.{◌≡◌, ℕ, zero, suc, ◌-◌, Bool, true, false, ◌==◌, IsTrue, List, [], ◌∷◌, ◌++◌, length, drop, Option, Some, None, refl, sym, ap, ◌∙◌, subst, arith}
+use Rattle.std.specs.Prelude.{Result, IfOk, nat_eq, if◌then◌else◌, cond, codes, option_map, option_and_then, nat_le, ◌&&◌}
 use Rattle.std.specs.Cmp.Lexicographic.{pointwise}
 use Rattle.std.specs.List.{list_all, starts_with}
 use Rattle.std.proofs.lemmas.Bool.{and_from, and_parts, eqb-true}
@@ -12,6 +12,7 @@ use Rattle.matchit.specs.Router.{RouteOf}
 use Rattle.matchit.specs.Seek.{first, seek, step, own, or_else as or_route, has_slash, slash, param_step}
 use Rattle.site_io.specs.Folders.{after_front}
 use Rattle.site_bundle.specs.NodeNames.{is_node_name, is_node_name_byte}
+use Rattle.site_bundle.specs.declared.limits.TheConstants.{MOST_NAME_CHARACTERS}
 use Rattle.site_bundle.specs.RequestsOf.{if_node_name}
 use Rattle.site_serve.specs.Endpoints.{node_behind, or_else, site_at, endpoint_of}
 use Rattle.site_serve.specs.Steps.{node_route, site_route, known_routes, route_of, named_by}
@@ -87,7 +88,8 @@ module _ {K : Type 0} where
   whole : (c : Bool) (k : K) (path : List ℕ) → c ≡ false →
       seek ((one_step c (suc (length path)) k).0 - 1) (one_step c (suc (length path)) k).1 path ≡ Some k
   whole true k path is = absurd cc
-  whole false k path is = all_taken (ends_here k) path
+  whole false k path is =
+      subst (λ n. seek n (ends_here k) path ≡ Some k) (omega arith) (all_taken (ends_here k) path)
 
   -- a parameter takes a segment whole
   one_segment : (x : ℕ) (xs : List ℕ) (k : K) → (param_token == x) ≡ false → has_slash (x ∷ xs) ≡ false →
@@ -144,11 +146,16 @@ node_is front path name is =
     let here = name_behind (after_front front path) name is in
     (split_at front path name (starts_with nat_eq path front) refl here.0, here.1)
 
+name_bytes : (name : List ℕ) → is_node_name name ≡ true → list_all is_node_name_byte name ≡ true
+name_bytes name is =
+    (and_parts (nat_le 1 (length name) && nat_le (length name) MOST_NAME_CHARACTERS) (list_all is_node_name_byte name)
+    is).1
+
 module _ {K : Type 0} where
   one_node : (name : List ℕ) (k : K) → is_node_name name ≡ true → seek 0 ((param_token ∷ [], k) ∷ []) name ≡ Some k
   one_node [] k is = absurd (cc is)
   one_node (x ∷ xs) k is =
-      let bytes = (and_parts _ _ (and_parts _ _ is).1).1 in
+      let bytes = name_bytes (x ∷ xs) is in
       one_segment x xs k (no_param x (and_parts _ _ bytes).0) (no_slash (x ∷ xs) bytes)
 
 routed : (front path name : List ℕ) (r : RouteOf Route) → steps front known_routes ≡ (param_token ∷ [], r) ∷ [] →

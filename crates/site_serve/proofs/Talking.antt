@@ -162,6 +162,16 @@ module _ {S C F : Type 0} (meaning : Meaning S C F) (listed : Listed S) (d : Dia
     due_is = ap (λ l. l ++ response_text (turn_response d t)) talk.due_is ∙ sym (texts_push d talk.turns t);
   }
 
+  nothing_talked : (p : Known S) → Legal meaning p.front → length p.front ≤ p.terms.limit →
+      HasTalked d (HasReplied meaning listed p p) [] [] [] []
+  nothing_talked p legal few = record {
+    begins = refl;
+    turns = [];
+    each = tt;
+    replies = none_replied meaning listed p legal few;
+    due_is = refl;
+  }
+
   -- nothing was read yet
   pub begun : (p : Known S) (s : Stream) → Legal meaning p.front → length p.front ≤ p.terms.limit →
       HasServed meaning listed d p p s s [] 0 0
@@ -169,13 +179,7 @@ module _ {S C F : Type 0} (meaning : Meaning S C F) (listed : Listed S) (d : Dia
     bytes = [];
     text = [];
     rs = [];
-    talked = record {
-      begins = refl;
-      turns = [];
-      each = tt;
-      replies = none_replied meaning listed p legal few;
-      due_is = refl;
-    };
+    talked = nothing_talked p legal few;
     traded = nothing_traded s;
     going = tt;
     count = refl;
@@ -191,7 +195,7 @@ module _ {S C F : Type 0} (meaning : Meaning S C F) (listed : Listed S) (d : Dia
     text = [];
     due = [];
     rs = [];
-    talked = (begun p s legal few).talked;
+    talked = nothing_talked p legal few;
     traded = nothing_traded s;
     taken = inl (tt, omega arith);
     front = inl ([], refl);

@@ -22,7 +22,7 @@ fn with_digit(number: u32, byte: u8) -> Option<u32>
 }
 
 /// The number that is written so.
-fn number(digits: &[u8]) -> Option<u32>
+pub fn number(digits: &[u8]) -> Option<u32>
     ensures { result ≡ spec.number digits.now }
 {
     if digits.is_empty() {

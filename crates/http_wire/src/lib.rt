@@ -9,6 +9,7 @@ mod reading;
 mod request;
 mod response;
 
+pub use fields::number;
 pub use reading::read_request;
 pub use request::{H, HttpRequest, MOST_BODY, MOST_FIELDS, MOST_HEAD, WireStop};
 pub use response::{HttpResponse, WriteStop, write_response};

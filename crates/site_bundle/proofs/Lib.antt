@@ -3,7 +3,7 @@ mod KeptLemmas
 mod Parsed
 mod Chains
 mod NodeSteps
-mod FactSteps
+pub mod FactSteps
 mod FileSteps
 mod RequestSteps
 pub mod OnLiterals

@@ -5,7 +5,7 @@ pub mod bundle;
 pub mod bundle_stop;
 mod document;
 mod files;
-mod given_facts;
+pub mod given_facts;
 pub mod kept_files;
 pub mod limits;
 pub mod listed_nodes;

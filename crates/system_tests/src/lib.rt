@@ -4,6 +4,8 @@
 #[cfg(test)]
 mod batches;
 #[cfg(test)]
+mod connections;
+#[cfg(test)]
 mod history;
 #[cfg(test)]
 mod jobs;

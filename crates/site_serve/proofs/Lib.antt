@@ -1,0 +1,6 @@
+mod Replying
+pub mod Talking
+mod Routing
+mod Asked
+mod Responding
+mod Examples

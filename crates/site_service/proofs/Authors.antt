@@ -51,7 +51,7 @@ module _ {E : Type 0} (author : E → Option ℕ) where
       (λ inside. let here : wrote author (a ∷ []) (slice_get h k) ≡ wrote author (a ∷ []) (slice_get front k) =
       ap (wrote author (a ∷ [])) (at_front front h k begins (omega (arith, inside))) in omega (arith, are k, here))
 
-  has_one : (e : Option E) → has_author author e ≤ 1
+  pub has_one : (e : Option E) → has_author author e ≤ 1
   has_one None = omega arith
   has_one (Some e) = at_most (author e)
     where

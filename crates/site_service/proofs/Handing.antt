@@ -42,7 +42,7 @@ module _ {A : Type 0} where
       (subst (IsPrefix one) (sym is.0) is.1, subst (IsPrefix other) (sym is.0) (prefix_self other)))
 
 module _ {S X : Type 0} where
-  none_joined : (p : Known S) → HasJoined {X = X} p [] p
+  pub none_joined : (p : Known S) → HasJoined {X = X} p [] p
   none_joined p = record {
     site = refl;
     terms = refl;

@@ -62,12 +62,6 @@ module _ {L N G S C F X : Type 0} (meaning : Meaning S C F) (listed : Listed S) 
   module _ (count : ℕ) (p q : Door L N G S C F) (outs : List (Out S X))
       (run : HasRun Opened (Visits meaning listed d stream) count p outs q) (opening : IsOpening id p.pass)
       (left_is : p.left ≡ count) (stop_is : p.stop ≡ stop.Counted) where
-    terms : Terms
-    terms = p.pass.terms
-
-    front : List (Event S)
-    front = p.pass.front
-
     first_door : IsDoorAt id p.pass.terms opening.base p.pass.front 1 p.pass
     first_door = subst (IsDoorAt id p.pass.terms opening.base p.pass.front 1) (sym opening.pass_is) (record {
       site = refl;
@@ -103,12 +97,12 @@ module _ {L N G S C F X : Type 0} (meaning : Meaning S C F) (listed : Listed S) 
         q.pass r chain.new run.kept chain.last joined
 
     module _ (after : Net) (h : List (Event S)) where
-      taken : List Taken
-      taken = taken_of meaning listed d id p.pass.terms opening.base p.pass.front stream h run.jobs outs
+      abbrev served_ones : List Taken
+      served_ones = taken_of meaning listed d id p.pass.terms opening.base p.pass.front stream h run.jobs outs
 
       why_all : (w : ServiceStop) → IsWhyHere w count (length run.jobs) (net_of p.net.now) (net_of q.net.now) →
           (net_of q.net.now).faults ≤ after.faults → AreBack stream (net_of q.net.now).told outs after.told →
-          IsWhy w count taken (net_of p.net.now) after
+          IsWhy w count served_ones (net_of p.net.now) after
       why_all stop.Counted why later back =
           (taken_are meaning listed d id p.pass.terms opening.base p.pass.front stream h run.jobs outs run.kept).3 ∙ why
       why_all stop.Closed why later back = still (net_of q.net.now).told after.told why back
@@ -119,15 +113,14 @@ module _ {L N G S C F X : Type 0} (meaning : Meaning S C F) (listed : Listed S) 
       why_all stop.NetFault why later back =
           Rose-before (net_of p.net.now).faults (net_of q.net.now).faults after.faults why later
 
-      tells_all : (told mid now : Option Lines) → IsNewNet told → Gone told (map (λ v. v.1) run.jobs) mid →
-          AreBack stream mid outs now → Tells told taken now
-      tells_all None mid now new gone back = subst (λ m. AreBack stream m outs now) gone back
-      tells_all (Some l) mid now new gone back =
+      tells_all : (told mid now : Option Lines) → Gone told (map (λ v. v.1) run.jobs) mid →
+          AreBack stream mid outs now → Tells told served_ones now
+      tells_all None mid now gone back = subst (λ m. AreBack stream m outs now) gone back
+      tells_all (Some l) mid now gone back =
           let are = taken_are meaning listed d id p.pass.terms opening.base p.pass.front stream h run.jobs outs run.kept in (
             record { waiting = gone.0; given = map (is_back stream) outs },
             subst (λ m. AreBack stream m outs now) gone.2 back,
-            gone.1 ∙ ap (λ ss. ss ++ gone.0) (sym are.0),
-            inl (sym are.2),
+            (gone.1 ∙ ap (λ ss. ss ++ gone.0) (sym are.0), inl (sym are.2)),
           )
 
       pub served : (r : Known S) (ends : List ConnEnd) → IsNewNet (net_of p.net.now).told → HasJoined q.pass outs r →
@@ -141,7 +134,7 @@ module _ {L N G S C F X : Type 0} (meaning : Meaning S C F) (listed : Listed S) 
           (omega (arith, chain.few, left_is)) ends_are
           (why_all q.stop (subst (λ n. IsWhyHere q.stop n (length run.jobs) (net_of p.net.now) (net_of q.net.now)) left_is
           chain.why_is) later back)
-          (tells_all (net_of p.net.now).told (net_of q.net.now).told after.told new chain.gone back)
+          (tells_all (net_of p.net.now).told (net_of q.net.now).told after.told chain.gone back)
           (omega (arith, chain.later, later)) legal begins within others
 
 -- the first pass of a site that was opened
@@ -167,7 +160,7 @@ module _ {S C F : Type 0} (meaning : Meaning S C F) (listed : Listed S) (d : Dia
       Tells told taken now
   told_before None mid now taken is tells = subst (λ m. Tells m taken now) is tells
   told_before (Some l) mid now taken is tells =
-      let them = subst (λ m. Tells m taken now) is tells in (them.0, them.1, them.2, back them.3)
+      let them = subst (λ m. Tells m taken now) is tells in (them.0, them.1, (them.2.0, back them.2.1))
     where
       back : {given : List (Option Stream)} → (given ≡ map (λ t. Some t.back) taken) ⊎ ((taken ≡ []) × (given ≡ [])) →
           (given ≡ map (λ t. Some t.back) taken) ⊎ ((taken ≡ []) × (given ≡ l.given))
@@ -220,7 +213,7 @@ module _ {S C F : Type 0} (meaning : Meaning S C F) (listed : Listed S) (d : Dia
 
   told_unbound : (told now : Option Lines) → now ≡ told → Tells told [] now
   told_unbound None now is = is
-  told_unbound (Some l) now is = (l, is, refl, inr (refl, refl))
+  told_unbound (Some l) now is = (l, is, (refl, inr (refl, refl)))
 
   -- where the listener could not listen, nothing was served
   pub unserved : (id : LockId) (p : Known S) (site : S) (limit count : ℕ) (n m : Net) (ends : List ConnEnd)

@@ -71,14 +71,14 @@ where
     let visits = Vec::with_capacity(alloc, count as usize)?;
     let ends = Vec::with_capacity(alloc, count as usize)?;
     let (shared, pass) = SharedSite::open(alloc, language, site, MOST_ENTRIES)?;
-    if net.listen(port) == Bound::Failed {
-        return Ok(Served {
+    match net.listen(port) {
+        Bound::Failed => Ok(Served {
             history: shared.close(pass),
             ends,
             stop: ServiceStop::NetFault,
-        });
+        }),
+        Bound::Listening => Ok(serve_all(rt, alloc, shared, pass, net, count, gate, visits, ends)),
     }
-    Ok(serve_all(rt, alloc, shared, pass, net, count, gate, visits, ends))
 }
 
 /// Takes connections from a listener that listens, has them served, hands them back and closes the site.

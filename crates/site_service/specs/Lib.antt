@@ -1,0 +1,4 @@
+pub mod Visits
+pub mod Doors
+pub mod Served
+pub mod Handing

@@ -1,5 +1,5 @@
 -- On a machine that tells its content each turn of the function is a turn.
-use Rattle.std.proofs.Common.{◌≡◌, ℕ, ◌+◌, ◌≤◌, Bool, true, false, ◌&&◌, if◌then◌else◌, List, [], ◌∷◌, Some, Result, refl, sym, ap, arith}
+use Rattle.std.proofs.Common.{◌≡◌, ℕ, ◌+◌, Bool, true, false, ◌&&◌, if◌then◌else◌, List, [], ◌∷◌, Some, refl, sym, ap, arith}
 use Rattle.pp_values.specs.Datum.{Datum}
 use Rattle.pp_values.specs.Settings.{Setting}
 use Rattle.pp_values.specs.declared.reference.Reference.{Reference}
@@ -13,7 +13,7 @@ use Rattle.agent_transaction.proofs.StepLemmas.{Stepped, steps}
 use Rattle.agent_transaction.specs.Laws.{SomeToldTurn}
 use Rattle.agent_transaction.specs.Steps.{Corrects, SetsBy, SetsRight, Runs, RunsBy, RunsUnless}
 use Rattle.agent_transaction.specs.ToldTurns.{wrote_step, corrected, set_by, set_right, ran_step, run, run_by, run_unless, Worked, go_on, whole, set_all, worked, refreshed_result, refreshed, finished, turn}
-use Rattle.agent_transaction.specs.Turns.{Goes, SetsAll, Ends, Single, Works, Refreshed, Finishes, IsTurn}
+use Rattle.agent_transaction.specs.Turns.{Goes, SetsAll, Single, Works, Refreshed, Finishes, IsTurn}
 use Rattle.agent_transaction.specs.declared.ended.Ended.{Ended}
 use Rattle.agent_transaction.specs.declared.ended.Ended.TheVariants as ended
 use Rattle.agent_transaction.specs.declared.step.Step.{Step}

@@ -1,5 +1,5 @@
 -- Whole runs of the definition, at worked examples. By the law of told runs each is the only one from its content.
-use Rattle.std.proofs.Common.{◌≡◌, ℕ, Bool, true, false, not, ◌&&◌, ◌||◌, List, [], ◌∷◌, ◌++◌, length, None, Some, Contains, inl, inr, ◌↔◌, refl, sym, subst, ap, ◌∙◌, true≢false, codes, arith}
+use Rattle.std.proofs.Common.{◌≡◌, ℕ, Bool, true, false, not, ◌&&◌, List, [], ◌∷◌, length, None, Some, Contains, inl, inr, refl, sym, subst, ◌∙◌, true≢false, codes, arith}
 use Rattle.std.specs.List.{All, list_all, list_any}
 use Rattle.std.specs.Prelude.{nat_eq}
 use Rattle.std.proofs.lemmas.Bool.{and_from}
@@ -14,7 +14,6 @@ use Rattle.res_core.specs.declared.edge.Edge.{Edge}
 use Rattle.res_core.specs.declared.held.Held.{Held}
 use Rattle.res_core.specs.declared.native_type.NativeType.TheVariants as native
 use Rattle.agent_machine.specs.Contents.{Content}
-use Rattle.agent_machine.specs.Machines.{Told}
 use Rattle.agent_machine.specs.States.{State, present, has, written}
 use Rattle.agent_machine.specs.declared.report.Report.{Report}
 use Rattle.agent_machine.specs.declared.report_line.ReportLine.{ReportLine}
@@ -24,7 +23,7 @@ use Rattle.agent_transaction.proofs.FlatOrders.{first, second, not_true, holds_o
 use Rattle.agent_transaction.proofs.MadeTurns.{told, turn_made}
 use Rattle.agent_transaction.proofs.SecondRunLemmas.{second_run_changes_nothing}
 use Rattle.agent_transaction.specs.Catalogs.{IsOrdered, IsRun}
-use Rattle.agent_transaction.specs.Runs.{containment, relations, signalling, tasks_at, Turned, Reaches, has_failed, signals, IsTurned, AreTurned, IsRunOf}
+use Rattle.agent_transaction.specs.Runs.{containment, relations, signalling, Turned, Reaches, has_failed, signals, IsTurned}
 use Rattle.agent_transaction.specs.SecondRuns.{IsToldRun, unchanged_line}
 use Rattle.agent_transaction.specs.Tasks.{ensure, task_of}
 use Rattle.agent_transaction.specs.ToldTurns.{turn}

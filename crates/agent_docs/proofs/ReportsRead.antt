@@ -1,6 +1,7 @@
 -- The line of a report is read as that report, in either version, and no other line is read as one.
 use Rattle.std.proofs.Common.{◌≡◌, ◌≢◌, ◌⊎◌, inl, inr, ℕ, zero, suc, ◌+◌, ◌<◌, ◌≤◌, ◌^◌, ◌==◌, Bool, true, false, not, ◌&&◌, ◌||◌, cond, if◌then◌else◌, nat_lt, List, [], ◌∷◌, ◌++◌, length, map, codes, Option, Some, None, option_map, option_and_then, refl, sym, ap, ap₂, subst, ◌∙◌, arith}
 use Rattle.std.proofs.lemmas.Bool.{lt-ltb}
+use Rattle.std.proofs.lemmas.List.Sums.{count_by-le-length}
 use Rattle.std.proofs.lemmas.Slice.Eq.{bytes_eq-Decides}
 use Rattle.std.specs.Char.{to_ascii_lowercase, to_ascii_uppercase}
 use Rattle.std.specs.Cmp.{first_so, second_so}
@@ -65,7 +66,7 @@ kind_bytes : (k : List ℕ) → is_kind k ≡ true → list_all is_kind_byte k �
 kind_bytes [] h = refl
 kind_bytes (b ∷ bs) h = h
 
-unclosed_back : (t : List ℕ) → unclosed (t ++ 93 ∷ []) ≡ Some t
+pub unclosed_back : (t : List ℕ) → unclosed (t ++ 93 ∷ []) ≡ Some t
 unclosed_back [] = refl
 unclosed_back (b ∷ []) = refl
 unclosed_back (b ∷ c ∷ cs) = ap (option_map (λ t. b ∷ t)) (unclosed_back (c ∷ cs))
@@ -131,16 +132,8 @@ says_it_is_first r = refl
 
 -- ---- its text is read back
 
-counted : {X : Type 0} (p : X → Bool) (xs : List X) → count_by p xs ≤ length xs
-counted p [] = omega arith
-counted p (x ∷ xs) =
-    elim (p x) as (λ b. cond b 1 0 + count_by p xs ≤ suc (length xs)) [
-      | true ↦ omega (arith, counted p xs)
-      | false ↦ omega (arith, counted p xs)
-    ]
-
 small_count : {X : Type 0} (p : X → Bool) (xs : List X) → length xs < 2 ^ 64 → nat_lt (count_by p xs) (2 ^ 64) ≡ true
-small_count p xs h = lt-ltb (count_by p xs) (2 ^ 64) (omega (arith, counted p xs, h))
+small_count p xs h = lt-ltb (count_by p xs) (2 ^ 64) (omega (arith, count_by-le-length p xs, h))
 
 fault_small : (f : Option (List ℕ)) → has_small (fault_data f) ≡ true
 fault_small None = refl
@@ -207,7 +200,7 @@ first_lines_fit : (r : Report) → length r.lines ≤ length (compact_text (firs
 unfolding first_data first_object
 first_lines_fit r = omega (arith, long_list line_data r.lines, as_long (first_data r))
 
-is_same : (a b : List ℕ) → b ≡ a → bytes_eq a b ≡ true
+pub is_same : (a b : List ℕ) → b ≡ a → bytes_eq a b ≡ true
 is_same a b e = (bytes_eq-Decides a b).1 (sym e)
 
 taken : (first : Bool) (line : List ℕ) (r : Report) → is_written first line r ≡ true → if_written first line r ≡ Some r
@@ -280,20 +273,20 @@ report_kept d =
     (each_then any (list_all names_kind) lines_said (λ ds h. lines_kept ds) (items_at (codes "resources") d) (all _))
 
 -- what holds of all that there may be
-abbrev Holds : {A : Type 0} → (A → Type 0) → Option A → Type 0
+abbrev pub Holds : {A : Type 0} → (A → Type 0) → Option A → Type 0
 Holds P None = ⊤
 Holds P (Some a) = P a
 
-holds_then : {A B : Type 0} (f : A → Bool) (P : B → Type 0) (h : A → Option B) →
+pub holds_then : {A B : Type 0} (f : A → Bool) (P : B → Type 0) (h : A → Option B) →
     ((a : A) → f a ≡ true → Holds P (h a)) → (o : Option A) → Each f o → Holds P (option_and_then h o)
 holds_then f P h k None x = tt
 holds_then f P h k (Some a) x = k a x
 
-holds_if : {A : Type 0} (P : A → Type 0) (b : Bool) (a : A) → (b ≡ true → P a) → Holds P (if b then Some a else None)
+pub holds_if : {A : Type 0} (P : A → Type 0) (b : Bool) (a : A) → (b ≡ true → P a) → Holds P (if b then Some a else None)
 holds_if P true a h = h refl
 holds_if P false a h = tt
 
-same_bytes : (a b : List ℕ) → bytes_eq a b ≡ true → b ≡ a
+pub same_bytes : (a b : List ℕ) → bytes_eq a b ≡ true → b ≡ a
 same_bytes a b h = sym ((bytes_eq-Decides a b).0 h)
 
 written_line : (first : Bool) (l : List ℕ) (r : Report) → are_named r ≡ true → is_written first l r ≡ true → IsReportLine r l

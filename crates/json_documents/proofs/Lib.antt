@@ -2,6 +2,7 @@ pub mod Cutting
 pub mod DocumentParts
 pub mod Feeds
 pub mod Lengths
+pub mod LineDocumentLemmas
 pub mod OneLines
 pub mod Outlines
 pub mod ReadBack

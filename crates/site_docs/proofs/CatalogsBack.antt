@@ -10,11 +10,12 @@ use Rattle.pp_values.proofs.Printed.{printed_apart}
 use Rattle.res_core.specs.Catalogs.{Catalog, has_form}
 use Rattle.res_core.specs.declared.edge.Edge.{Edge}
 use Rattle.res_core.specs.declared.held.Held.{Held}
-use Rattle.site_docs.specs.CatalogText.{index_data, held_object, held_data, edge_data, catalog_object, catalog_data}
+use Rattle.json_documents.specs.Tokens.{index_data}
+use Rattle.site_docs.specs.CatalogText.{held_object, held_data, edge_data, catalog_object, catalog_data}
 use Rattle.site_docs.specs.DocumentLaws.{CatalogsAreToldApart}
-use Rattle.site_docs.proofs.DocumentParts.{part, text_said, index_said, flag_said, list_said, items_back, all_back}
-use Rattle.site_docs.proofs.ReadBack.{one_value}
-use Rattle.site_docs.proofs.ValuesBack.{settings_said, settings_back}
+use Rattle.json_documents.proofs.DocumentParts.{part, text_said, index_said, flag_said, list_said, items_back, all_back}
+use Rattle.json_documents.proofs.ReadBack.{one_value}
+use Rattle.json_documents.proofs.ValuesBack.{settings_said, settings_back}
 
 -- ---- attributes
 

@@ -28,7 +28,7 @@ use Rattle.site_docs.specs.FaultText.{plain_line, fault_text}
 use Rattle.site_docs.specs.LogText.{log_text}
 use Rattle.site_docs.specs.declared.fault_names.TheConstants.{FAULT_NAMES}
 use Rattle.site_docs.specs.SiteText.{site_object, site_data, site_text}
-use Rattle.site_docs.specs.ReportText.{has_changed, has_failed, was_noop, line_object, line_data, report_object, report_data, report_text}
+use Rattle.agent_docs.specs.ReportText.{has_changed, has_failed, was_noop, line_object, line_data, report_object, report_data, report_text}
 use Rattle.site_docs.specs.JournalText.{export_object, export_data, opening_object, publication_object, deactivation_object, deployment_object, filing_object, count_object, plain_data, entry_data, entry_lines, journal_text}
 use Rattle.site_docs.specs.ReplyText.{served_text, refused_object, full_object, ahead_object, unknown_object, deactivated_object, deployed_object, reported_object, memory_object, reply_text, reply_line}
 

@@ -9,7 +9,6 @@ use Rattle.serde_json.specs.Written.{has_float, members_have_float}
 use Rattle.pp_values.specs.Datum.{Datum}
 use Rattle.res_core.specs.declared.exported.Exported.{Exported}
 use Rattle.agent_machine.specs.declared.report.Report.{Report}
-use Rattle.agent_machine.specs.declared.report_line.ReportLine.{ReportLine}
 use Rattle.site_core.specs.Events.{Event, opens, publishes, adds}
 use Rattle.site_core.specs.declared.plain.Plain.{Plain}
 use Rattle.site_core.specs.declared.plain.Plain.TheVariants as ask
@@ -17,7 +16,8 @@ use Rattle.json_values.specs.ValueForm.{form, put_all}
 use Rattle.json_values.proofs.Floats.{either, form_no_float, settings_no_float, all_no_float}
 use Rattle.site_bundle.specs.SiteView.{SiteView, Filed}
 use Rattle.site_docs.specs.SiteText.{site_object, file_settings, site_data}
-use Rattle.site_docs.specs.ReportText.{fault_data, line_object, line_data, report_object, report_data}
+use Rattle.agent_docs.specs.ReportText.{report_data}
+use Rattle.agent_docs.proofs.ReportFloats.{report_no_float}
 use Rattle.site_docs.specs.JournalText.{export_object, export_data, opening_object, publication_object, deactivation_object, deployment_object, filing_object, count_object, plain_data, entry_data}
 use Rattle.site_docs.specs.ReplyText.{refused_object, full_object, ahead_object, unknown_object, deactivated_object, deployed_object, reported_object, memory_object}
 
@@ -54,18 +54,6 @@ site_no_float s =
     either _ _ (files_no_float s.data (put_all (file_settings s.manifests) no_members)
     (files_no_float s.manifests no_members refl))
     (either _ _ (settings_no_float s.nodes) refl)
-
-fault_no_float : (fault : Option (List ℕ)) → has_float (fault_data fault) ≡ false
-fault_no_float None = refl
-fault_no_float (Some text) = refl
-
-line_no_float : (l : ReportLine) → has_float (line_data l) ≡ false
-unfolding line_data line_object
-line_no_float l = either _ _ (all_no_float string (λ t. refl) l.changes) (either _ _ (fault_no_float l.fault) refl)
-
-pub report_no_float : (r : Report) → has_float (report_data r) ≡ false
-unfolding report_data report_object
-report_no_float r = either _ _ (all_no_float line_data line_no_float r.lines) refl
 
 export_no_float : (e : Exported) → has_float (export_data e) ≡ false
 unfolding export_data export_object

@@ -1,6 +1,7 @@
 -- The text of a catalog: compact JSON, with the members of each object in byte order.
 use Rattle.std.specs.Prelude.{ℕ, List, map, codes}
-use Rattle.serde_json.specs.Data.{Data, boolean, number, unsigned, string, array, object, no_items, item, no_members, member}
+use Rattle.json_documents.specs.Tokens.{index_data}
+use Rattle.serde_json.specs.Data.{Data, boolean, string, array, object, no_items, item, no_members, member}
 use Rattle.serde_json.specs.View.{items_of}
 use Rattle.serde_json.specs.Written.{compact_text}
 use Rattle.pp_values.specs.Words.{kind_text}
@@ -8,9 +9,6 @@ use Rattle.res_core.specs.declared.held.Held.{Held}
 use Rattle.res_core.specs.declared.edge.Edge.{Edge}
 use Rattle.res_core.specs.declared.catalog.Catalog.{Catalog}
 use Rattle.json_values.specs.ValueForm.{setting_members}
-
-abbrev pub index_data : ℕ → Data
-index_data i = number (unsigned i)
 
 -- a resource, from the forms of its parts
 unfoldable pub held_object : Data → Data → Data → List ℕ → List ℕ → Data

@@ -4,7 +4,6 @@
 use Rattle.std.specs.Prelude.{ℕ, ◌+◌, List, [], ◌∷◌, ◌++◌, length, map, codes}
 use Rattle.serde_json.specs.Data.{Data, string, array, object, no_members, member}
 use Rattle.serde_json.specs.View.{items_of}
-use Rattle.serde_json.specs.Written.{compact_text}
 use Rattle.pp_values.specs.Words.{kind_text}
 use Rattle.res_core.specs.declared.exported.Exported.{Exported}
 use Rattle.site_core.specs.Events.{Event, opens, publishes, adds}
@@ -12,9 +11,9 @@ use Rattle.site_core.specs.declared.plain.Plain.{Plain}
 use Rattle.site_core.specs.declared.plain.Plain.TheVariants as ask
 use Rattle.json_values.specs.ValueForm.{form, setting_members}
 use Rattle.site_bundle.specs.SiteView.{SiteView}
-use Rattle.site_docs.specs.CatalogText.{index_data}
+use Rattle.json_documents.specs.Tokens.{index_data, line}
 use Rattle.site_docs.specs.FaultText.{place_text}
-use Rattle.site_docs.specs.ReportText.{report_data}
+use Rattle.agent_docs.specs.ReportText.{report_data}
 use Rattle.site_docs.specs.SiteText.{site_data}
 
 -- an exported resource, from the forms of its parts
@@ -94,10 +93,6 @@ entry_data n (opens site) = opening_object n (site_data site)
 entry_data n (publishes p) = publication_object p.author p.call n (form p.facts) p.k p.node
     (array (items_of (map export_data p.set.items)))
 entry_data n (adds author call what) = plain_data author call n what
-
--- a document as a line
-abbrev pub line : Data → List ℕ
-line d = compact_text d ++ 10 ∷ []
 
 -- the lines of these entries, the first of which is entry n
 unfoldable pub entry_lines : ℕ → List (Event SiteView) → List ℕ

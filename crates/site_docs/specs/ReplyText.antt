@@ -5,7 +5,7 @@ use Rattle.serde_json.specs.Written.{compact_text}
 use Rattle.res_core.specs.Asked.{Asked, compile, deactivate}
 use Rattle.site_core.specs.declared.reply.ReplyOf.{ReplyOf}
 use Rattle.site_core.specs.declared.reply.ReplyOf.TheVariants.{Served, Refused, HistoryFull, SeenAhead, UnknownNode, Deactivated, Deployed, Reported, Memory}
-use Rattle.site_docs.specs.CatalogText.{index_data}
+use Rattle.json_documents.specs.Tokens.{index_data}
 
 -- the node that is asked about
 abbrev pub node_of : Asked → List ℕ

@@ -4,13 +4,11 @@ ghost use Rattle.serde_json.specs.Data.{string, array, object};
 ghost use Rattle.serde_json.specs.View.{items_of};
 ghost use Rattle.json_values.specs.ValueForm.{setting_members};
 ghost use Rattle.pp_values.specs.Words.{kind_text as text_of_kind};
-ghost use Rattle.site_docs.specs.Tokens.{data_tokens};
+ghost use Rattle.json_documents.specs.Tokens.{data_tokens, index_data};
 ghost use Rattle.site_docs.specs.DocumentLaws.{CatalogsAreToldApart};
-ghost use Rattle.site_docs.specs.CatalogText.{index_data, held_data, edge_data, catalog_data, catalog_text};
+ghost use Rattle.site_docs.specs.CatalogText.{held_data, edge_data, catalog_data, catalog_text};
 
-use crate::json_output::JsonOutput;
-use crate::lines::ended;
-use crate::value_output::write_value;
+use json_documents::{JsonOutput, ended, write_value};
 use pp_values::kind::Kind;
 use pp_values::memory::Memory;
 use pp_values::printing::kind_text;
@@ -29,7 +27,7 @@ pub fn write_catalog(alloc: Global, catalog: &Catalog) -> Result<Text, Memory>
 }
 
 /// The same without the line feed, as a part of a reply.
-#[tactic(auto, using(crate::proofs::Outlines::printed_data))]
+#[tactic(auto, using(json_documents::proofs::Outlines::printed_data))]
 pub fn catalog_text(alloc: Global, catalog: &Catalog) -> Result<Text, Memory>
     ensures { IfOk result (λ t. t ≡ catalog_text catalog.now) }
 {

@@ -3,7 +3,7 @@ ghost use Rattle.pp_values.specs.Words.{reference_text};
 ghost use Rattle.site_docs.specs.FaultText.{fault_number as number_of, fault_name as name_of, place_text, subject_text, links, cycle_text, details, spaced, in_line, plain_line as plain_line_of, fault_text};
 
 use crate::fault_names::FAULT_NAMES;
-use crate::lines::ended;
+use json_documents::ended;
 use pp_values::fault::{Fault, Subject, What};
 use pp_values::memory::Memory;
 use pp_values::place::Place;

@@ -5,7 +5,7 @@ ghost use Rattle.serde_json.specs.Written.{compact_text, has_float};
 ghost use Rattle.res_core.specs.RequestViews.{asked};
 ghost use Rattle.site_docs.specs.ReplyText.{node_of, seen_of, served_text, refused_object as object_of_refused, full_object as object_of_full, ahead_object as object_of_ahead, unknown_object as object_of_unknown, deactivated_object as object_of_deactivated, deployed_object as object_of_deployed, reported_object as object_of_reported, memory_object as object_of_memory, reply_text, reply_line};
 
-use crate::resource_forms::json_text;
+use json_documents::json_text;
 use pp_values::memory::Memory;
 use pp_values::text::Text;
 use res_core::request::Request;

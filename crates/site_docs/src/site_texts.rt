@@ -7,8 +7,8 @@ ghost use Rattle.hiera_config.specs.Keeping.{filed as data_filed};
 ghost use Rattle.site_bundle.specs.Listing.{filed, listed};
 ghost use Rattle.site_docs.specs.SiteText.{site_object as object_of_site, file_settings, file_members, site_data, site_text};
 
-use crate::resource_forms::json_text;
 use hiera_config::site_data::DataFile;
+use json_documents::json_text;
 use json_values::value_forms::value_form;
 use pp_tree::manifest_file::ManifestFile;
 use pp_values::memory::Memory;

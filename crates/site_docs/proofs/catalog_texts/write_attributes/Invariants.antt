@@ -1,7 +1,7 @@
 use Rattle.std.proofs.Common.{◌≡◌, ◌∷◌, ◌++◌, length}
 use Rattle.json.specs.Token.{begin_object}
 use Rattle.res_core.specs.AttributeViews.{settings}
-use Rattle.site_docs.proofs.Outlines.{setting_tokens}
+use Rattle.json_documents.proofs.Outlines.{setting_tokens}
 use Rattle.site_docs.proofs.catalog_texts.write_attributes.Given as goal
 
 abbrev pub invariant-loop-left : goal.invariant-loop-left

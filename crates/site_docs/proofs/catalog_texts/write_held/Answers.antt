@@ -1,5 +1,5 @@
 use Rattle.site_docs.specs.CatalogText.{held_data}
-use Rattle.site_docs.proofs.Outlines.{held_tokens}
+use Rattle.site_docs.proofs.HeldTokens.{held_tokens}
 use Rattle.site_docs.proofs.catalog_texts.write_held.Goals as goal
 
 pub returns : goal.returns

@@ -1,7 +1,7 @@
 use Rattle.std.proofs.Common.{◌≡◌, ◌∷◌, ◌++◌, map, length}
 use Rattle.json.specs.Token.{begin_array}
-use Rattle.site_docs.specs.CatalogText.{index_data}
-use Rattle.site_docs.proofs.Outlines.{item_tokens}
+use Rattle.json_documents.specs.Tokens.{index_data}
+use Rattle.json_documents.proofs.Outlines.{item_tokens}
 use Rattle.site_docs.proofs.catalog_texts.write_indexes.Given as goal
 
 abbrev pub invariant-loop-left : goal.invariant-loop-left

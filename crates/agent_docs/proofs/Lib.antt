@@ -1,0 +1,8 @@
+pub mod Brackets
+pub mod Chains
+pub mod MachinesRead
+pub mod MemberSteps
+pub mod RecordTokens
+pub mod ReportFloats
+pub mod ReportsBack
+pub mod ReportsRead

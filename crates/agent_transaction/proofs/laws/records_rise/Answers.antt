@@ -1,4 +1,4 @@
-use Rattle.std.proofs.Common.{◌≡◌, subst}
+use Rattle.std.proofs.Common.{subst}
 use Rattle.agent_transaction.proofs.RecordLemmas.{Rises, rises_from}
 use Rattle.agent_transaction.proofs.laws.records_rise.Goals as goal
 

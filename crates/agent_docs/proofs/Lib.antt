@@ -1,4 +1,4 @@
-pub mod Brackets
+pub mod ClosedTitles
 pub mod Chains
 pub mod MachinesRead
 pub mod MemberSteps

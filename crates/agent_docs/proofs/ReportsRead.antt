@@ -240,7 +240,8 @@ has_kind r = is_kind r.kind
 reference_kept : (text : List ℕ) → Each has_kind (reference_said text)
 reference_kept text =
     each_then any has_kind reference_of (λ p h. each_both is_kind any has_kind (λ kind title. record { kind = kind; title = title })
-    (λ k t x y. x) (kind_of (str_to_ascii_lowercase p.0)) (unclosed p.1) (kind_kept _) (all _)) (cut_at 91 text) (all _)
+    (λ k t x y. x) (kind_of (str_to_ascii_lowercase p.0)) (unclosed p.1) (kind_kept (str_to_ascii_lowercase p.0))
+    (all (unclosed p.1))) (cut_at 91 text) (all (cut_at 91 text))
 
 item_kept : (d : Data) → Each (λ s. has_kind s.0) (item_said d)
 item_kept d =

@@ -1,5 +1,6 @@
-pub mod Brackets
+pub mod ClosedTitles
 pub mod Chains
+mod Examples
 pub mod MachinesRead
 pub mod MemberSteps
 pub mod RecordTokens

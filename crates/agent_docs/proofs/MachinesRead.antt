@@ -237,16 +237,17 @@ records_kept (member key d ms) state r h =
     (ok_then are_own (are_kept are_own) (λ ps. Ok (put text_cmp key ps state)) (λ ps k. put_kept are_own key ps state k h)
     (all_properties key d) (record_kept key d (first_so (is_read d) _ r)))
 
+either_read : (o : Ordering) (a : Option Data) (e : Data) → Each is_read a → is_read e ≡ true →
+    Each is_read (match_ordering o a (Some e) a)
+either_read Less a e h k = h
+either_read Equal a e h k = k
+either_read Greater a e h k = h
+
 member_read : (key : List ℕ) (ms : Members) → are_members_read ms ≡ true → Each is_read (get_member key ms)
 member_read key no_members r = tt
 member_read key (member l d ms) r =
-    one (text_cmp key l) (member_read key ms (second_so (is_read d) _ r)) (first_so (is_read d) _ r)
-  where
-    one : (o : Ordering) {a : Option Data} {e : Data} → Each is_read a → is_read e ≡ true →
-        Each is_read (match_ordering o a (Some e) a)
-    one Less h k = h
-    one Equal h k = k
-    one Greater h k = h
+    either_read (text_cmp key l) (get_member key ms) d (member_read key ms (second_so (is_read d) _ r))
+    (first_so (is_read d) _ r)
 
 got_read : (key : List ℕ) (d : Data) → is_read d ≡ true → Each is_read (get key d)
 got_read key j.null r = tt
@@ -265,18 +266,20 @@ state_kept (Some d) r =
 abbrev is_machine : MachineDoc → Bool
 is_machine m = are_kept are_own m.state
 
+ok_if : (b : Bool) (m : Result MachineDoc (List ℕ)) (p : List ℕ) → EachOk is_machine m →
+    EachOk is_machine (if b then m else Err p)
+ok_if true m p h = h
+ok_if false m p h = tt
+
 said_kept : (d : Data) → is_read d ≡ true → EachOk is_machine (machine_said d)
 unfolding members_said
 said_kept d r =
-    ok_if (is_some (as_object d)) (ok_then any is_machine _
+    ok_if (is_some (as_object d)) (members_said d) (codes "machine") (ok_then any is_machine
+    (λ failing. result_and_then (λ state. Ok (record { failing = failing; state = state }))
+    (given_state (get (codes "state") d)))
     (λ failing k. ok_then (are_kept are_own) is_machine (λ state. Ok (record { failing = failing; state = state }))
     (λ state h. h) (given_state (get (codes "state") d)) (state_kept (get (codes "state") d) (got_read (codes "state") d r)))
-    (given_failing (get (codes "failing") d)) (ok_any _))
-  where
-    ok_if : (b : Bool) {m : Result MachineDoc (List ℕ)} {p : List ℕ} → EachOk is_machine m →
-        EachOk is_machine (if b then m else Err p)
-    ok_if true h = h
-    ok_if false h = tt
+    (given_failing (get (codes "failing") d)) (ok_any (given_failing (get (codes "failing") d))))
 
 unrefused : (m : Result MachineDoc (List ℕ)) → EachOk is_machine m → Each is_machine (unless_refused m)
 unrefused (Ok m) h = h

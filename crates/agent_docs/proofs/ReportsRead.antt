@@ -210,7 +210,7 @@ second_read : (r : Report) (l : List ℕ) → IsReport r → length l < 2 ^ 64 �
 second_read r l h short e =
     let few : length r.lines < 2 ^ 64 = omega (arith, lines_fit r, ap length e, short) in
     let again : read l ≡ Some (report_data r) =
-        ap read e ∙ read_written (report_data r) (report_small r few) (report_rises r) (report_shallow r) in
+    ap read e ∙ read_written (report_data r) (report_small r few) (report_rises r) (report_shallow r) in
     ap (option_and_then (report_written l)) again
     ∙ ap₂ (λ b o. option_and_then (if_written b l) o) (says_second r) (report_back r h)
     ∙ taken false l r (is_same (report_text r) l e)
@@ -220,7 +220,7 @@ first_read : (r : Report) (l : List ℕ) → IsReport r → length l < 2 ^ 64 �
 first_read r l h short none e =
     let few : length r.lines < 2 ^ 64 = omega (arith, first_lines_fit r, ap length e, short) in
     let again : read l ≡ Some (first_data r) =
-        ap read e ∙ read_written (first_data r) (first_small r few) (first_rises r) (first_shallow r) in
+    ap read e ∙ read_written (first_data r) (first_small r few) (first_rises r) (first_shallow r) in
     ap (option_and_then (report_written l)) again
     ∙ ap₂ (λ b o. option_and_then (if_written b l) o) (says_it_is_first r) (first_back r h)
     ∙ taken true l r (both_true none (is_same (compact_text (first_data r)) l e))
@@ -240,7 +240,8 @@ has_kind r = is_kind r.kind
 reference_kept : (text : List ℕ) → Each has_kind (reference_said text)
 reference_kept text =
     each_then any has_kind reference_of (λ p h. each_both is_kind any has_kind (λ kind title. record { kind = kind; title = title })
-    (λ k t x y. x) (kind_of (str_to_ascii_lowercase p.0)) (unclosed p.1) (kind_kept _) (all _)) (cut_at 91 text) (all _)
+    (λ k t x y. x) (kind_of (str_to_ascii_lowercase p.0)) (unclosed p.1) (kind_kept (str_to_ascii_lowercase p.0))
+    (all (unclosed p.1))) (cut_at 91 text) (all (cut_at 91 text))
 
 item_kept : (d : Data) → Each (λ s. has_kind s.0) (item_said d)
 item_kept d =

@@ -159,12 +159,7 @@ fn put_property(
 }
 
 #[tactic(auto, using(json_documents::proofs::ReadForms::read_is_plain))]
-fn property_value(
-    alloc: Global,
-    key: &str,
-    name: &str,
-    value: &Json,
-) -> Result<Value, MachineStop>
+fn property_value(alloc: Global, key: &str, name: &str, value: &Json) -> Result<Value, MachineStop>
     ensures value { SaysAs value_view result (property_value key.now name.now (view value.now)) }
     ensures plain { IfOk result (λ v. IsTrue (is_plain_value (value_view v))) }
 {

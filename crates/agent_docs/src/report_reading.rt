@@ -167,9 +167,10 @@ fn item_said(alloc: Global, json: &Json) -> Result<Option<(Reference, (Status, b
     let Some(status) = json.get("status").and_then(Json::as_str) else {
         return Ok(None);
     };
-    let (Some(status), Some(refreshed)) =
-        (status_said(status), json.get("refreshed").and_then(Json::as_bool))
-    else {
+    let (Some(status), Some(refreshed)) = (
+        status_said(status),
+        json.get("refreshed").and_then(Json::as_bool),
+    ) else {
         return Ok(None);
     };
     match reference_said(alloc, reference)? {

@@ -46,11 +46,21 @@ mutual
   as_long_members : (later : Bool) (ms : Members) → count_members ms ≤ length (members_text later ms)
   as_long_members later no_members = omega arith
   as_long_members true (member k d ms) =
-      omega (arith, length-append (quoted k) (58 ∷ (compact_text d ++ members_text true ms)),
-      length-append (compact_text d) (members_text true ms), as_long d, as_long_members true ms)
+      omega (
+        arith,
+        length-append (quoted k) (58 ∷ (compact_text d ++ members_text true ms)),
+        length-append (compact_text d) (members_text true ms),
+        as_long d,
+        as_long_members true ms,
+      )
   as_long_members false (member k d ms) =
-      omega (arith, length-append (quoted k) (58 ∷ (compact_text d ++ members_text true ms)),
-      length-append (compact_text d) (members_text true ms), as_long d, as_long_members true ms)
+      omega (
+        arith,
+        length-append (quoted k) (58 ∷ (compact_text d ++ members_text true ms)),
+        length-append (compact_text d) (members_text true ms),
+        as_long d,
+        as_long_members true ms,
+      )
 
 pub long_list : {X : Type 0} (f : X → Data) (xs : List X) → length xs ≤ count_items (items_of (map f xs))
 long_list f [] = omega arith

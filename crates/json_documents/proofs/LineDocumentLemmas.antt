@@ -80,7 +80,6 @@ module _ {S L : Type 0} (table : LineTable S L) (line_in : S → List ℕ → Op
     line_in s (table.text s l) ≡ Some l)
     (keeps : (s t : S) (l : L) → Stands s → table.Fits s l → table.next s l ≡ Some t → Stands t)
     (way : (s : S) → Stands s → (ls : List L) × (w : List ℕ) × IsDocument table s ls w) where
-
   -- some document from this state on begins with the first k lines of the text
   abbrev pub BeginsAt : S → ℕ → List ℕ → Type 0
   BeginsAt s k text = (ls : List L) × (w : List ℕ) × IsDocument table s ls w × (first_lines k text ≡ first_lines k w)
@@ -123,6 +122,7 @@ module _ {S L : Type 0} (table : LineTable S L) (line_in : S → List ℕ → Op
     where
       true_false : true ≡ false → ⊥
       true_false z = cc
+
       cons_nil : b ∷ bs ≡ [] → ⊥
       cons_nil z = cc
 
@@ -167,17 +167,23 @@ module _ {S L : Type 0} (table : LineTable S L) (line_in : S → List ℕ → Op
   one_line_more s t n x j l h short read goes (Ok ls) ih =
       let it = sound s x l short read in (t, j, it.0, goes, ih, ap (λ y. y ++ 10 ∷ j) (sym it.1))
   one_line_more s t n x j l h short read goes (Err m) (k, e, b, none) =
-      let it = sound s x l short read in
-      (suc k, omega (arith, e),
-      (l ∷ b.0, table.text s l ++ 10 ∷ b.1, (t, b.1, it.0, goes, b.2, refl),
-      line_first k x j h ∙ ap (λ y. x ++ 10 ∷ y) b.3 ∙ ap (λ y. y ++ 10 ∷ first_lines k b.1) (sym it.1)
-      ∙ sym (line_first k (table.text s l) b.1 (one s l it.0))),
-      no_document s (x ++ 10 ∷ j) (suc k) (never_empty s x j (suc k) h)
-      (λ m ls u r fits next more same.
-      let parts = first_is s x j (suc k) h m r fits same in
-      let same_line : l ≡ m = same_some l m (sym read ∙ read_so s x m short fits parts.0) in
-      let same_state : u ≡ t = same_some u t (sym next ∙ ap (table.next s) (sym same_line) ∙ goes) in
-      none (ls, r, subst (λ z. IsDocument table z ls r) same_state more, parts.1)))
+      let it = sound s x l short read in (
+        suc k,
+        omega (arith, e),
+        (
+          l ∷ b.0,
+          table.text s l ++ 10 ∷ b.1,
+          (t, b.1, it.0, goes, b.2, refl),
+          line_first k x j h ∙ ap (λ y. x ++ 10 ∷ y) b.3 ∙ ap (λ y. y ++ 10 ∷ first_lines k b.1) (sym it.1)
+              ∙ sym (line_first k (table.text s l) b.1 (one s l it.0)),
+        ),
+        no_document s (x ++ 10 ∷ j) (suc k) (never_empty s x j (suc k) h)
+            (λ m ls u r fits next more same.
+            let parts = first_is s x j (suc k) h m r fits same in
+            let same_line : l ≡ m = same_some l m (sym read ∙ read_so s x m short fits parts.0) in
+            let same_state : u ≡ t = same_some u t (sym next ∙ ap (table.next s) (sym same_line) ∙ goes) in
+            none (ls, r, subst (λ z. IsDocument table z ls r) same_state more, parts.1)),
+      )
 
   by_next : (rest : List ℕ) (xs : List (List ℕ)) (s : S) (n : ℕ) (x : List ℕ) (l : L) → Stands s → has_byte 10 x ≡ false →
       length x < 2 ^ 64 → line_in s x ≡ Some l →

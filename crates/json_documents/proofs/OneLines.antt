@@ -63,7 +63,6 @@ module _ {A : Type 0} (IsLine : A → List ℕ → Type 0) (line_in : List ℕ �
     (sound : (a : A) (l : List ℕ) → length l < 2 ^ 64 → line_in l ≡ Some a → IsLine a l)
     (complete : (a : A) (l : List ℕ) → length l < 2 ^ 64 → IsLine a l → line_in l ≡ Some a)
     (some : (a : A) × (l : List ℕ) × IsLine a l) where
-
   abbrev IsDocument : A → List ℕ → Type 0
   IsDocument = IsOneLine IsLine
 
@@ -99,9 +98,12 @@ module _ {A : Type 0} (IsLine : A → List ℕ → Type 0) (line_in : List ℕ �
 
   later : (text l rest : List ℕ) (a : A) → cut_line text ≡ Some (l, rest) → IsLine a l → Begins IsDocument 1 text
   later text l rest a cut is =
-      let parts = parts_of text l rest cut in
-      (a, l ++ 10 ∷ [], (l, is, refl),
-      ap (first_lines 1) parts.0 ∙ line_first 0 l rest parts.1 ∙ sym (line_first 0 l [] parts.1))
+      let parts = parts_of text l rest cut in (
+        a,
+        l ++ 10 ∷ [],
+        (l, is, refl),
+        ap (first_lines 1) parts.0 ∙ line_first 0 l rest parts.1 ∙ sym (line_first 0 l [] parts.1),
+      )
 
   too_long : (text l : List ℕ) (b : ℕ) (bs : List ℕ) → cut_line text ≡ Some (l, b ∷ bs) → Begins IsDocument 2 text → ⊥
   too_long text l b bs cut y =
@@ -109,8 +111,8 @@ module _ {A : Type 0} (IsLine : A → List ℕ → Type 0) (line_in : List ℕ �
       let k = y.2.0 in
       let none = one y.0 k y.2.1 in
       let same : l ++ 10 ∷ first_lines 1 (b ∷ bs) ≡ k ++ 10 ∷ [] =
-          sym (ap (first_lines 2) parts.0 ∙ line_first 1 l (b ∷ bs) parts.1) ∙ y.3 ∙ ap (first_lines 2) y.2.2
-          ∙ line_first 1 k [] none in
+      sym (ap (first_lines 2) parts.0 ∙ line_first 1 l (b ∷ bs) parts.1) ∙ y.3 ∙ ap (first_lines 2) y.2.2
+      ∙ line_first 1 k [] none in
       cons_none (ap behind (sym (split_here 10 l (first_lines 1 (b ∷ bs)) parts.1) ∙ ap (cut_at 10) same
       ∙ split_here 10 k [] none))
 
@@ -123,9 +125,11 @@ module _ {A : Type 0} (IsLine : A → List ℕ → Type 0) (line_in : List ℕ �
   by_line text l rest small cut None e (Err (stop.Bad n)) h =
       subst (λ k. IsFirstBad IsDocument k text) (ap number h)
       (0, refl, begins_nothing text, bad_line text l rest small cut e)
-  by_line text l [] small cut (Some a) e (Ok b) h =
-      (l, subst (λ x. IsLine x l) (ap (value_or a) h) (sound a l (shorter text l [] small cut) e),
-      (parts_of text l [] cut).0)
+  by_line text l [] small cut (Some a) e (Ok b) h = (
+    l,
+    subst (λ x. IsLine x l) (ap (value_or a) h) (sound a l (shorter text l [] small cut) e),
+    (parts_of text l [] cut).0,
+  )
   by_line text l [] small cut (Some a) e (Err (stop.Bad n)) h = absurd cc
   by_line text l (b ∷ bs) small cut (Some a) e (Ok c) h = absurd cc
   by_line text l (b ∷ bs) small cut (Some a) e (Err (stop.Bad n)) h =

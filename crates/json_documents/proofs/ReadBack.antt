@@ -221,7 +221,7 @@ pub shallow_if_read : (e f : Data) → has_small e ≡ true → read (compact_te
 shallow_if_read e f h same =
     let found = was_read (value max_depth (tokens (compact_text e))) f same in
     let deep : tree.depth (outline e) ≤ max_depth =
-        no_deeper (outline e) found.0 (json_tokens (outline e)) (ap (value max_depth) (sym (its_tokens e h)) ∙ found.1)
-        (ap (value (tree.depth (outline e))) (sym (append-nil (json_tokens (outline e))))
-        ∙ value-json_tokens (outline e) (tree.depth (outline e)) [] (omega arith)) in
+    no_deeper (outline e) found.0 (json_tokens (outline e)) (ap (value max_depth) (sym (its_tokens e h)) ∙ found.1)
+    (ap (value (tree.depth (outline e))) (sym (append-nil (json_tokens (outline e))))
+    ∙ value-json_tokens (outline e) (tree.depth (outline e)) [] (omega arith)) in
     omega (arith, same_depth e, deep)

@@ -2,6 +2,8 @@
 #![tactic(auto)]
 
 #[cfg(test)]
+mod agent_documents;
+#[cfg(test)]
 mod attributes;
 #[cfg(test)]
 mod copies;

@@ -15,9 +15,6 @@ use Rattle.res_core.specs.declared.catalog.Catalog.{Catalog}
 use Rattle.res_core.specs.declared.log_line.LogLine.{LogLine}
 use Rattle.res_core.specs.declared.exported.Exported.{Exported}
 use Rattle.res_core.specs.Asked.{Asked, compile, deactivate}
-use Rattle.agent_machine.specs.declared.status.Status.{Status}
-use Rattle.agent_machine.specs.declared.status.Status.TheVariants as status
-use Rattle.agent_machine.specs.declared.report_line.ReportLine.{ReportLine}
 use Rattle.site_core.specs.Events.{Event, opens, publishes, adds}
 use Rattle.site_core.specs.declared.plain.Plain.TheVariants as ask
 use Rattle.site_core.specs.declared.reply.ReplyOf.{ReplyOf}
@@ -28,7 +25,7 @@ use Rattle.site_docs.specs.FaultText.{plain_line, fault_text}
 use Rattle.site_docs.specs.LogText.{log_text}
 use Rattle.site_docs.specs.declared.fault_names.TheConstants.{FAULT_NAMES}
 use Rattle.site_docs.specs.SiteText.{site_object, site_data, site_text}
-use Rattle.agent_docs.specs.ReportText.{has_changed, has_failed, was_noop, line_object, line_data, report_object, report_data, report_text}
+use Rattle.agent_docs.specs.ReportText.{report_object, report_data}
 use Rattle.site_docs.specs.JournalText.{export_object, export_data, opening_object, publication_object, deactivation_object, deployment_object, filing_object, count_object, plain_data, entry_data, entry_lines, journal_text}
 use Rattle.site_docs.specs.ReplyText.{served_text, refused_object, full_object, ahead_object, unknown_object, deactivated_object, deployed_object, reported_object, memory_object, reply_text, reply_line}
 
@@ -251,50 +248,3 @@ others : (replies 0 (asks (codes "z") 0) (UnknownNode 1) ≡ codes "{\"k\":1,\"r
 unfolding reply_text full_object ahead_object unknown_object deactivated_object deployed_object reported_object memory_object
     digits serde_json_on_literals
 others = (refl, refl, refl, refl, refl, refl, refl)
-
--- ---- reports
-
-abbrev about : List ℕ → List ℕ → Reference
-about kind title = record { kind = kind; title = title }
-
-abbrev told : Reference → Status → List (List ℕ) → Bool → Option (List ℕ) → ReportLine
-told item status changes refreshed fault = record {
-  item = item;
-  status = status;
-  changes = changes;
-  refreshed = refreshed;
-  fault = fault;
-}
-
-abbrev reports : List ReportLine → List ℕ
-reports lines = report_text (record { node = codes "n"; lines = lines })
-
-nothing_done : reports [] ≡ codes "{\"changed\":0,\"failed\":0,\"node\":\"n\",\"noop\":0,\"report\":2,\"resources\":[]}"
-unfolding report_data report_object digits serde_json_on_literals
-nothing_done = refl
-
--- what a file would have been changed in, and a service that was not changed
-looked_at : reports (told (about (codes "file") (codes "/a")) status.Noop (codes "content" ∷ []) false None ∷
-    told (about (codes "service") (codes "s")) status.Unchanged [] false None ∷ [])
-    ≡ codes "{\"changed\":0,\"failed\":0,\"node\":\"n\",\"noop\":1,\"report\":2,\"resources\":[{\"changes\":[\"content\"],\"fault\":null,\"ref\":\"File[/a]\",\"refreshed\":false,\"status\":\"noop\"},{\"changes\":[],\"fault\":null,\"ref\":\"Service[s]\",\"refreshed\":false,\"status\":\"unchanged\"}]}"
-unfolding report_data report_object line_data line_object digits serde_json_on_literals
-looked_at = refl
-
--- a call that failed, a resource behind it, and one that was run
-failed_first : reports (told (about (codes "package") (codes "p")) status.Failed [] false (Some (codes "write ensure")) ∷
-    told (about (codes "service") (codes "s")) status.Skipped [] false None ∷
-    told (about (codes "notify") (codes "n")) status.Changed (codes "run" ∷ []) false None ∷ [])
-    ≡ codes "{\"changed\":1,\"failed\":1,\"node\":\"n\",\"noop\":0,\"report\":2,\"resources\":[{\"changes\":[],\"fault\":\"write ensure\",\"ref\":\"Package[p]\",\"refreshed\":false,\"status\":\"failed\"},{\"changes\":[],\"fault\":null,\"ref\":\"Service[s]\",\"refreshed\":false,\"status\":\"skipped\"},{\"changes\":[\"run\"],\"fault\":null,\"ref\":\"Notify[n]\",\"refreshed\":false,\"status\":\"changed\"}]}"
-unfolding report_data report_object line_data line_object digits serde_json_on_literals
-failed_first = refl
-
--- what counts as changed: a refresh alone, and changes before a call that failed; not what was only looked at
-counted : (has_changed (told (about [] []) status.Unchanged [] true None) ≡ true)
-    × (has_changed (told (about [] []) status.Unchanged [] false None) ≡ false)
-    × (has_changed (told (about [] []) status.Failed (codes "mode" ∷ []) false (Some (codes "write owner"))) ≡ true)
-    × (has_changed (told (about [] []) status.Noop (codes "mode" ∷ []) true None) ≡ false)
-    × (was_noop (told (about [] []) status.Noop (codes "mode" ∷ []) false None) ≡ true)
-    × (was_noop (told (about [] []) status.Unchanged [] false None) ≡ false)
-    × (has_failed (told (about [] []) status.Failed [] false (Some (codes "refresh"))) ≡ true)
-    × (has_failed (told (about [] []) status.Skipped [] false None) ≡ false)
-counted = (refl, refl, refl, refl, refl, refl, refl, refl)

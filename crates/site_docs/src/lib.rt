@@ -11,8 +11,8 @@ mod resource_forms;
 pub mod site_texts;
 
 pub use agent_docs::{
-    DocStop, MachineStop, machine_of, machines_are_told_apart, read_machine, read_report, reports_are_told_apart,
-    write_machine, write_report,
+    DocStop, MachineStop, machine_of, machines_are_told_apart, read_machine, read_report,
+    reports_are_told_apart, write_machine, write_report,
 };
 pub use catalog_texts::{catalog_text, catalogs_are_told_apart, write_catalog};
 pub use fault_names::FAULT_NAMES;

@@ -6,7 +6,7 @@ use Rattle.agent_docs.proofs.machine_members.texts_among.Goals as goal
 pub loop-left-preserved : goal.loop-left-preserved
 loop-left-preserved c =
     text_found _ _ _ _ _ _ _ (first_of _ _ c.in-len1-up.len_at_least c.item-item.is) c.len.ensures
-    c.in_ok-text.ensures c.in_ok-push.ensures
+    c.in_ok-text.ensures c.in_ok-push.ensures.ok
     ∙ c.loop-left.invariant
 
 pub returns-in_err-text : goal.returns-in_err-text

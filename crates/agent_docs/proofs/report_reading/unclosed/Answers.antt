@@ -1,4 +1,4 @@
-use Rattle.agent_docs.proofs.Brackets.{stripped}
+use Rattle.agent_docs.proofs.ClosedTitles.{stripped}
 use Rattle.agent_docs.proofs.report_reading.unclosed.Goals as goal
 
 pub returns : goal.returns

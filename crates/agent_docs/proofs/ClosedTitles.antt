@@ -12,21 +12,20 @@ abbrev IsUnclosed : List ℕ → Option (List ℕ) → Type 0
 IsUnclosed bs None = (front : List ℕ) → bs ≢ front ++ 93 ∷ []
 IsUnclosed bs (Some t) = bs ≡ t ++ 93 ∷ []
 
+none_of : (bs : List ℕ) → ((front : List ℕ) → bs ≢ front ++ 93 ∷ []) → unclosed bs ≡ None
+none_of [] h = refl
+none_of (b ∷ []) h =
+    elim (b == 93) as (λ t. (b == 93) ≡ t → ◌≡◌ {A = Option (List ℕ)} (if t then Some [] else None) None) [
+      | true ↦ λ e. absurd (h [] (ap (λ x. x ∷ []) (eqb-true b 93 e)))
+      | false ↦ λ e. refl
+    ] refl
+none_of (b ∷ c ∷ cs) h =
+    ap (option_map (λ t. b ∷ t)) (none_of (c ∷ cs) (λ front e. h (b ∷ front) (ap (λ xs. b ∷ xs) e)))
+
 -- what is left, where the text ends so, is told by the text
 one_answer : (bs : List ℕ) (o : Option (List ℕ)) → IsUnclosed bs o → o ≡ unclosed bs
 one_answer bs (Some t) h = sym (ap unclosed h ∙ unclosed_back t)
-one_answer bs None h = none_of bs h
-  where
-    more : (b : ℕ) (o : Option (List ℕ)) → None ≡ o → None ≡ option_map (λ t. b ∷ t) o
-    more b o e = ap (option_map (λ t. b ∷ t)) e
-    none_of : (bs : List ℕ) → ((front : List ℕ) → bs ≢ front ++ 93 ∷ []) → None ≡ unclosed bs
-    none_of [] h = refl
-    none_of (b ∷ []) h =
-        elim (b == 93) as (λ t. (b == 93) ≡ t → None ≡ (if t then Some [] else None)) [
-          | true ↦ λ e. absurd (h [] (ap (λ x. x ∷ []) (eqb-true b 93 e)))
-          | false ↦ λ e. refl
-        ] refl
-    none_of (b ∷ c ∷ cs) h = more b (unclosed (c ∷ cs)) (none_of (c ∷ cs) (λ front e. h (b ∷ front) (ap (λ xs. b ∷ xs) e)))
+one_answer bs None h = sym (none_of bs h)
 
 shown_option : (bs : List ℕ) (r : Option (Bor (List ℕ))) →
     MatchOption r ((front : List ℕ) → bs ≢ front ++ 93 ∷ []) (λ x. bs ≡ x.now ++ 93 ∷ []) →

@@ -1,7 +1,7 @@
 mod Examples
 mod NodeTold
 mod Readable
-mod Reads
+mod KeptReads
 pub mod Sent
 mod SentData
 pub mod Statuses

@@ -30,7 +30,11 @@ pub fn batch_output<G: Gate + Sync, R: Threads + Wait + Sync>(
     requires few { workers ≤ MOST_WORKERS }
     ensures { IfOk result (λ output. HasShared workers output bundle) }
 {
-    let Bundle { site, requests } = bundle;
+    let Bundle {
+        site,
+        requests,
+        machine: _unused,
+    } = bundle;
     let came = run_batch(rt, alloc, PuppetLanguage, site, &requests, workers, gate)?;
     let text = run_text(alloc, &requests, &came.history, &came.replies)?;
     Ok(output_of(&came.replies, text))

@@ -18,7 +18,11 @@ pub fn sequence_output(alloc: Global, bundle: Bundle) -> Result<Output, Memory>
     requires short { length bundle.requests ≤ MOST_REQUESTS }
     ensures { IfOk result (λ output. HasRun output bundle) }
 {
-    let Bundle { site, requests } = bundle;
+    let Bundle {
+        site,
+        requests,
+        machine: _unused,
+    } = bundle;
     let came = run_sequence(alloc, &PuppetLanguage, site, &requests)?;
     let text = run_text(alloc, &requests, &came.history, &came.replies)?;
     Ok(output_of(&came.replies, text))

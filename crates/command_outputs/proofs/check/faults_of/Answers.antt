@@ -1,7 +1,7 @@
 use Rattle.std.proofs.Common.{◌≡◌, ◌∙◌, ap, map, subst}
 use Rattle.std.specs.Prelude.{IfOk}
 use Rattle.command_outputs.specs.Checks.{faults_among, read_as}
-use Rattle.command_outputs.proofs.Reads.{reads_kept}
+use Rattle.command_outputs.proofs.KeptReads.{reads_kept}
 use Rattle.command_outputs.proofs.check.faults_of.Goals as goal
 
 pub returns : goal.returns

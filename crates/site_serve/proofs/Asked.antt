@@ -45,9 +45,15 @@ is_of node body report sent same = (sent, (slice_eq-Decides Decides-eqb report.n
 
 pub of_another : (node body : List ℕ) (report : Report) → IsSent body report →
     pointwise nat_eq report.node node ≡ false → ReportAsked node body (Err why.Report)
-of_another node body report sent other =
-    (refl, inr (report, sent, (λ e. absurd (cc (sym ((slice_eq-Decides Decides-eqb report.node node _ refl).1 e)
-    ∙ other)))))
+of_another node body report sent other = (
+  refl,
+  inr (
+    report,
+    sent,
+    (λ e. absurd (cc (sym ((slice_eq-Decides Decides-eqb report.node node _ refl).1 e)
+        ∙ other))),
+  ),
+)
 
 pub of_none : (node body : List ℕ) → ((report : Report) → IsSent body report → ⊥) →
     ReportAsked node body (Err why.Report)

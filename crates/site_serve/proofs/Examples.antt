@@ -12,6 +12,7 @@ use Rattle.site_serve.specs.Endpoints.{endpoint_of}
 use Rattle.site_serve.specs.Requests.{seen_number, seen_asked, facts_said, facts_asked}
 use Rattle.site_serve.specs.Replies.{refusal_response, reply_response, refusal_text}
 use Rattle.site_serve.specs.declared.endpoint.Endpoint.TheVariants as at
+use Rattle.site_serve.specs.declared.conn_end.TheConstants.{MOST_ANSWERS}
 use Rattle.site_serve.specs.declared.refusal.Refusal.TheVariants as why
 
 -- ---- paths
@@ -82,6 +83,11 @@ no_object = refl
 
 no_body : facts_asked [] ≡ Ok None
 no_body = refl
+
+-- ---- connections
+
+most_answers : MOST_ANSWERS ≡ 1024
+most_answers = refl
 
 -- ---- responses
 

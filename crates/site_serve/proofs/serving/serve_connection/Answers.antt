@@ -58,10 +58,13 @@ returns-in-Err-Memory g c =
 
 pub loop-answered-preserved : goal.loop-answered-preserved
 loop-answered-preserved g c =
-    let x = read_one _ _ _ _ _ _ c.in-Ok-Some.field-0-is c.in-Ok-Some.ensures in
-    (search rules, search rules, answered_one _ _ _ _ _ _ _ _ _ _ c.loop-answered.invariant.2
-    c.loop-answered-test.true _ _ x.1 _ _ (x.2, x.3, x.4) _ c.keeps-in-Ok-Some.ensures.few (Unit {0}) _
-    c.in-Ok.ensures _ c.in-Ok-write_response.ensures c.if-request.false)
+    let x = read_one _ _ _ _ _ _ c.in-Ok-Some.field-0-is c.in-Ok-Some.ensures in (
+      search rules,
+      search rules,
+      answered_one _ _ _ _ _ _ _ _ _ _ c.loop-answered.invariant.2
+          c.loop-answered-test.true _ _ x.1 _ _ (x.2, x.3, x.4) _ c.keeps-in-Ok-Some.ensures.few (Unit {0}) _
+          c.in-Ok.ensures _ c.in-Ok-write_response.ensures c.if-request.false,
+    )
 
 pub returns : goal.returns
 returns g c =

@@ -23,7 +23,7 @@ use Rattle.site_core.specs.declared.plain.Plain.TheVariants as ask
 use Rattle.http_wire.specs.declared.request.HttpRequest.{HttpRequest}
 use Rattle.site_serve.specs.Endpoints.{endpoint_of, method_of}
 use Rattle.site_serve.specs.Requests.{Reading, seen_asked, facts_said, facts_asked, wanted_by, IsSent, ReportAsked, site_asked, FilingAsked, AsksAt, AsksBy, AsksOf, Asks}
-use Rattle.site_serve.specs.Steps.{IsRefused, gives_facts}
+use Rattle.site_serve.specs.Steps.{IsRefused, ReadsBy, gives_facts}
 use Rattle.site_serve.specs.declared.ask_stop.AskStop.{AskStop}
 use Rattle.site_serve.specs.declared.ask_stop.AskStop.TheVariants as stop
 use Rattle.site_serve.specs.declared.endpoint.Endpoint.{Endpoint}
@@ -45,9 +45,15 @@ is_of node body report sent same = (sent, (slice_eq-Decides Decides-eqb report.n
 
 pub of_another : (node body : List ℕ) (report : Report) → IsSent body report →
     pointwise nat_eq report.node node ≡ false → ReportAsked node body (Err why.Report)
-of_another node body report sent other =
-    (refl, inr (report, sent, (λ e. absurd (cc (sym ((slice_eq-Decides Decides-eqb report.node node _ refl).1 e)
-    ∙ other)))))
+of_another node body report sent other = (
+  refl,
+  inr (
+    report,
+    sent,
+    (λ e. absurd (cc (sym ((slice_eq-Decides Decides-eqb report.node node _ refl).1 e)
+        ∙ other))),
+  ),
+)
 
 pub of_none : (node body : List ℕ) → ((report : Report) → IsSent body report → ⊥) →
     ReportAsked node body (Err why.Report)
@@ -58,10 +64,30 @@ module _ {S : Type 0} where
       FilingAsked {S = S} node body (Ok (plain (filed report)))
   filing_read node body report is = (Ok report, is, refl)
 
-  pub filing_stopped : (node body : List ℕ) (s : AskStop) → IsRefused s (ReportAsked node body) →
-      IsRefused s (FilingAsked {S = S} node body)
-  filing_stopped node body (stop.Refused refusal) is = (Err refusal, is, refl)
-  filing_stopped node body stop.Memory is = tt
+pub filing_stopped : (S : Type 0) (node body : List ℕ) (s : AskStop) → IsRefused s (ReportAsked node body) →
+    IsRefused s (FilingAsked {S = S} node body)
+filing_stopped S node body (stop.Refused refusal) is = (Err refusal, is, refl)
+filing_stopped S node body stop.Memory is = tt
+
+-- ---- paths and methods
+
+module _ {S A : Type 0} (said_site : List ℕ → Option S) (shown : A → Asked S) (result : Result A AskStop)
+    (r : HttpRequest) where
+  pub asks_as : (o : Option Endpoint) (path : List ℕ) → path ≡ r.path → o ≡ endpoint_of path →
+      ReadsBy shown result (AsksOf said_site o r) → ReadsBy shown result (Asks said_site r)
+  asks_as o path same is reads =
+      subst (λ x. ReadsBy shown result (AsksOf said_site x r)) (is ∙ ap endpoint_of same) reads
+
+  pub fits_method : (c : Bool) (endpoint : Endpoint) → c ≡ true → ReadsBy shown result (AsksAt said_site endpoint r) →
+      ReadsBy shown result (AsksBy said_site c endpoint r)
+  fits_method true endpoint is reads = reads
+  fits_method false endpoint is reads = absurd (cc is)
+
+module _ {S : Type 0} (said_site : List ℕ → Option S) where
+  pub other_method : (c : Bool) (endpoint : Endpoint) (r : HttpRequest) → c ≡ false →
+      AsksBy said_site c endpoint r (Err why.Method)
+  other_method true endpoint r is = absurd (cc is)
+  other_method false endpoint r is = refl
 
 -- ---- facts
 

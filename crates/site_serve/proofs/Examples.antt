@@ -1,7 +1,8 @@
 -- The definitions on small values.
 use Rattle.std.proofs.Common.{◌≡◌, ℕ, List, [], ◌∷◌, ◌++◌, Some, None, refl}
-use Rattle.std.specs.Prelude.{codes, Ok, Err}
+use Rattle.std.specs.Prelude.{codes, Ok, Err, pos}
 use Rattle.std.specs.Fmt.{digits}
+use Rattle.std.specs.Str.{is_utf8, chars}
 use Rattle.serde_json.proofs.OnLiterals.{serde_json_on_literals}
 use Rattle.pp_values.specs.Datum.{hash, no_entries, entry, text, int}
 use Rattle.site_core.specs.Asked.{Asked, compile}
@@ -12,6 +13,7 @@ use Rattle.site_serve.specs.Endpoints.{endpoint_of}
 use Rattle.site_serve.specs.Requests.{seen_number, seen_asked, facts_said, facts_asked}
 use Rattle.site_serve.specs.Replies.{refusal_response, reply_response, refusal_text}
 use Rattle.site_serve.specs.declared.endpoint.Endpoint.TheVariants as at
+use Rattle.site_serve.specs.declared.conn_end.TheConstants.{MOST_ANSWERS}
 use Rattle.site_serve.specs.declared.refusal.Refusal.TheVariants as why
 
 -- ---- paths
@@ -69,19 +71,24 @@ not_told = refl
 -- ---- facts
 
 no_facts : facts_said (codes "{}") ≡ Some (hash no_entries)
-unfolding serde_json_on_literals
+unfolding is_utf8 chars serde_json_on_literals
 no_facts = refl
 
-one_fact : facts_said (codes "{\"a\":1}") ≡ Some (hash (entry (text (codes "a")) (int 1) no_entries))
-unfolding serde_json_on_literals
+one_fact : facts_said (codes "{\"a\":1}") ≡ Some (hash (entry (text (codes "a")) (int (pos 1)) no_entries))
+unfolding is_utf8 chars serde_json_on_literals
 one_fact = refl
 
 no_object : facts_asked (codes "[]") ≡ Err why.Facts
-unfolding serde_json_on_literals
+unfolding is_utf8 chars serde_json_on_literals
 no_object = refl
 
 no_body : facts_asked [] ≡ Ok None
 no_body = refl
+
+-- ---- connections
+
+most_answers : MOST_ANSWERS ≡ 1024
+most_answers = refl
 
 -- ---- responses
 

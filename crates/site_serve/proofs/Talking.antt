@@ -50,9 +50,11 @@ write_stopped s t text before after is writes = subst (λ x. WritesText {U = Uni
 begins_more : (bytes rest more : List ℕ) (rs : List HttpRequest) → Begins bytes rs rest →
     Begins (bytes ++ more) rs (rest ++ more)
 begins_more bytes rest more [] is = ap (λ l. l ++ more) is
-begins_more bytes rest more (r ∷ rs) b =
-    (b.0 ++ more, (b.1.0, b.1.1, ap (λ l. l ++ more) b.1.2 ∙ append_assoc b.1.0 b.0 more),
-    begins_more b.0 rest more rs b.2)
+begins_more bytes rest more (r ∷ rs) b = (
+  b.0 ++ more,
+  (b.1.0, b.1.1, ap (λ l. l ++ more) b.1.2 ∙ append_assoc b.1.0 b.0 more),
+  begins_more b.0 rest more rs b.2,
+)
 
 begins_push : (bytes rest back : List ℕ) (rs : List HttpRequest) (r : HttpRequest) → Begins bytes rs rest →
     HasNext rest r back → Begins bytes (rs ++ r ∷ []) back
@@ -246,8 +248,11 @@ module _ {S C F : Type 0} (meaning : Meaning S C F) (listed : Listed S) (d : Dia
         talked = read_on;
         traded = traded_then_written traded_on begun.3;
         taken = inl goes_on;
-        front = inr (why, subst (λ l. Refuses why (rest ++ more) (l ≡ Some [])) (sym begun.3.left) refuses,
-            (begun.1, ap (λ l. done.text ++ l) begun.2 ∙ sym (append_assoc done.text begun.0 begun.1)));
+        front = inr (
+          why,
+          subst (λ l. Refuses why (rest ++ more) (l ≡ Some [])) (sym begun.3.left) refuses,
+          (begun.1, ap (λ l. done.text ++ l) begun.2 ∙ sym (append_assoc done.text begun.0 begun.1)),
+        );
       }
 
       -- the refusal, or what was written of it
@@ -256,9 +261,17 @@ module _ {S C F : Type 0} (meaning : Meaning S C F) (listed : Listed S) (d : Dia
       refused_with after why end.Closed refuses ends = absurd ends
       refused_with after why end.ReadFault refuses ends = absurd ends
       refused_with after why (end.Bad said at) refuses ends =
-          subst₂ (λ w n. Ends d (HasReplied meaning listed p q) (end.Bad w n) before after) (sym ends.0) (sym ends.1)
-          (done.bytes ++ more, rest ++ more, done.text, done.rs, read_on, traded_then_written traded_on ends.2, goes_on,
-          subst (λ l. Refuses why (rest ++ more) (l ≡ Some [])) (sym ends.2.left) refuses, place_on)
+          subst₂ (λ w n. Ends d (HasReplied meaning listed p q) (end.Bad w n) before after) (sym ends.0) (sym ends.1) (
+            done.bytes ++ more,
+            rest ++ more,
+            done.text,
+            done.rs,
+            read_on,
+            traded_then_written traded_on ends.2,
+            goes_on,
+            subst (λ l. Refuses why (rest ++ more) (l ≡ Some [])) (sym ends.2.left) refuses,
+            place_on,
+          )
       refused_with after why end.WriteFault refuses ends =
           (stopped after why refuses ends.0, rose_on after ends.1)
       refused_with after why end.Memory refuses ends = stopped after why refuses ends
@@ -267,16 +280,29 @@ module _ {S C F : Type 0} (meaning : Meaning S C F) (listed : Listed S) (d : Dia
     module _ (bytes : List ℕ) (mid : Stream) (got : HasGathered HasNone rest bytes now mid) where
       -- the input ended behind all requests
       pub ended : bytes ≡ [] → mid.left ≡ Some [] → Ends d (HasReplied meaning listed p q) end.Closed before mid
-      ended none left =
-          (done.bytes ++ got.more, rest ++ got.more, done.text, done.rs, read_on got.more mid got.read,
-          traded_on got.more mid got.read, inl (goes_on, sym got.grown ∙ none, left))
+      ended none left = (
+        done.bytes ++ got.more,
+        rest ++ got.more,
+        done.text,
+        done.rs,
+        read_on got.more mid got.read,
+        traded_on got.more mid got.read,
+        inl (goes_on, sym got.grown ∙ none, left),
+      )
 
       pub read_failed : IsOpen bytes → Rose now.faults mid.faults →
           Ends d (HasReplied meaning listed p q) end.ReadFault before mid
-      read_failed open_ rose =
-          (done.bytes ++ got.more, rest ++ got.more, done.text, done.rs, read_on got.more mid got.read,
-          traded_on got.more mid got.read, goes_on, subst IsOpen got.grown open_,
-          Rose-after before.faults now.faults mid.faults done.traded.later rose)
+      read_failed open_ rose = (
+        done.bytes ++ got.more,
+        rest ++ got.more,
+        done.text,
+        done.rs,
+        read_on got.more mid got.read,
+        traded_on got.more mid got.read,
+        goes_on,
+        subst IsOpen got.grown open_,
+        Rose-after before.faults now.faults mid.faults done.traded.later rose,
+      )
 
       pub refused_at : (after : Stream) (why : H) (e : ConnEnd) → Refuses why bytes (mid.left ≡ Some []) →
           EndsRefused why offset e mid after → Ends d (HasReplied meaning listed p q) e before after
@@ -340,10 +366,15 @@ module _ {S C F : Type 0} (meaning : Meaning S C F) (listed : Listed S) (d : Dia
           -- it was, and it is the last
           pub closed : HasWritten (response_text response) mid after → request.close ≡ true →
               Ends d (HasReplied meaning listed p q') end.Closed before after
-          closed written asks_end =
-              (done.bytes ++ got.more, back, done.text ++ response_text response, done.rs ++ request ∷ [], due,
-              traded_then_written (traded_on got.more mid got.read) written,
-              inr (done.rs, request, refl, goes_on, inl asks_end))
+          closed written asks_end = (
+            done.bytes ++ got.more,
+            back,
+            done.text ++ response_text response,
+            done.rs ++ request ∷ [],
+            due,
+            traded_then_written (traded_on got.more mid got.read) written,
+            inr (done.rs, request, refl, goes_on, inl asks_end),
+          )
 
           -- or more may follow
           pub answered_one : HasWritten (response_text response) mid after → request.close ≡ false →
@@ -366,6 +397,12 @@ module _ {S C F : Type 0} (meaning : Meaning S C F) (listed : Listed S) (d : Dia
       HasServed meaning listed d p q before now rest offset answered → answered ≡ MOST_ANSWERS →
       Ends d (HasReplied meaning listed p q) end.Closed before now
   enough p q before now rest offset answered done all =
-      let last = last_of done.rs done.going (omega (arith, done.count, all)) in
-      (done.bytes, rest, done.text, done.rs, done.talked, done.traded,
-      inr (last.0, last.1, last.2, (last.3, omega (arith, last.4, done.count, all)), inr (done.count ∙ all)))
+      let last = last_of done.rs done.going (omega (arith, done.count, all)) in (
+        done.bytes,
+        rest,
+        done.text,
+        done.rs,
+        done.talked,
+        done.traded,
+        inr (last.0, last.1, last.2, (last.3, omega (arith, last.4, done.count, all)), inr (done.count ∙ all)),
+      )

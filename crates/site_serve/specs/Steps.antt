@@ -1,5 +1,5 @@
 -- What routing, reading a request, answering it and writing the response do.
-use Rattle.std.specs.Prelude.{◌≡◌, ◌⊎◌, ⊤, ℕ, Bool, true, codes, List, [], ◌∷◌, ◌++◌, length, Option, Some, None, option_map, Result, Ok, Err}
+use Rattle.std.specs.Prelude.{◌≡◌, ◌⊎◌, ⊤, ℕ, ◌+◌, Bool, true, codes, List, [], ◌∷◌, ◌++◌, length, Option, Some, None, option_map, Result, Ok, Err}
 use Rattle.matchit.specs.Rows.{RowsOf, param_token}
 use Rattle.matchit.specs.Router.{RouteOf}
 use Rattle.matchit.specs.Seek.{first}
@@ -37,9 +37,10 @@ use Rattle.site_serve.specs.declared.routes.Route.TheVariants as route
 
 -- a front with the name of a node behind it; the name's place in the route's text is between these two
 abbrev pub node_route : List ℕ → List ℕ → ℕ × ℕ → Route → List ℕ × RouteOf Route
-node_route front text name value =
-    (front ++ param_token ∷ [],
-    record { pattern = front ++ param_token ∷ []; text = text; names = name ∷ []; value = value })
+node_route front text name value = (
+  front ++ param_token ∷ [],
+  record { pattern = front ++ param_token ∷ []; text = text; names = name ∷ []; value = value },
+)
 
 abbrev pub site_route : List ℕ × RouteOf Route
 site_route = (codes "/site", record { pattern = codes "/site"; text = codes "/site"; names = []; value = route.Site })

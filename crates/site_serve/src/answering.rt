@@ -52,9 +52,9 @@ fn reply<L: Language + Drop, G: Gate, R: Wait>(
     requires facts { IsTrue (gives_facts (asked call)) }
     ensures { HasReply L.meaning L.listed L.catalog_form L.fault_form (asked call) result pass.old pass.new }
 {
-    let seen = call.seen();
+    let told = call.seen();
     let reply = answer(rt, alloc, site, pass, call, gate);
-    reply_response(alloc, site.language(), seen, &reply)
+    reply_response(alloc, site.language(), told, &reply)
 }
 
 fn answer<L: Language + Drop, G: Gate, R: Wait>(

@@ -133,13 +133,19 @@ fn refused(alloc: Global, k: u32, fault: Text) -> Result<HttpResponse, Memory>
 fn full(alloc: Global, length: u32) -> Result<HttpResponse, Memory>
     ensures { IfOk result (λ response. response ≡ full_response length) }
 {
-    says(StatusCode::SERVICE_UNAVAILABLE, format!(in alloc; "full {length}")?)
+    says(
+        StatusCode::SERVICE_UNAVAILABLE,
+        format!(in alloc; "full {length}")?,
+    )
 }
 
 fn ahead(alloc: Global, seen: u32, length: u32) -> Result<HttpResponse, Memory>
     ensures { IfOk result (λ response. response ≡ ahead_response seen length) }
 {
-    says(StatusCode::CONFLICT, format!(in alloc; "seen {seen} length {length}")?)
+    says(
+        StatusCode::CONFLICT,
+        format!(in alloc; "seen {seen} length {length}")?,
+    )
 }
 
 fn entry_named(alloc: Global, entry: u32) -> Result<HttpResponse, Memory>

@@ -28,15 +28,32 @@ pub fn serve_connection<L: Language + Drop, C: Source + Sink, G: Gate, R: Wait>(
         result (C.stream connection.old) (C.stream connection.new) }
 {
     pass.keeps();
-    let Ok(routes) = Routes::new(alloc) else {
-        return ConnEnd::Memory;
-    };
+    match Routes::new(alloc) {
+        Ok(routes) => answer_all(rt, alloc, site, pass, &routes, connection, gate),
+        Err(_refused) => ConnEnd::Memory,
+    }
+}
+
+fn answer_all<L: Language + Drop, C: Source + Sink, G: Gate, R: Wait>(
+    rt: &R,
+    alloc: Global,
+    site: &SharedSite<L>,
+    pass: &mut SitePass<L>,
+    routes: &Routes,
+    connection: &mut C,
+    gate: &G,
+) -> ConnEnd
+    requires { pass.old.site ≡ site.now }
+    ensures { Ends (dialect L.said_site L.catalog_form L.fault_form) (HasReplied L.meaning L.listed pass.old pass.new)
+        result (C.stream connection.old) (C.stream connection.new) }
+{
+    pass.keeps();
     let mut rest = Bytes::new(alloc);
     let mut offset = 0u64;
     for _answered in 0..MOST_ANSWERS {
         match read_request(alloc, connection, &mut rest) {
             Ok(Some(request)) => {
-                let response = respond(rt, alloc, site, pass, &routes, &request, gate);
+                let response = respond(rt, alloc, site, pass, routes, &request, gate);
                 pass.keeps();
                 let Ok(response) = response else {
                     return ConnEnd::Memory;

@@ -169,6 +169,10 @@ fn the_last_answer(rt: HostRuntime) -> Result<(), Fail> {
     let mut connection = MemConn::new(alloc, sent.as_bytes(), 100_000, &[])?;
     let end = serve_connection(&rt, alloc, &site, &mut pass, &mut connection, &OpenGate);
     assert!(rt; end == ConnEnd::Closed, "closed");
-    assert!(rt; connection.written().len() == 1024 * 61, "{}", connection.written().len());
+    assert!(rt;
+        connection.written().len() == 1024 * 61,
+        "{}",
+        connection.written().len()
+    );
     Ok(())
 }

@@ -3,8 +3,8 @@ use Rattle.site_serve.proofs.Asked.{gives}
 use Rattle.site_serve.proofs.Responding.{responds_by, responds_refused}
 use Rattle.site_serve.proofs.answering.respond.Goals as goal
 
-pub reply-in-Ok-requires-facts : goal.reply-in-Ok-requires-facts
-reply-in-Ok-requires-facts g c = gives _ _ _ c.in-Ok.ensures
+pub reply-requires-clause-facts : goal.reply-requires-clause-facts
+reply-requires-clause-facts g c = gives _ _ _ c.in-Ok.ensures
 
 pub returns-in-Ok : goal.returns-in-Ok
 returns-in-Ok g c = responds_by _ _ _ _ _ _ _ _ c.in-Ok.ensures c.reply.ensures

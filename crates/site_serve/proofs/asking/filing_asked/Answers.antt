@@ -5,4 +5,4 @@ pub returns-in-Ok : goal.returns-in-Ok
 returns-in-Ok c = filing_read _ _ _ c.in-Ok.ensures
 
 pub returns-in-Err : goal.returns-in-Err
-returns-in-Err c = filing_stopped _ _ _ c.in-Err.ensures
+returns-in-Err c = filing_stopped _ _ _ _ c.in-Err.ensures

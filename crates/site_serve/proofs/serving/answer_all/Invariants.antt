@@ -2,7 +2,7 @@
 use Rattle.std.proofs.Common.{◌≡◌, ◌≤◌, ◌*◌}
 use Rattle.site_serve.specs.Ends.{dialect}
 use Rattle.site_serve.specs.Steps.{HasServed}
-use Rattle.site_serve.proofs.serving.serve_connection.Given as goal
+use Rattle.site_serve.proofs.serving.answer_all.Given as goal
 
 abbrev pub invariant-loop-answered : goal.invariant-loop-answered
 invariant-loop-answered g l =

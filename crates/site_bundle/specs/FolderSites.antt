@@ -1,5 +1,5 @@
 -- The site in a folder: which files are read for it, in which order, and what they give.
-use Rattle.std.specs.Prelude.{ℕ, suc, if◌then◌else◌, nat_eq, codes, List, [], ◌∷◌, ◌++◌, ◌-◌, length, map, take, Option, None, Some, Result, Ok, Bool}
+use Rattle.std.specs.Prelude.{ℕ, zero, suc, if◌then◌else◌, nat_eq, codes, List, [], ◌∷◌, ◌++◌, ◌-◌, length, map, take, Option, None, Some, Result, Ok, Bool}
 use Rattle.std.specs.List.{ends_with}
 use Rattle.std.specs.Option.{unwrap_or}
 use Rattle.pp_values.specs.declared.place.TheConstants.{MAIN_MANIFEST}
@@ -39,7 +39,7 @@ entry_walk folder front path g = if ends_in_slash path then folder path g else f
 
 -- all files of a folder and of the folders in it, which are so many levels deep at most
 unfoldable pub folder_walk : ℕ → List ℕ → List ℕ → Gathered → Walk Gathered
-folder_walk 0 front path g = refused (too_large path)
+folder_walk zero front path g = refused (too_large path)
 folder_walk (suc levels) front path g =
     walk_then (λ names. in_turn (map (λ name. entry_walk (folder_walk levels front) front (path ++ name)) names) g)
     (names_walk front path)

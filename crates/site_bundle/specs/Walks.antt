@@ -57,7 +57,7 @@ answer_of (Some content) = if nat_le (length content) MOST_FILE_BYTES then bytes
 -- the names rise, and are those that the tree tells
 pub record IsListing (told : Option (List Held)) (path : List ℕ) (names : Option (List (List ℕ))) : Type 0 where
   pub rising : IsTrue (is_rising (unwrap_or names []))
-  pub told : IfSome told (λ files. names ≡ names_at path files)
+  pub tells : IfSome told (λ files. names ≡ names_at path files)
 
 abbrev pub IsShort : Answer → Type 0
 IsShort (bytes content) = length content ≤ MOST_FILE_BYTES
@@ -67,7 +67,7 @@ IsShort longer = Unit {0}
 -- the file is no longer than it may be, and is what the tree tells
 pub record IsReading (told : Option (List Held)) (path : List ℕ) (answer : Answer) : Type 0 where
   pub short : IsShort answer
-  pub told : IfSome told (λ files. answer ≡ answer_of (bytes_at path files))
+  pub tells : IfSome told (λ files. answer ≡ answer_of (bytes_at path files))
 
 -- The walk comes to this end over a tree: each of its calls fails or gets an answer. A tree that tells its files answers
 -- what it tells; whatever another one answers, the walk goes on with it.

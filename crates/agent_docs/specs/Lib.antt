@@ -1,1 +1,1 @@
-pub mod MachineMember
+pub mod MachineMembers

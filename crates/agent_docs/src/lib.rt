@@ -1,6 +1,8 @@
 //! A stand-in.
 #![tactic(auto)]
 
-mod machine_member;
+mod machine_members;
+mod machine_stop;
 
-pub use machine_member::{MachineStop, machine_in};
+pub use machine_members::machine_of;
+pub use machine_stop::MachineStop;

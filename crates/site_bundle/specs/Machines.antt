@@ -1,6 +1,6 @@
 -- The machine of a bundle.
 use Rattle.std.specs.Prelude.{ℕ, codes, List, [], Option, Some, None, Result, Ok, Err}
-use Rattle.agent_docs.specs.MachineMember.{machine_in}
+use Rattle.agent_docs.specs.MachineMembers.{machine_said as said}
 use Rattle.agent_machine.specs.declared.machine_doc.MachineDoc.{MachineDoc}
 use Rattle.serde_json.specs.Data.{Data}
 use Rattle.serde_json.specs.Find.{get}
@@ -16,7 +16,7 @@ or_bad (Err path) = Err (bad_shape path)
 
 -- the machine that a document says, or the first of its members that is bad
 abbrev pub machine_said : Data → Result MachineDoc Refusal
-machine_said d = or_bad (machine_in d)
+machine_said d = or_bad (said d)
 
 abbrev pub given_machine : Option Data → Result MachineDoc Refusal
 given_machine None = Ok no_machine

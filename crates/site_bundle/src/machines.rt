@@ -5,7 +5,7 @@ ghost use Rattle.site_bundle.specs.Machines.{no_machine, machine_said, machine_o
 ghost use Rattle.site_bundle.specs.Refusals.{Reads};
 
 use crate::bundle_stop::BundleStop;
-use agent_docs::{MachineStop, machine_in};
+use agent_docs::MachineStop;
 use agent_machine::{FailingTexts, MachineDoc, States};
 use serde_json::Value;
 use std::alloc::Global;
@@ -34,9 +34,9 @@ pub fn read_machine(alloc: Global, bundle: &Value) -> Result<MachineDoc, BundleS
 pub fn machine_said(alloc: Global, machine: &Value) -> Result<MachineDoc, BundleStop>
     ensures { Reads result (machine_said (view machine.now)) }
 {
-    match machine_in(alloc, machine) {
+    match agent_docs::machine_of(alloc, machine) {
         Ok(machine) => Ok(machine),
-        Err(MachineStop::BadShape(path)) => Err(BundleStop::BadShape(path)),
+        Err(MachineStop::Bad(path)) => Err(BundleStop::BadShape(path)),
         Err(MachineStop::Memory) => Err(BundleStop::Memory),
     }
 }

@@ -8,3 +8,6 @@ mod FileSteps
 mod RequestSteps
 pub mod OnLiterals
 mod Examples
+mod WalkSteps
+mod ToldWalks
+mod FolderExamples

@@ -102,3 +102,12 @@ EndsAs shown (Err stop.Memory) walk before after = Unit {0}
 pub record Goes {A B : Type 0} (shown : A → B) (result : Result A BundleStop) (walk : Walk B) (before after : Folder) : Type 0 where
   pub same : IsSameFolder before after
   pub ends : EndsAs shown result walk before after
+
+-- Over a tree that tells its files the answer is a function of them, but for faults and want of memory.
+abbrev pub ReadsTold : {A B : Type 0} → (A → B) → Result A BundleStop → Result B Refusal → Type 0
+ReadsTold shown (Ok x) meant = meant ≡ Ok (shown x)
+ReadsTold shown (Err stop.NotJson) meant = meant ≡ Err not_json
+ReadsTold shown (Err (stop.BadShape path)) meant = meant ≡ Err (bad_shape path)
+ReadsTold shown (Err (stop.TooLarge path)) meant = meant ≡ Err (too_large path)
+ReadsTold shown (Err (stop.TreeFault path)) meant = Unit {0}
+ReadsTold shown (Err stop.Memory) meant = Unit {0}

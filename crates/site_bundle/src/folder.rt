@@ -1,12 +1,12 @@
 //! Reading a site from a folder of a tree.
-ghost use Rattle.std.specs.Prelude.{IfOk, IsSome};
+ghost use Rattle.std.specs.Prelude.{IfOk, IfSome, IsSome};
 ghost use Rattle.std.specs.FinMap.{find};
 ghost use Rattle.pp_values.specs.Rising.{text_cmp};
 ghost use Rattle.pp_values.specs.declared.place.TheConstants.{MAIN_MANIFEST as MAIN};
 ghost use Rattle.site_bundle.specs.FolderSites.{main_walk, files_walk, bundle_with, site_walk};
 ghost use Rattle.site_bundle.specs.Gathering.{with_main};
 ghost use Rattle.site_bundle.specs.Refusals.{Reads, ReadsAs};
-ghost use Rattle.site_bundle.specs.Walks.{Goes};
+ghost use Rattle.site_bundle.specs.Walks.{Goes, ReadsTold, end_over};
 
 use crate::bundle::Bundle;
 use crate::bundle_stop::BundleStop;
@@ -27,8 +27,20 @@ use std::alloc::Global;
 ///
 /// Files are read by path in byte order, each once: all in `data/`, `global/` and `modules/`, and those of the main
 /// manifest, the machine and the nodes. After a refusal nothing more is asked of the tree.
-#[tactic(auto, unfolding(crate::specs::FolderSites::site_walk))]
 pub fn read_site<T: Tree>(
+    alloc: Global,
+    tree: &mut T,
+    folder: &Text,
+) -> Result<Bundle, BundleStop>
+    ensures goes { Goes (λ b. b) result (site_walk folder.now) (T.folder tree.old) (T.folder tree.new) }
+    ensures told { IfSome (T.folder tree.old).told
+        (λ files. ReadsTold (λ b. b) result (end_over files (site_walk folder.now))) }
+{
+    read_bundle_in(alloc, tree, folder)
+}
+
+#[tactic(auto, unfolding(crate::specs::FolderSites::site_walk))]
+fn read_bundle_in<T: Tree>(
     alloc: Global,
     tree: &mut T,
     folder: &Text,

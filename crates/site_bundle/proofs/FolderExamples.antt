@@ -10,7 +10,7 @@ use Rattle.site_bundle.specs.Files.{with_files}
 use Rattle.site_bundle.specs.Gathering.{nothing_gathered, may_come, count_file, site_file, gather}
 use Rattle.site_bundle.specs.Machines.{no_machine}
 use Rattle.site_bundle.specs.Walks.{Walk, answer_of, bytes, missing, walk_then, in_turn, end_over}
-use Rattle.site_bundle.specs.FolderSites.{folder_walk, files_walk, site_walk, is_facts_name, node_of}
+use Rattle.site_bundle.specs.FolderSites.{folder_walk, files_walk, site_walk}
 use Rattle.site_bundle.proofs.OnLiterals.{bundle_on_literals}
 
 abbrev file : List ℕ → List ℕ → Held

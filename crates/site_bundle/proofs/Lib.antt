@@ -6,8 +6,9 @@ mod NodeSteps
 mod FactSteps
 mod FileSteps
 mod RequestSteps
-pub mod OnLiterals
-mod Examples
 mod WalkSteps
 mod ToldWalks
+mod NodeFiles
+pub mod OnLiterals
+mod Examples
 mod FolderExamples

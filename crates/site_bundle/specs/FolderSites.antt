@@ -1,5 +1,5 @@
 -- The site in a folder: which files are read for it, in which order, and what they give.
-use Rattle.std.specs.Prelude.{ℕ, zero, suc, if◌then◌else◌, nat_eq, codes, List, [], ◌∷◌, ◌++◌, ◌-◌, length, map, take, Option, None, Some, Result, Ok, Bool}
+use Rattle.std.specs.Prelude.{ℕ, zero, suc, if◌then◌else◌, nat_eq, codes, List, [], ◌∷◌, ◌++◌, ◌-◌, length, map, take, Option, None, Some, Result, Ok}
 use Rattle.std.specs.List.{ends_with}
 use Rattle.std.specs.Option.{unwrap_or}
 use Rattle.pp_values.specs.declared.place.TheConstants.{MAIN_MANIFEST}
@@ -44,17 +44,17 @@ folder_walk (suc levels) front path g =
     walk_then (λ names. in_turn (map (λ name. entry_walk (folder_walk levels front) front (path ++ name)) names) g)
     (names_walk front path)
 
--- the facts of a node have its name, with this at its end
-abbrev pub is_facts_name : List ℕ → Bool
-is_facts_name name = ends_with nat_eq name (codes ".json")
-
-abbrev pub node_of : List ℕ → List ℕ
-node_of name = take (length name - 5) name
+-- the file of a node's facts has the node's name, with this at its end
+abbrev pub node_of : List ℕ → Option (List ℕ)
+node_of name = if ends_with nat_eq name (codes ".json") then Some (take (length name - 5) name) else None
 
 -- folders and files of other names are passed over
+abbrev pub node_walk : List ℕ → List ℕ → Option (List ℕ) → Gathered → Walk Gathered
+node_walk front name None g = done g
+node_walk front name (Some node) g = file_walk (facts_file node) front (codes "nodes/" ++ name) g
+
 abbrev pub facts_walk : List ℕ → List ℕ → Gathered → Walk Gathered
-facts_walk front name g =
-    if is_facts_name name then file_walk (facts_file (node_of name)) front (codes "nodes/" ++ name) g else done g
+facts_walk front name g = node_walk front name (node_of name) g
 
 abbrev pub nodes_walk : List ℕ → Gathered → Walk Gathered
 nodes_walk front g =

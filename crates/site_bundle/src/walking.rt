@@ -1,5 +1,5 @@
 //! The calls of a tree by which a folder is read.
-ghost use Rattle.std.specs.Prelude.{◌≡◌, ◌≤◌, ◌++◌, IfOk, IfSome, length, map};
+ghost use Rattle.std.specs.Prelude.{◌≡◌, ◌≤◌, ◌++◌, IfOk, IfSome, length, map, option_map};
 ghost use Rattle.site_bundle.specs.declared.limits.TheConstants.{MOST_FILE_BYTES as MOST};
 ghost use Rattle.site_bundle.specs.FolderSites.{names_walk, content_walk, file_walk, entry_walk, folder_walk, node_of, facts_walk, nodes_walk};
 ghost use Rattle.site_bundle.specs.Gathering.{site_file, facts_file, machine_file};
@@ -208,11 +208,20 @@ fn read_facts<T: Tree>(
     ensures { Goes (λ done. gathered.new) result (facts_walk front.now name.now gathered.old) (T.folder tree.old)
         (T.folder tree.new) }
 {
-    let Some(node) = name.strip_suffix(".json") else {
-        return Ok(());
-    };
-    let path = joined(alloc, "nodes/", name)?;
-    read_facts_file(alloc, tree, front, node, path.as_str(), gathered)
+    match node_of(name) {
+        Some(node) => {
+            let path = joined(alloc, "nodes/", name)?;
+            read_facts_file(alloc, tree, front, node, path.as_str(), gathered)
+        }
+        None => Ok(()),
+    }
+}
+
+/// The node whose facts the file of this name has.
+fn node_of(name: &str) -> Option<&str>
+    ensures { option_map (λ node. node.now) result ≡ node_of name.now }
+{
+    name.strip_suffix(".json")
 }
 
 fn joined(alloc: Global, front: &str, path: &str) -> Result<Text, Memory>

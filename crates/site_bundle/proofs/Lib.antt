@@ -6,6 +6,7 @@ mod NodeSteps
 mod FactSteps
 mod FileSteps
 mod RequestSteps
+mod GatherSteps
 mod WalkSteps
 mod ToldWalks
 mod NodeFiles

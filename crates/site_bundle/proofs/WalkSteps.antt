@@ -1,5 +1,6 @@
 -- One step of a walk after another.
-use Rattle.std.proofs.Common.{◌≡◌, ◌⊎◌, ℕ, ◌≤◌, List, [], ◌++◌, Option, None, Some, Result, Ok, Err, refl, sym, ap, subst, ◌∙◌, inl, inr, arith, length, Bool, true, false, ◌<◌, ◌-◌, zero, suc, ◌∷◌, map, codes}
+use Rattle.std.proofs.Common.{◌≡◌, ◌⊎◌, ℕ, ◌≤◌, List, [], ◌++◌, Option, None, Some, Result, Ok, Err, refl, sym, ap, subst, ◌∙◌, inl, inr, arith, length, Bool, true, false, ◌<◌, ◌-◌, zero, suc, ◌∷◌, map, codes, take, drop, get_or}
+use Rattle.std.proofs.lemmas.Grind.{common_steps}
 use Rattle.std.specs.Option.{unwrap_or}
 use Rattle.std.specs.Prelude.{IfSome, IsErrAnd, IsTrue, nat_le, if◌then◌else◌}
 use Rattle.pp_values.specs.Rising.{is_rising}
@@ -10,8 +11,8 @@ use Rattle.site_bundle.specs.declared.bundle_stop.BundleStop.TheVariants as stop
 use Rattle.site_bundle.specs.declared.limits.TheConstants.{MOST_FILE_BYTES}
 use Rattle.site_bundle.specs.Refusals.{Refusal, Tells, ReadsAs, not_json, bad_shape, too_large}
 use Rattle.site_bundle.specs.declared.gathered.Gathered.{Gathered}
-use Rattle.site_bundle.specs.Gathering.{Keep, gather, facts_file}
-use Rattle.site_bundle.specs.FolderSites.{content_in, names_walk, content_walk, file_walk, entry_walk, folder_walk, node_walk, facts_walk, nodes_walk}
+use Rattle.site_bundle.specs.Gathering.{Keep, gather, facts_file, nothing_gathered}
+use Rattle.site_bundle.specs.FolderSites.{content_in, names_walk, content_walk, file_walk, entry_walk, folder_walk, node_walk, facts_walk, nodes_walk, steps, files_walk}
 use Rattle.site_bundle.specs.Walks.{Answer, bytes, missing, longer, Walk, done, refused, listing, reading, walk_then, in_turn, walk_of, End, found, refusal, fault, IsListing, IsReading, answer_of, EndsIn, EndsAs, Goes}
 
 -- ---- ends
@@ -311,35 +312,60 @@ file_passed {A} {before} {after} shown keep front path g u o goes is same =
 
 -- ---- one name after another
 
-pub turn_next : {X A B : Type 0} {before mid now : Folder} {whole : Walk B} (shown : A → B) (u : A) (f : X → B → Walk B)
-    (left after : List X) (x : X) (g : B) (w : Walk B) → left ≡ x ∷ after → w ≡ f x g →
-    Leads before mid (in_turn (map f left) g) whole → Goes shown (Ok u) w mid now →
-    Leads before now (in_turn (map f after) (shown u)) whole
+rest_of : {X : Type 0} (y : X) (ys : List X) → take (length (y ∷ ys) - 1) (drop 1 (y ∷ ys)) ≡ ys
+rest_of y ys = grind (arith, common_steps)
+
+pub first_of : {X : Type 0} (xs : List X) (x : X) → 1 ≤ length xs → x ≡ get_or xs 0 x → xs ≡ x ∷
+    take (length xs - 1) (drop 1 xs)
+first_of [] x h at = absurd (omega (arith, h))
+first_of (y ∷ ys) x h at = ap (λ z. z ∷ ys) (sym at) ∙ ap (λ l. x ∷ l) (sym (rest_of y ys))
+
+pub none_left : {X : Type 0} (xs : List X) → length xs < 1 → xs ≡ []
+none_left [] h = refl
+none_left (x ∷ xs) h = absurd (omega (arith, h))
+
+pub step_next : {A B : Type 0} {before mid now : Folder} {whole : Walk B} (u : A) (step : B → Walk B)
+    (steps : List (B → Walk B)) (g new : B) → Leads before mid (in_turn (step ∷ steps) g) whole →
+    Goes (λ (done : A). new) (Ok u) (step g) mid now → Leads before now (in_turn steps new) whole
 unfolding in_turn
-turn_next {X} {A} {B} {before} {mid} {now} {whole} shown u f left after x g w parts is so_far goes =
-    leads_next (in_turn (map f after)) (f x g) (shown u)
-    (subst (λ xs. Leads before mid (in_turn (map f xs) g) whole) parts so_far)
-    (subst (λ w. EndsIn mid.told w (found (shown u))) is goes.ends) goes.same
+step_next u step steps g new so_far goes = leads_next (in_turn steps) (step g) new so_far goes.ends goes.same
+
+pub step_stop : {A B C : Type 0} {before mid after : Folder} {whole : Walk B} (shown : A → B) (seen : C → B)
+    (step : B → Walk B) (steps : List (B → Walk B)) (g : B) (r : Result C BundleStop) (s : BundleStop) →
+    Leads before mid (in_turn (step ∷ steps) g) whole → IsErrAnd r (λ t. t ≡ s) → Goes shown (Err s) (step g) mid after →
+    Goes seen r whole before after
+unfolding in_turn
+step_stop shown seen step steps g r s so_far exits goes =
+    leads_stop shown seen (in_turn steps) (step g) r s so_far exits goes
+
+pub steps_end : {A B : Type 0} {before now : Folder} {whole : Walk B} (shown : A → B) (u : A) (g : B) →
+    Leads before now (in_turn [] g) whole → shown u ≡ g → Goes shown (Ok u) whole before now
+unfolding in_turn EndsIn
+steps_end shown u g so_far same =
+    record { same = so_far.same; ends = so_far.leads (found (shown u)) (ap found same) }
+
+pub turn_next : {X A B : Type 0} {before mid now : Folder} {whole : Walk B} (u : A) (f : X → B → Walk B)
+    (left after : List X) (x : X) (g new : B) (w : Walk B) → left ≡ x ∷ after → w ≡ f x g →
+    Leads before mid (in_turn (map f left) g) whole → Goes (λ (done : A). new) (Ok u) w mid now →
+    Leads before now (in_turn (map f after) new) whole
+turn_next {X} {A} {B} {before} {mid} {now} {whole} u f left after x g new w parts is so_far goes =
+    step_next u (f x) (map f after) g new (subst (λ xs. Leads before mid (in_turn (map f xs) g) whole) parts so_far)
+    (subst (λ w. Goes (λ (done : A). new) (Ok u) w mid now) is goes)
 
 pub turn_stop : {X A B C : Type 0} {before mid after : Folder} {whole : Walk B} (shown : A → B) (seen : C → B)
     (f : X → B → Walk B) (left rest : List X) (x : X) (g : B) (w : Walk B) (r : Result C BundleStop) (s : BundleStop) →
     left ≡ x ∷ rest → w ≡ f x g → Leads before mid (in_turn (map f left) g) whole → IsErrAnd r (λ t. t ≡ s) →
     Goes shown (Err s) w mid after → Goes seen r whole before after
-unfolding in_turn
 turn_stop {X} {A} {B} {C} {before} {mid} {after} {whole} shown seen f left rest x g w r s parts is so_far exits goes =
-    leads_stop shown seen (in_turn (map f rest)) (f x g) r s
+    step_stop shown seen (f x) (map f rest) g r s
     (subst (λ xs. Leads before mid (in_turn (map f xs) g) whole) parts so_far) exits
     (subst (λ w. Goes shown (Err s) w mid after) is goes)
 
 pub turns_end : {X A B : Type 0} {before now : Folder} {whole : Walk B} (shown : A → B) (u : A) (f : X → B → Walk B)
     (left : List X) (g : B) → left ≡ [] → Leads before now (in_turn (map f left) g) whole → shown u ≡ g →
     Goes shown (Ok u) whole before now
-unfolding in_turn EndsIn
-turns_end {X} {A} {B} {before} {now} {whole} shown u f left g none so_far same = record {
-  same = so_far.same;
-  ends = so_far.leads (found (shown u))
-      (subst (λ xs. EndsIn before.told (in_turn (map f xs) g) (found (shown u))) (sym none) (ap found same));
-}
+turns_end {X} {A} {B} {before} {now} {whole} shown u f left g none so_far same =
+    steps_end shown u g (subst (λ xs. Leads before now (in_turn (map f xs) g) whole) none so_far) same
 
 -- ---- folders and nodes
 
@@ -372,14 +398,15 @@ folder_stopped {A} {before} {after} seen levels front path g r s some is goes =
     (λ names. entries_walk (levels - 1) front path names g) (names_walk front path) s goes))
 
 pub folder_read : {A : Type 0} {before mid after : Folder} (shown : A → Gathered) (levels : ℕ) (front path : List ℕ)
-    (g : Gathered) (r : Result A BundleStop) (names : List (List ℕ)) → (levels ≡ 0 → ⊥) →
-    Goes (λ (ns : List (List ℕ)). ns) (Ok names) (names_walk front path) before mid →
-    Goes shown r (entries_walk (levels - 1) front path names g) mid after →
+    (g : Gathered) (r : Result A BundleStop) (names given : List (List ℕ)) → (levels ≡ 0 → ⊥) →
+    Goes (λ (ns : List (List ℕ)). ns) (Ok names) (names_walk front path) before mid → given ≡ names →
+    Goes shown r (entries_walk (levels - 1) front path given g) mid after →
     Goes shown r (folder_walk levels front path g) before after
-folder_read {A} {before} {mid} {after} shown levels front path g r names some listed goes =
+folder_read {A} {before} {mid} {after} shown levels front path g r names given some listed is goes =
     subst (λ w. Goes shown r w before after) (sym (folder_step levels front path g some))
     (leads_end shown r _ _ (leads_next (λ names. entries_walk (levels - 1) front path names g) (names_walk front path)
-    names (leads_start before _) listed.ends listed.same) goes)
+    names (leads_start before _) listed.ends listed.same)
+    (subst (λ ns. Goes shown r (entries_walk (levels - 1) front path ns g) mid after) is goes))
 
 pub entry_folder : {A : Type 0} {before after : Folder} (shown : A → Gathered) (r : Result A BundleStop) (b : Bool)
     (w v : Walk Gathered) → b ≡ true → Goes shown r w before after → Goes shown r (if b then w else v) before after
@@ -415,9 +442,18 @@ nodes_stopped seen front g r s is goes =
     (names_walk front (codes "nodes/")) s goes)
 
 pub nodes_read : {A : Type 0} {before mid after : Folder} (shown : A → Gathered) (front : List ℕ) (g : Gathered)
-    (r : Result A BundleStop) (names : List (List ℕ)) →
-    Goes (λ (ns : List (List ℕ)). ns) (Ok names) (names_walk front (codes "nodes/")) before mid →
-    Goes shown r (in_turn (map (facts_walk front) names) g) mid after → Goes shown r (nodes_walk front g) before after
-nodes_read {A} {before} {mid} {after} shown front g r names listed goes =
+    (r : Result A BundleStop) (names given : List (List ℕ)) →
+    Goes (λ (ns : List (List ℕ)). ns) (Ok names) (names_walk front (codes "nodes/")) before mid → given ≡ names →
+    Goes shown r (in_turn (map (facts_walk front) given) g) mid after → Goes shown r (nodes_walk front g) before after
+nodes_read {A} {before} {mid} {after} shown front g r names given listed is goes =
     leads_end shown r _ _ (leads_next (λ names. in_turn (map (facts_walk front) names) g)
-    (names_walk front (codes "nodes/")) names (leads_start before _) listed.ends listed.same) goes
+    (names_walk front (codes "nodes/")) names (leads_start before _) listed.ends listed.same)
+    (subst (λ ns. Goes shown r (in_turn (map (facts_walk front) ns) g) mid after) is goes)
+
+-- ---- all of a folder
+
+pub leads_steps : (f : Folder) (front : List ℕ) (g : Gathered) → g ≡ nothing_gathered →
+    Leads f f (in_turn (steps front) g) (files_walk front)
+unfolding files_walk
+leads_steps f front g is =
+    subst (λ g. Leads f f (in_turn (steps front) g) (in_turn (steps front) nothing_gathered)) (sym is) (leads_start f _)

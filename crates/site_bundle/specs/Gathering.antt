@@ -9,9 +9,9 @@ use Rattle.pp_values.specs.Datum.{Datum}
 use Rattle.pp_values.specs.Rising.{text_cmp}
 use Rattle.pp_values.specs.declared.place.TheConstants.{MAIN_MANIFEST}
 use Rattle.serde_json.specs.Data.{Data}
-use Rattle.serde_json.specs.Read.{read}
 use Rattle.site_bundle.specs.declared.gathered.Gathered.{Gathered}
 use Rattle.site_bundle.specs.declared.limits.TheConstants.{MOST_BUNDLE_BYTES, MOST_FILES}
+use Rattle.site_bundle.specs.Documents.{json_of}
 use Rattle.site_bundle.specs.Files.{lacks_main}
 use Rattle.site_bundle.specs.Keeping.{no_files, with_text}
 use Rattle.site_bundle.specs.Machines.{no_machine, machine_said}
@@ -45,27 +45,29 @@ abbrev pub site_file : Keep
 site_file path content g =
     if is_utf8 content then Ok (record g { files = with_text path content g.files }) else Err (bad_shape path)
 
+-- what is read, if nothing is wrong with it
+abbrev pub if_good : {A : Type 0} → Result A Refusal → Option A
+if_good (Ok x) = Some x
+if_good (Err why) = None
+
 -- the JSON that a text is
 abbrev pub json_in : List ℕ → Option Data
-json_in content = if is_utf8 content then read content else None
+json_in content = if_good (json_of content)
 
 -- the facts of a node, if this is the name of one
 abbrev pub facts_in : List ℕ → List ℕ → Option Datum
 facts_in node content = option_and_then (listed_facts node) (json_in content)
 
+-- whatever is wrong with them, it is told of the file
 abbrev pub facts_file : List ℕ → Keep
 facts_file node path content g =
     result_and_then (λ facts. Ok (record g { nodes = put text_cmp node facts g.nodes }))
     (ok_or (facts_in node content) (bad_shape path))
 
-abbrev pub good_machine : Result MachineDoc Refusal → Option MachineDoc
-good_machine (Ok machine) = Some machine
-good_machine (Err why) = None
-
-abbrev pub machine_in : List ℕ → Option MachineDoc
-machine_in content = option_and_then (λ d. good_machine (machine_said d)) (json_in content)
-
 -- the machine, as a bundle may have it as its member
+abbrev pub machine_in : List ℕ → Option MachineDoc
+machine_in content = option_and_then (λ d. if_good (machine_said d)) (json_in content)
+
 abbrev pub machine_file : Keep
 machine_file path content g =
     result_and_then (λ machine. Ok (record g { machine = machine }))

@@ -3,11 +3,12 @@ ghost use Rattle.std.specs.Prelude.{◌≡◌, ◌≤◌, IfOk, Some, length, op
 ghost use Rattle.pp_values.specs.Views.{view as value_view};
 ghost use Rattle.serde_json.specs.View.{view as json_view};
 ghost use Rattle.site_bundle.specs.declared.limits.TheConstants.{MOST_FILE_BYTES as MOST};
-ghost use Rattle.site_bundle.specs.Gathering.{nothing_gathered, may_come, count_file, site_file, facts_file, facts_in, json_in, machine_file, good_machine, machine_in, gather};
+ghost use Rattle.site_bundle.specs.Gathering.{nothing_gathered, count_file, site_file, facts_file, facts_in, json_in, machine_file, machine_in, if_good, gather};
 ghost use Rattle.site_bundle.specs.Machines.{machine_said};
 ghost use Rattle.site_bundle.specs.Refusals.{ReadsAs};
 
 use crate::bundle_stop::BundleStop;
+use crate::document::parse;
 use crate::kept_files::KeptFiles;
 use crate::limits::{MOST_BUNDLE_BYTES, MOST_FILES};
 use crate::listed_nodes::ListedNodes;
@@ -86,15 +87,7 @@ impl Gathered {
         self.put_machine(alloc, path, &content)
     }
 
-    fn may_come(&self, content: &Bytes) -> bool
-        ensures { result ≡ may_come content.now self.now }
-    {
-        match self.size.checked_add(content.len()) {
-            Some(size) => self.count < MOST_FILES && size <= MOST_BUNDLE_BYTES,
-            None => false,
-        }
-    }
-
+    /// Counts a file, if it may come.
     fn count_file(
         &mut self,
         alloc: Global,
@@ -103,11 +96,15 @@ impl Gathered {
     ) -> Result<(), BundleStop>
         ensures { ReadsAs (λ done. self.new) result (count_file path.now content.now self.old) }
     {
-        if !self.may_come(content) {
+        if self.count >= MOST_FILES {
+            return Err(too_large(alloc, path));
+        }
+        let size = self.size.saturating_add(content.len());
+        if size > MOST_BUNDLE_BYTES {
             return Err(too_large(alloc, path));
         }
         self.count += 1;
-        self.size += content.len();
+        self.size = size;
         Ok(())
     }
 
@@ -171,9 +168,9 @@ impl Gathered {
 fn json_in(alloc: Global, content: &Bytes) -> Result<Option<Value>, Memory>
     ensures { IfOk result (λ o. option_map json_view o ≡ json_in content.now) }
 {
-    match Value::from_slice(alloc, content.as_slice()) {
+    match parse(alloc, content.as_slice()) {
         Ok(value) => Ok(Some(value)),
-        Err(error) if error.is_memory() => Err(Memory),
+        Err(BundleStop::Memory) => Err(Memory),
         Err(_) => Ok(None),
     }
 }
@@ -197,7 +194,7 @@ fn machine_in(alloc: Global, content: &Bytes) -> Result<Option<MachineDoc>, Memo
 }
 
 fn good_machine(alloc: Global, json: &Value) -> Result<Option<MachineDoc>, Memory>
-    ensures { IfOk result (λ o. o ≡ good_machine (machine_said (json_view json.now))) }
+    ensures { IfOk result (λ o. o ≡ if_good (machine_said (json_view json.now))) }
 {
     match machine_said(alloc, json) {
         Ok(machine) => Ok(Some(machine)),

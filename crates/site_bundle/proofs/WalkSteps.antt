@@ -91,6 +91,7 @@ leads_end {A} {B} {before} {mid} {after} shown r w whole so_far goes =
   where
     at_once : (end : End B) → EndsIn mid.told w end → EndsIn before.told whole end
     at_once end h = so_far.leads end (subst (λ told. EndsIn told w end) so_far.same.told h)
+
     ends : (r : Result A BundleStop) → EndsAs shown r w mid after → EndsAs shown r whole before after
     ends (Ok x) h = at_once (found (shown x)) h
     ends (Err stop.NotJson) h = at_once (refusal not_json) h
@@ -174,10 +175,14 @@ pub goes_listed : {before after : Folder} (names : List (List ℕ)) (called path
 unfolding EndsIn
 goes_listed {before} {after} names called path is listed = record {
   same = listed.same;
-  ends = inr (Some names, (record {
-    rising = listed.rising;
-    tells = each_told before.told (λ files e. subst (λ p. Some names ≡ names_at p files) is (sym e)) listed.told;
-  }), refl);
+  ends = inr (
+    Some names,
+    (record {
+      rising = listed.rising;
+      tells = each_told before.told (λ files e. subst (λ p. Some names ≡ names_at p files) is (sym e)) listed.told;
+    }),
+    refl,
+  );
 }
 
 pub goes_unlisted : {before after : Folder} (names : List (List ℕ)) (called path : List ℕ) → names ≡ [] → called ≡ path →
@@ -186,10 +191,14 @@ pub goes_unlisted : {before after : Folder} (names : List (List ℕ)) (called pa
 unfolding EndsIn
 goes_unlisted {before} {after} names called path empty is same none = record {
   same = same;
-  ends = inr (None, (record {
-    rising = refl;
-    tells = each_told before.told (λ files e. subst (λ p. None ≡ names_at p files) is (sym e)) none;
-  }), ap found empty);
+  ends = inr (
+    None,
+    (record {
+      rising = refl;
+      tells = each_told before.told (λ files e. subst (λ p. None ≡ names_at p files) is (sym e)) none;
+    }),
+    ap found empty,
+  );
 }
 
 -- the call failed
@@ -236,11 +245,15 @@ pub goes_read : {before after : Folder} (content called path named : List ℕ) �
 unfolding EndsIn
 goes_read {before} {after} content called path named is got = record {
   same = got.same;
-  ends = inr (bytes content, (record {
-    short = got.fits;
-    tells = each_told before.told (λ files e. answer_bytes (bytes_at path files) content
-        (subst (λ p. bytes_at p files ≡ Some content) is e) got.fits) got.told;
-  }), refl);
+  ends = inr (
+    bytes content,
+    (record {
+      short = got.fits;
+      tells = each_told before.told (λ files e. answer_bytes (bytes_at path files) content
+          (subst (λ p. bytes_at p files ≡ Some content) is e) got.fits) got.told;
+    }),
+    refl,
+  );
 }
 
 pub goes_missing : {before after : Folder} (called path named : List ℕ) → called ≡ path → IsSameFolder before after →
@@ -249,10 +262,14 @@ pub goes_missing : {before after : Folder} (called path named : List ℕ) → ca
 unfolding EndsIn
 goes_missing {before} {after} called path named is same none = record {
   same = same;
-  ends = inr (missing, (record {
-    short = tt;
-    tells = each_told before.told (λ files e. sym (ap answer_of (subst (λ p. bytes_at p files ≡ None) is e))) none;
-  }), refl);
+  ends = inr (
+    missing,
+    (record {
+      short = tt;
+      tells = each_told before.told (λ files e. sym (ap answer_of (subst (λ p. bytes_at p files ≡ None) is e))) none;
+    }),
+    refl,
+  );
 }
 
 -- the walk is refused with this path
@@ -274,11 +291,15 @@ pub goes_longer : {before after : Folder} (s : BundleStop) (called path named : 
     Goes (λ (o : Option (List ℕ)). o) (Err s) (reading path (content_in named)) before after
 unfolding EndsIn
 goes_longer {before} {after} s called path named is tells same long =
-    refused_at _ s _ named tells same (inr (longer, (record {
-      short = tt;
-      tells = each_told before.told (λ files h. answer_longer (bytes_at path files)
-          (subst (λ p. IsLonger MOST_FILE_BYTES (bytes_at p files)) is h)) long;
-    }), refl))
+    refused_at _ s _ named tells same (inr (
+      longer,
+      (record {
+        short = tt;
+        tells = each_told before.told (λ files h. answer_longer (bytes_at path files)
+            (subst (λ p. IsLonger MOST_FILE_BYTES (bytes_at p files)) is h)) long;
+      }),
+      refl,
+    ))
 
 -- ---- files
 

@@ -79,7 +79,7 @@ steps front =
 unfoldable pub files_walk : List ℕ → Walk Gathered
 files_walk front = in_turn (steps front) nothing_gathered
 
--- nothing is asked of a site in a folder
+-- Nothing is asked of a site in a folder. Its main manifest is there by then.
 abbrev pub bundle_from : Gathered → Bundle
 bundle_from g = record { site = site_with g.files g.nodes; requests = []; machine = g.machine }
 

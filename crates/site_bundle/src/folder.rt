@@ -27,11 +27,7 @@ use std::alloc::Global;
 ///
 /// Files are read by path in byte order, each once: all in `data/`, `global/` and `modules/`, and those of the main
 /// manifest, the machine and the nodes. After a refusal nothing more is asked of the tree.
-pub fn read_site<T: Tree>(
-    alloc: Global,
-    tree: &mut T,
-    folder: &Text,
-) -> Result<Bundle, BundleStop>
+pub fn read_site<T: Tree>(alloc: Global, tree: &mut T, folder: &Text) -> Result<Bundle, BundleStop>
     ensures goes { Goes (λ b. b) result (site_walk folder.now) (T.folder tree.old) (T.folder tree.new) }
     ensures told { IfSome (T.folder tree.old).told
         (λ files. ReadsTold (λ b. b) result (end_over files (site_walk folder.now))) }
@@ -40,11 +36,7 @@ pub fn read_site<T: Tree>(
 }
 
 #[tactic(auto, unfolding(crate::specs::FolderSites::site_walk))]
-fn read_bundle_in<T: Tree>(
-    alloc: Global,
-    tree: &mut T,
-    folder: &Text,
-) -> Result<Bundle, BundleStop>
+fn read_bundle_in<T: Tree>(alloc: Global, tree: &mut T, folder: &Text) -> Result<Bundle, BundleStop>
     ensures { Goes (λ b. b) result (site_walk folder.now) (T.folder tree.old) (T.folder tree.new) }
 {
     let front = folder_front(alloc, folder.as_str())?;
@@ -53,11 +45,7 @@ fn read_bundle_in<T: Tree>(
 }
 
 #[tactic(auto, unfolding(crate::specs::FolderSites::files_walk))]
-fn read_files<T: Tree>(
-    alloc: Global,
-    tree: &mut T,
-    front: &str,
-) -> Result<Gathered, BundleStop>
+fn read_files<T: Tree>(alloc: Global, tree: &mut T, front: &str) -> Result<Gathered, BundleStop>
     ensures { Goes (λ g. g) result (files_walk front.now) (T.folder tree.old) (T.folder tree.new) }
 {
     let mut gathered = Gathered::new(alloc);

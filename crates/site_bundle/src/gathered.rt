@@ -88,12 +88,7 @@ impl Gathered {
     }
 
     /// Counts a file, if it may come.
-    fn count_file(
-        &mut self,
-        alloc: Global,
-        path: &str,
-        content: &Bytes,
-    ) -> Result<(), BundleStop>
+    fn count_file(&mut self, alloc: Global, path: &str, content: &Bytes) -> Result<(), BundleStop>
         ensures { ReadsAs (λ done. self.new) result (count_file path.now content.now self.old) }
     {
         if self.count >= MOST_FILES {
@@ -108,12 +103,7 @@ impl Gathered {
         Ok(())
     }
 
-    fn put_text(
-        &mut self,
-        alloc: Global,
-        path: &str,
-        content: Bytes,
-    ) -> Result<(), BundleStop>
+    fn put_text(&mut self, alloc: Global, path: &str, content: Bytes) -> Result<(), BundleStop>
         requires { length content ≤ MOST }
         ensures { ReadsAs (λ done. self.new) result (site_file path.now content self.old) }
     {
@@ -146,12 +136,7 @@ impl Gathered {
         }
     }
 
-    fn put_machine(
-        &mut self,
-        alloc: Global,
-        path: &str,
-        content: &Bytes,
-    ) -> Result<(), BundleStop>
+    fn put_machine(&mut self, alloc: Global, path: &str, content: &Bytes) -> Result<(), BundleStop>
         ensures { ReadsAs (λ done. self.new) result (machine_file path.now content.now self.old) }
     {
         match machine_in(alloc, content)? {

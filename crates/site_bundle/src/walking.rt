@@ -119,7 +119,15 @@ pub fn read_folder<T: Tree>(
         return Err(too_large(alloc, path));
     }
     let names = list_names(alloc, tree, front, path)?;
-    read_entries(alloc, tree, levels - 1, front, path, names.as_slice(), gathered)
+    read_entries(
+        alloc,
+        tree,
+        levels - 1,
+        front,
+        path,
+        names.as_slice(),
+        gathered,
+    )
 }
 
 #[cycle(walking)]

@@ -8,6 +8,7 @@ mod FileSteps
 mod RequestSteps
 mod GatherSteps
 mod WalkSteps
+mod FolderSteps
 mod ToldWalks
 mod NodeFiles
 pub mod OnLiterals

@@ -73,6 +73,7 @@ impl Language for PuppetLanguage {
             Err(BundleStop::NotJson) => Err(SiteStop::Bad),
             Err(BundleStop::BadShape(_)) => Err(SiteStop::Bad),
             Err(BundleStop::TooLarge(_)) => Err(SiteStop::Bad),
+            Err(BundleStop::TreeFault(_)) => Err(SiteStop::Bad),
             Err(BundleStop::Memory) => Err(SiteStop::Memory),
         }
     }

@@ -10,12 +10,14 @@ pub refuses_then : {A B : Type 0} (s : BundleStop) (m : Result A Refusal) (f : A
 refuses_then stop.NotJson m f h = ap (result_and_then f) h
 refuses_then (stop.BadShape path) m f h = ap (result_and_then f) h
 refuses_then (stop.TooLarge path) m f h = ap (result_and_then f) h
+refuses_then (stop.TreeFault path) m f h = absurd h
 refuses_then stop.Memory m f h = tt
 
 pub refuses_same : {A : Type 0} (s : BundleStop) (m n : Result A Refusal) → n ≡ m → Refuses s m → Refuses s n
 refuses_same stop.NotJson m n e h = e ∙ h
 refuses_same (stop.BadShape path) m n e h = e ∙ h
 refuses_same (stop.TooLarge path) m n e h = e ∙ h
+refuses_same (stop.TreeFault path) m n e h = absurd h
 refuses_same stop.Memory m n e h = tt
 
 -- what a `?` hands on
@@ -28,6 +30,7 @@ pub told : (A : Type 0) (s : BundleStop) (r : Refusal) → Tells s r → Refuses
 told A stop.NotJson r h = ap Err h
 told A (stop.BadShape path) r h = ap Err h
 told A (stop.TooLarge path) r h = ap Err h
+told A (stop.TreeFault path) r h = absurd h
 told A stop.Memory r h = tt
 
 pub reads_same : {A : Type 0} (r : Result A BundleStop) (m n : Result A Refusal) → n ≡ m → Reads r m → Reads r n

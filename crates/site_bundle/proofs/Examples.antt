@@ -13,6 +13,7 @@ use Rattle.site_bundle.specs.Refusals.{not_json, bad_shape, too_large, result_an
 use Rattle.site_bundle.specs.Bundles.{bundle_of, site_said}
 use Rattle.site_bundle.specs.Files.{content_of, has_room, with_file, with_files}
 use Rattle.site_bundle.specs.Keeping.{with_text}
+use Rattle.site_bundle.specs.Machines.{no_machine}
 use Rattle.site_bundle.specs.declared.kept_files.KeptFiles.{KeptFiles}
 use Rattle.site_bundle.proofs.OnLiterals.{bundle_on_literals}
 
@@ -26,12 +27,13 @@ whole : bundle_of (codes "{\"bundle\": 1, \"files\": {\"manifests/site.pp\": \"\
   };
   requests = compile (record { node = codes "a"; facts = None; seen = 2 }) ∷
       compile (record { node = codes "b"; facts = Some (hash no_entries); seen = 0 }) ∷ deactivate (codes "z") ∷ [];
+  machine = no_machine;
 })
 unfolding bundle_on_literals with_files
 whole = refl
 
 -- nodes and requests may be missing, and other members do not count
-least : bundle_of (codes "{\"bundle\":1,\"files\":{\"manifests/site.pp\":\"x\"},\"other\":[1.5]}") ≡ Ok (record { site = record { manifests = (MAIN_MANIFEST.now, codes "x") ∷ []; «data» = []; nodes = [] }; requests = [] })
+least : bundle_of (codes "{\"bundle\":1,\"files\":{\"manifests/site.pp\":\"x\"},\"other\":[1.5]}") ≡ Ok (record { site = record { manifests = (MAIN_MANIFEST.now, codes "x") ∷ []; «data» = []; nodes = [] }; requests = []; machine = no_machine })
 unfolding bundle_on_literals with_files
 least = refl
 
@@ -74,6 +76,7 @@ modules : bundle_of (codes "{\"bundle\":1,\"files\":{\"modules/m/manifests/init.
     nodes = [];
   };
   requests = [];
+  machine = no_machine;
 })
 unfolding bundle_on_literals with_files
 modules = refl
@@ -87,6 +90,7 @@ any_file : bundle_of (codes "{\"bundle\":1,\"files\":{\"z\":\"no JSON\",\"module
     nodes = [];
   };
   requests = [];
+  machine = no_machine;
 })
 unfolding bundle_on_literals with_files
 any_file = refl
@@ -138,6 +142,7 @@ whole_facts : bundle_of (codes "{\"bundle\":1,\"files\": {\"manifests/site.pp\":
     ) ∷ [];
   };
   requests = [];
+  machine = no_machine;
 })
 unfolding bundle_on_literals with_files
 whole_facts = refl
@@ -153,7 +158,7 @@ unfolding bundle_on_literals with_files
 both = refl
 
 -- beside `deactivate` nothing else counts
-ignored : bundle_of (codes "{\"bundle\":1,\"files\": {\"manifests/site.pp\": \"\"},\"requests\":[{\"facts\":1,\"seen\":-1,\"deactivate\":\"a\"}]}") ≡ Ok (record { site = record { manifests = (MAIN_MANIFEST.now, []) ∷ []; «data» = []; nodes = [] }; requests = deactivate (codes "a") ∷ [] })
+ignored : bundle_of (codes "{\"bundle\":1,\"files\": {\"manifests/site.pp\": \"\"},\"requests\":[{\"facts\":1,\"seen\":-1,\"deactivate\":\"a\"}]}") ≡ Ok (record { site = record { manifests = (MAIN_MANIFEST.now, []) ∷ []; «data» = []; nodes = [] }; requests = deactivate (codes "a") ∷ []; machine = no_machine })
 unfolding bundle_on_literals with_files
 ignored = refl
 
@@ -177,13 +182,32 @@ machine_last : bundle_of (codes "{\"bundle\":1,\"machine\":null,\"files\":{},\"n
 unfolding bundle_on_literals with_files
 machine_last = refl
 
--- a machine
+-- a machine that is no object
 machine : bundle_of (codes "{\"bundle\":1,\"machine\":null,\"files\": {\"manifests/site.pp\": \"\"}}") ≡ Err (bad_shape (codes "machine"))
 unfolding bundle_on_literals with_files
 machine = refl
 
+-- a machine of which nothing is said
+no_state : bundle_of (codes "{\"bundle\":1,\"machine\":{},\"files\": {\"manifests/site.pp\": \"\"}}") ≡ Ok (record { site = record { manifests = (MAIN_MANIFEST.now, []) ∷ []; «data» = []; nodes = [] }; requests = []; machine = no_machine })
+unfolding bundle_on_literals with_files
+no_state = refl
+
+-- what is recorded, and which calls fail
+whole_machine : bundle_of (codes "{\"bundle\":1,\"machine\":{\"state\":{\"File[/a]\":{\"mode\":\"1\"}},\"failing\":[\"f\"]},\"files\": {\"manifests/site.pp\": \"\"}}") ≡ Ok (record { site = record { manifests = (MAIN_MANIFEST.now, []) ∷ []; «data» = []; nodes = [] }; requests = []; machine = record { failing = codes "f" ∷ []; state = (codes "File[/a]", (codes "mode", text (codes "1")) ∷ []) ∷ [] } })
+unfolding bundle_on_literals with_files
+whole_machine = refl
+
+-- requests come before the machine, and within it the calls that fail before the state
+requests_before : bundle_of (codes "{\"bundle\":1,\"machine\":1,\"requests\":1,\"files\": {\"manifests/site.pp\": \"\"}}") ≡ Err (bad_shape (codes "requests"))
+unfolding bundle_on_literals with_files
+requests_before = refl
+
+bad_failing : bundle_of (codes "{\"bundle\":1,\"machine\":{\"state\":1,\"failing\":[\"a\",1]},\"files\": {\"manifests/site.pp\": \"\"}}") ≡ Err (bad_shape (codes "machine.failing.1"))
+unfolding bundle_on_literals with_files
+bad_failing = refl
+
 -- the last value of a key that stands twice
-twice : bundle_of (codes "{\"bundle\":2,\"bundle\":1,\"files\":{\"manifests/site.pp\":\"\"}}") ≡ Ok (record { site = record { manifests = (MAIN_MANIFEST.now, []) ∷ []; «data» = []; nodes = [] }; requests = [] })
+twice : bundle_of (codes "{\"bundle\":2,\"bundle\":1,\"files\":{\"manifests/site.pp\":\"\"}}") ≡ Ok (record { site = record { manifests = (MAIN_MANIFEST.now, []) ∷ []; «data» = []; nodes = [] }; requests = []; machine = no_machine })
 unfolding bundle_on_literals with_files
 twice = refl
 

@@ -52,3 +52,8 @@ if_named false j d made = absurd cc
 
 pub listed_are_facts : (key : List ℕ) (j : Data) (d : Datum) → listed_facts key j ≡ Some d → IsTrue (are_facts d)
 listed_are_facts key j d made = if_named _ j d made
+
+pub read_are_facts : (node : List ℕ) (o : Option Data) (d : Datum) → option_and_then (listed_facts node) o ≡ Some d →
+    IsTrue (are_facts d)
+read_are_facts node None d made = absurd cc
+read_are_facts node (Some j) d made = listed_are_facts node j d made

@@ -6,5 +6,11 @@ mod NodeSteps
 pub mod FactSteps
 mod FileSteps
 mod RequestSteps
+mod GatherSteps
+mod WalkSteps
+mod FolderSteps
+mod ToldWalks
+mod NodeFiles
 pub mod OnLiterals
 mod Examples
+mod FolderExamples

@@ -1,5 +1,5 @@
 -- What the bytes of a bundle say.
-use Rattle.std.specs.Prelude.{ℕ, ◌==◌, Bool, false, if◌then◌else◌, codes, is_some, List, Option, Some, None, option_and_then, Result, Ok, Err}
+use Rattle.std.specs.Prelude.{ℕ, ◌==◌, Bool, false, if◌then◌else◌, codes, List, Option, Some, None, option_and_then, Result, Ok, Err}
 use Rattle.serde_json.specs.Data.{Data}
 use Rattle.serde_json.specs.Find.{get, as_number, as_u64}
 use Rattle.site_bundle.specs.declared.bundle.Bundle.{Bundle}
@@ -9,6 +9,7 @@ use Rattle.site_bundle.specs.Documents.{document_of}
 use Rattle.site_bundle.specs.Files.{files_of}
 use Rattle.site_bundle.specs.Nodes.{nodes_of}
 use Rattle.site_bundle.specs.SiteView.{SiteView, Listed}
+use Rattle.site_bundle.specs.Machines.{machine_of}
 use Rattle.site_bundle.specs.RequestsOf.{requests_of}
 
 abbrev pub is_one : Option ℕ → Bool
@@ -18,10 +19,6 @@ is_one (Some n) = n == 1
 -- the document is an object whose `bundle` is the integer 1
 abbrev pub is_bundle : Data → Bool
 is_bundle d = is_one (option_and_then as_u64 (option_and_then as_number (get (codes "bundle") d)))
-
--- so far a bundle has no machine
-abbrev pub unless_machine : Data → Bundle → Result Bundle Refusal
-unless_machine d bundle = if is_some (get (codes "machine") d) then Err (bad_shape (codes "machine")) else Ok bundle
 
 abbrev pub site_with : KeptFiles → List Listed → SiteView
 site_with files nodes = record { manifests = files.manifests; «data» = files.data; nodes = nodes }
@@ -33,13 +30,14 @@ site_in d = result_and_then (λ files. result_and_then (λ nodes. Ok (site_with 
 -- its members in their order, in the same way
 unfoldable pub members_of : Data → Result Bundle Refusal
 members_of d =
-    result_and_then (λ site. result_and_then (λ requests. unless_machine d (record { site = site; requests = requests }))
-    (requests_of d)) (site_in d)
+    result_and_then (λ site. result_and_then (λ requests. result_and_then
+    (λ machine. Ok (record { site = site; requests = requests; machine = machine })) (machine_of d)) (requests_of d))
+    (site_in d)
 
 abbrev pub bundle_in : Data → Result Bundle Refusal
 bundle_in d = if is_bundle d then members_of d else Err (bad_shape (codes "bundle"))
 
--- the site and the requests that the bytes say, or the first thing that is wrong with them
+-- the site, the requests and the machine that the bytes say, or the first thing that is wrong with them
 unfoldable pub bundle_of : List ℕ → Result Bundle Refusal
 bundle_of bytes = result_and_then bundle_in (document_of bytes)
 

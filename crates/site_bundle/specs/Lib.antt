@@ -1,5 +1,5 @@
 -- What the clauses of `site_main` rest on, and a reader has to believe: Given, SiteView, NodeNames, Refusals,
--- Documents, Keeping, Files, GivenFacts, Nodes, RequestsOf, Bundles
+-- Documents, Keeping, Files, GivenFacts, Nodes, RequestsOf, Machines, Bundles, Walks, Gathering, FolderSites
 -- What functions promise one another, what types keep, and what proofs read: Listing
 pub mod Given
 pub mod SiteView
@@ -12,4 +12,8 @@ pub mod Files
 pub mod GivenFacts
 pub mod Nodes
 pub mod RequestsOf
+pub mod Machines
 pub mod Bundles
+pub mod Walks
+pub mod Gathering
+pub mod FolderSites

@@ -29,6 +29,7 @@ abbrev pub stop_line : BundleStop → List ℕ
 stop_line stop.NotJson = codes "B1"
 stop_line (stop.BadShape path) = codes "B2 " ++ path
 stop_line (stop.TooLarge path) = codes "B3 " ++ path
+stop_line (stop.TreeFault path) = codes "tree fault " ++ path
 stop_line stop.Memory = codes "memory"
 
 -- a reader's refusal is this one, unless memory ran out
@@ -36,6 +37,7 @@ abbrev pub Tells : BundleStop → Refusal → Type 0
 Tells stop.NotJson r = r ≡ not_json
 Tells (stop.BadShape path) r = r ≡ bad_shape path
 Tells (stop.TooLarge path) r = r ≡ too_large path
+Tells (stop.TreeFault path) r = ⊥
 Tells stop.Memory r = Unit {0}
 
 -- what is meant is this refusal, unless memory ran out
@@ -43,6 +45,7 @@ abbrev pub Refuses : {A : Type 0} → BundleStop → Result A Refusal → Type 0
 Refuses stop.NotJson meant = meant ≡ Err not_json
 Refuses (stop.BadShape path) meant = meant ≡ Err (bad_shape path)
 Refuses (stop.TooLarge path) meant = meant ≡ Err (too_large path)
+Refuses (stop.TreeFault path) meant = ⊥
 Refuses stop.Memory meant = Unit {0}
 
 -- exactly what is meant, where a value is seen as `shown` says, unless memory ran out

@@ -15,6 +15,8 @@ pub enum BundleStop {
     BadShape(Text),
     /// What stands at this path is longer than it may be.
     TooLarge(Text),
+    /// The call of the tree that named this path failed.
+    TreeFault(Text),
     Memory,
 }
 
@@ -54,6 +56,7 @@ impl fmt::Display for BundleStop {
             BundleStop::NotJson => f.write_str("the bundle is no JSON"),
             BundleStop::BadShape(path) => write!(f, "{path} is not of its kind"),
             BundleStop::TooLarge(path) => write!(f, "{path} is too large"),
+            BundleStop::TreeFault(path) => write!(f, "the tree failed at {path}"),
             BundleStop::Memory => f.write_str("out of memory"),
         }
     }

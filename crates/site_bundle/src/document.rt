@@ -19,7 +19,8 @@ pub fn read_document(alloc: Global, bytes: &[u8]) -> Result<Value, BundleStop>
     }
 }
 
-fn parse(alloc: Global, bytes: &[u8]) -> Result<Value, BundleStop>
+/// The JSON that the bytes are.
+pub fn parse(alloc: Global, bytes: &[u8]) -> Result<Value, BundleStop>
     ensures { ReadsAs view result (json_of bytes.now) }
 {
     match Value::from_slice(alloc, bytes) {

@@ -60,7 +60,7 @@ fn is_passed(files: &KeptFiles, main: &Text, path: &str) -> bool
     }
 }
 
-fn lacks_main(files: &KeptFiles, main: &Text) -> bool
+pub fn lacks_main(files: &KeptFiles, main: &Text) -> bool
     requires { main.now ≡ MAIN.now }
     ensures { result ≡ lacks_main files.now }
 {

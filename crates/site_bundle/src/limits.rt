@@ -1,12 +1,12 @@
-//! How much a bundle may be, and how long a name.
+//! How much a bundle or a folder may be, and how long a name.
 
-/// The most bytes that a bundle has: 64 MiB.
+/// The most bytes that a bundle has, and all files that are read of a folder together: 64 MiB.
 pub const MOST_BUNDLE_BYTES: usize = 67_108_864;
 
 /// The most bytes that a file has: 4 MiB.
 pub const MOST_FILE_BYTES: usize = 4_194_304;
 
-/// The most files of a bundle.
+/// The most files of a bundle, and that are read of a folder.
 pub const MOST_FILES: usize = 65_536;
 
 /// The most characters of the name of a node.
@@ -14,3 +14,6 @@ pub const MOST_NAME_CHARACTERS: usize = 255;
 
 /// The most requests of a bundle.
 pub const MOST_REQUESTS: usize = 1_048_576;
+
+/// How deep the folders lie at most that are read of a tree: `data/` has depth 1.
+pub const MOST_LEVELS: usize = 16;

@@ -62,7 +62,8 @@ fn with_node(
     Ok(())
 }
 
-fn listed_facts(alloc: Global, key: &str, facts: &Value) -> Result<Option<FactValue>, Memory>
+/// The facts that stand under a key, if it is the name of a node.
+pub fn listed_facts(alloc: Global, key: &str, facts: &Value) -> Result<Option<FactValue>, Memory>
     ensures { IfOk result (λ o. option_map value_view o ≡ listed_facts key.now (view facts.now)) }
 {
     if is_node_name(key) {

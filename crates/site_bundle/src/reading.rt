@@ -11,6 +11,7 @@ use crate::bundle_stop::BundleStop;
 use crate::document::read_document;
 use crate::files::read_files;
 use crate::kept_files::KeptFiles;
+use crate::machines::read_machine;
 use crate::nodes::read_nodes;
 use crate::refusing::bad_shape;
 use crate::requests::read_requests;
@@ -59,10 +60,12 @@ fn members_of(alloc: Global, document: &Value) -> Result<Bundle, BundleStop>
 {
     let site = site_in(alloc, document)?;
     let requests = read_requests(alloc, document)?;
-    if document.get("machine").is_some() {
-        return Err(bad_shape(alloc, "machine"));
-    }
-    Ok(Bundle { site, requests })
+    let machine = read_machine(alloc, document)?;
+    Ok(Bundle {
+        site,
+        requests,
+        machine,
+    })
 }
 
 #[tactic(auto, unfolding(crate::specs::Bundles::site_in))]

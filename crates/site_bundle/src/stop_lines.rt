@@ -6,7 +6,8 @@ use pp_values::memory::Memory;
 use pp_values::text::Text;
 use std::alloc::Global;
 
-/// The line that tells why no bundle was read, without a line feed: `B1`, `B2 PATH` or `B3 PATH`. Want of memory is
+/// The line that tells why no bundle was read, without a line feed: `B1`, `B2 PATH`, `B3 PATH` or `tree fault
+/// PATH`. Want of memory is
 /// `memory`.
 pub fn stop_text(alloc: Global, stop: &BundleStop) -> Result<Text, Memory>
     ensures { IfOk result (λ t. t ≡ stop_line stop.now) }
@@ -15,6 +16,7 @@ pub fn stop_text(alloc: Global, stop: &BundleStop) -> Result<Text, Memory>
         BundleStop::NotJson => Text::from_str(alloc, "B1"),
         BundleStop::BadShape(path) => joined(alloc, "B2 ", path),
         BundleStop::TooLarge(path) => joined(alloc, "B3 ", path),
+        BundleStop::TreeFault(path) => joined(alloc, "tree fault ", path),
         BundleStop::Memory => Text::from_str(alloc, "memory"),
     }
 }

@@ -1,5 +1,5 @@
 -- Reports and machines, their texts, and what is read of JSON as a machine.
-use Rattle.std.proofs.Common.{◌≡◌, ℕ, Bool, true, false, List, [], ◌∷◌, Option, Some, None, Result, Ok, Err, refl, codes}
+use Rattle.std.proofs.Common.{◌≡◌, ℕ, Bool, true, false, List, [], ◌∷◌, Option, Some, None, Ok, Err, refl, codes}
 use Rattle.std.specs.Fmt.{digits}
 use Rattle.serde_json.proofs.OnLiterals.{serde_json_on_literals}
 use Rattle.serde_json.specs.Data as j
@@ -9,7 +9,6 @@ use Rattle.pp_values.specs.declared.reference.Reference.{Reference}
 use Rattle.agent_machine.specs.declared.status.Status.{Status}
 use Rattle.agent_machine.specs.declared.status.Status.TheVariants as status
 use Rattle.agent_machine.specs.declared.report_line.ReportLine.{ReportLine}
-use Rattle.agent_machine.specs.declared.machine_doc.MachineDoc.{MachineDoc}
 use Rattle.agent_docs.specs.ReportText.{has_changed, has_failed, was_noop, is_first, line_object, line_data, report_object, report_data, report_text, first_object, first_data}
 use Rattle.agent_docs.specs.ReportReading.{reference_said, status_said}
 use Rattle.agent_docs.specs.MachineText.{machine_object, machine_data, machine_text}

@@ -1,7 +1,6 @@
 -- The line of a machine is read as that machine, and no other line is read as one.
-use Rattle.std.proofs.Common.{◌≡◌, ℕ, ◌<◌, ◌≤◌, ◌^◌, Bool, true, false, ◌&&◌, if◌then◌else◌, List, [], ◌∷◌, ◌++◌, length, map, codes, Option, Some, None, option_and_then, Result, Ok, Err, Ordering, Less, Equal, Greater, refl, sym, ap, ap₂, subst, ◌∙◌, arith, append-nil}
+use Rattle.std.proofs.Common.{◌≡◌, ℕ, ◌<◌, ◌≤◌, ◌^◌, Bool, true, false, ◌&&◌, if◌then◌else◌, List, [], ◌∷◌, ◌++◌, length, map, codes, Option, Some, None, option_and_then, Result, Ok, Err, Ordering, Less, Equal, Greater, refl, sym, ap, subst, ◌∙◌, arith, append-nil}
 use Rattle.std.proofs.lemmas.List.{map-append}
-use Rattle.std.proofs.lemmas.Slice.Eq.{bytes_eq-Decides}
 use Rattle.std.specs.BTreeSet.{insert_key}
 use Rattle.std.specs.Cmp.{first_so, second_so}
 use Rattle.std.specs.Cmp.Derive.{both_true}
@@ -15,16 +14,14 @@ use Rattle.std.specs.Str.{bytes_eq}
 use Rattle.serde_json.proofs.OnLiterals.{serde_json_on_literals}
 use Rattle.serde_json.specs.Data as j
 use Rattle.serde_json.specs.Data.{Data, Members, no_members, member, string, array, object, depth}
-use Rattle.serde_json.specs.Find.{get, get_member, as_array, as_object}
+use Rattle.serde_json.specs.Find.{get, get_member, as_object}
 use Rattle.serde_json.specs.Read.{max_depth, read}
 use Rattle.serde_json.specs.View.{items_of}
-use Rattle.serde_json.specs.Written.{compact_text}
 use Rattle.pp_values.proofs.RisingLemmas.{above_first, is_rising-insert_key}
-use Rattle.pp_values.specs.Datum.{Datum}
 use Rattle.pp_values.specs.Rising.{text_cmp, is_rising}
 use Rattle.pp_values.specs.Settings.{Setting, setting_names}
 use Rattle.json_values.specs.Forms.{value_of}
-use Rattle.json_values.specs.ValueForm.{form, setting_members}
+use Rattle.json_values.specs.ValueForm.{setting_members}
 use Rattle.agent_machine.specs.States.{State}
 use Rattle.agent_machine.specs.declared.machine_doc.MachineDoc.{MachineDoc}
 use Rattle.json_documents.specs.ExactData.{names, has_rising, members_have_rising, is_read, are_members_read}
@@ -37,7 +34,7 @@ use Rattle.json_documents.proofs.ReadData.{Each, any, read_is_read}
 use Rattle.json_documents.proofs.ReadForms.{read_is_proper}
 use Rattle.json_documents.proofs.SmallForms.{form_back, settings_small, object_rises, all_small, all_rise}
 use Rattle.agent_docs.specs.MachineLaws.{MachinesAreToldApart}
-use Rattle.agent_docs.specs.MachineMembers.{result_and_then, under, record_path, failing_path, failing_text, texts_from, given_failing, property_value, with_property, with_properties, all_properties, with_record, with_records, all_records, given_state, members_said, machine_said}
+use Rattle.agent_docs.specs.MachineMembers.{result_and_then, under, record_path, texts_from, given_failing, property_value, with_property, with_properties, all_properties, with_record, with_records, given_state, members_said, machine_said}
 use Rattle.agent_docs.specs.MachineReading.{unless_refused, said_by, if_written, machine_written, machine_in}
 use Rattle.agent_docs.specs.MachineText.{record_members, machine_object, machine_data, machine_text, are_properties, IsMachine, IsMachineLine}
 use Rattle.agent_docs.proofs.ReportsRead.{Holds, holds_then, holds_if, same_bytes, is_same}

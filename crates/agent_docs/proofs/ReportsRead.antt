@@ -1,5 +1,5 @@
 -- The line of a report is read as that report, in either version, and no other line is read as one.
-use Rattle.std.proofs.Common.{◌≡◌, ◌≢◌, ◌⊎◌, inl, inr, ℕ, zero, suc, ◌+◌, ◌<◌, ◌≤◌, ◌^◌, ◌==◌, Bool, true, false, not, ◌&&◌, ◌||◌, cond, if◌then◌else◌, nat_lt, List, [], ◌∷◌, ◌++◌, length, map, codes, Option, Some, None, option_map, option_and_then, refl, sym, ap, ap₂, subst, ◌∙◌, arith}
+use Rattle.std.proofs.Common.{◌≡◌, inl, inr, ℕ, ◌<◌, ◌≤◌, ◌^◌, ◌==◌, Bool, true, false, ◌||◌, if◌then◌else◌, nat_lt, List, [], ◌∷◌, ◌++◌, length, map, codes, Option, Some, None, option_map, option_and_then, refl, sym, ap, ap₂, subst, ◌∙◌, arith}
 use Rattle.std.proofs.lemmas.Bool.{lt-ltb}
 use Rattle.std.proofs.lemmas.List.Sums.{count_by-le-length}
 use Rattle.std.proofs.lemmas.Slice.Eq.{bytes_eq-Decides}
@@ -10,7 +10,7 @@ use Rattle.std.specs.List.{list_all, count_by}
 use Rattle.std.specs.Prelude.{⊤}
 use Rattle.std.specs.Str.{bytes_eq, str_to_ascii_lowercase}
 use Rattle.serde_json.proofs.OnLiterals.{serde_json_on_literals}
-use Rattle.serde_json.specs.Data.{Data, Items, no_items, item, string, array, depth, items_depth}
+use Rattle.serde_json.specs.Data.{Data, Items, no_items, item, string, depth, items_depth}
 use Rattle.serde_json.specs.Find.{get, as_bool, as_str}
 use Rattle.serde_json.specs.Read.{max_depth, read}
 use Rattle.serde_json.specs.View.{items_of}
@@ -23,17 +23,17 @@ use Rattle.agent_machine.specs.declared.status.Status.TheVariants as status
 use Rattle.agent_machine.specs.declared.report_line.ReportLine.{ReportLine}
 use Rattle.agent_machine.specs.declared.report.Report.{Report}
 use Rattle.json_values.specs.FromData.{both}
-use Rattle.json_documents.specs.ExactData.{has_rising, items_have_rising}
+use Rattle.json_documents.specs.ExactData.{has_rising}
 use Rattle.json_documents.specs.LinesOfText.{cut_at, has_byte}
-use Rattle.json_documents.specs.SmallNumbers.{has_small, items_have_small}
+use Rattle.json_documents.specs.SmallNumbers.{has_small}
 use Rattle.json_documents.proofs.Cutting.{split_here}
 use Rattle.json_documents.proofs.Feeds.{no_feed}
-use Rattle.json_documents.proofs.Lengths.{items_within, count_items, as_long, long_list}
+use Rattle.json_documents.proofs.Lengths.{as_long, long_list}
 use Rattle.json_documents.proofs.ReadBack.{read_written}
-use Rattle.json_documents.proofs.ReadData.{Each, any, all, each_map, each_then, each_if, each_both}
+use Rattle.json_documents.proofs.ReadData.{Each, any, all, each_then, each_if, each_both}
 use Rattle.json_documents.proofs.SmallForms.{all_small, all_rise}
 use Rattle.agent_docs.specs.ReportText.{status_text, has_changed, has_failed, was_noop, fault_data, line_object, line_data, report_object, report_data, report_text, first_object, first_data, is_first, names_kind, IsReport, IsReportLine}
-use Rattle.agent_docs.specs.ReportReading.{unclosed, reference_of, reference_said, status_said, texts_said, text_at, items_at, item_said, changes_said, line_of, line_said, lines_said, report_said, says_first, text_in, is_written, if_written, report_written, report_in}
+use Rattle.agent_docs.specs.ReportReading.{unclosed, reference_of, reference_said, status_said, texts_said, text_at, items_at, item_said, changes_said, line_of, line_said, lines_said, report_said, says_first, is_written, if_written, report_written, report_in}
 
 -- ---- a reference as it is printed
 

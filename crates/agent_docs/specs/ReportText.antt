@@ -11,7 +11,7 @@ use Rattle.agent_machine.specs.declared.status.Status.{Status}
 use Rattle.agent_machine.specs.declared.status.Status.TheVariants as status
 use Rattle.agent_machine.specs.declared.report_line.ReportLine.{ReportLine}
 use Rattle.agent_machine.specs.declared.report.Report.{Report}
-use Rattle.json_documents.specs.Tokens.{index_data, line}
+use Rattle.json_documents.specs.Tokens.{index_data}
 use Rattle.json_documents.specs.LinesOfText.{IsOneLine}
 
 abbrev pub status_text : Status → List ℕ

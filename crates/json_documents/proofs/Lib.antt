@@ -1,5 +1,6 @@
 pub mod Cutting
 pub mod DocumentParts
+mod Examples
 pub mod Feeds
 pub mod Lengths
 pub mod LineDocumentLemmas

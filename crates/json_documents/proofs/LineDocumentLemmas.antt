@@ -1,10 +1,9 @@
 -- What is read of a text by a table of lines is a document, or the number of the first bad line.
-use Rattle.std.proofs.Common.{◌≡◌, ℕ, zero, suc, ◌+◌, ◌<◌, ◌≤◌, ◌^◌, ◌==◌, Bool, true, false, if◌then◌else◌, List, [], ◌∷◌, ◌++◌, length, Option, Some, None, option_map, option_and_then, Result, Ok, Err, refl, sym, ap, subst, ◌∙◌, arith, append_assoc, length-append}
-use Rattle.std.proofs.lemmas.Bool.{or_parts, eqb-true}
-use Rattle.std.proofs.lemmas.List.{append_cancel_right}
+use Rattle.std.proofs.Common.{◌≡◌, ℕ, suc, ◌+◌, ◌<◌, ◌^◌, ◌==◌, Bool, true, false, if◌then◌else◌, List, [], ◌∷◌, ◌++◌, length, Option, Some, None, option_map, option_and_then, Result, Ok, Err, refl, sym, ap, subst, ◌∙◌, arith, length-append}
+use Rattle.std.proofs.lemmas.Bool.{eqb-true}
 use Rattle.json_documents.specs.LinesOfText.{first_lines, cut_at, has_byte}
-use Rattle.json_documents.specs.LineDocuments.{LineTable, with_byte, add_byte, split_lines, result_map, IsDocument, line_and_next, at_end, if_line, lines_read, read_lines}
-use Rattle.json_documents.proofs.Cutting.{IsCut, is_cut, split_here, has_later}
+use Rattle.json_documents.specs.LineDocuments.{LineTable, with_byte, split_lines, result_map, IsDocument, at_end, if_line, lines_read, read_lines}
+use Rattle.json_documents.proofs.Cutting.{split_here, has_later}
 use Rattle.json_documents.proofs.OneLines.{line_first, unfinished}
 
 -- ---- a text as its lines

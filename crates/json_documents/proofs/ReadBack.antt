@@ -1,5 +1,5 @@
 -- The compact text of JSON without floats is that of one value, and is read as that value.
-use Rattle.std.proofs.Common.{◌≡◌, ℕ, ◌+◌, ◌≤◌, ◌++◌, List, [], ◌∷◌, true, ◌&&◌, pos, negsuc, Option, Some, None, option_map, option_and_then, refl, sym, ap, ap₂, subst, ◌∙◌, arith, append-nil}
+use Rattle.std.proofs.Common.{◌≡◌, ℕ, ◌+◌, ◌≤◌, ◌++◌, List, [], ◌∷◌, true, pos, negsuc, Option, Some, None, option_map, option_and_then, refl, sym, ap, ap₂, subst, ◌∙◌, arith, append-nil}
 use Rattle.std.proofs.lemmas.Bool.{ltb-true}
 use Rattle.std.specs.Cmp.{first_so, second_so}
 use Rattle.std.specs.Option.{unwrap_or}
@@ -10,7 +10,7 @@ use Rattle.json.specs.Lex.{tokens}
 use Rattle.json.specs.Print.{IsNumber}
 use Rattle.json.specs.Tree as tree
 use Rattle.json.specs.Tree.{json_tokens, HasNumbers, ItemsHaveNumbers, MembersHaveNumbers}
-use Rattle.json.proofs.Found.{one_reading, Some_inj, not_found}
+use Rattle.json.proofs.Found.{one_reading, not_found}
 use Rattle.json.proofs.Nesting.{value-depth}
 use Rattle.json.proofs.Printed.Decimals.{IsNumber-decimal, IsNumber-signed_decimal}
 use Rattle.json.proofs.Printed.Tokens.{tokens-print}

@@ -1,5 +1,5 @@
 -- What is read out of a form is plain, and what is read out of the form in a text is a proper value.
-use Rattle.std.proofs.Common.{◌≡◌, ℕ, ◌^◌, Bool, true, false, ◌&&◌, ◌||◌, not, nat_lt, List, [], ◌∷◌, pos, negsuc, Option, Some, None, option_map, refl, ap, subst, ◌∙◌}
+use Rattle.std.proofs.Common.{◌≡◌, ◌^◌, Bool, true, false, ◌&&◌, ◌||◌, not, nat_lt, List, [], ◌∷◌, pos, negsuc, Some, None, option_map, refl, ap, subst, ◌∙◌}
 use Rattle.std.specs.Cmp.{first_so, second_so}
 use Rattle.std.specs.Cmp.Derive.{both_true}
 use Rattle.serde_json.specs.Data as j
@@ -10,7 +10,6 @@ use Rattle.pp_values.specs.Kinds.{is_kind, kind_of}
 use Rattle.pp_values.specs.Plain.{is_plain_value, are_plain_values, are_plain_pairs}
 use Rattle.pp_values.specs.Rising.{is_rising}
 use Rattle.json_values.specs.Forms.{value_of, values_of, members_of, object_value, marked_value, is_long, last_value, hash_in_turn, in_turn, long_hash, three, is_reference, reference_in, marked_reference, reference_of, reference_to}
-use Rattle.json_values.specs.FromData.{both}
 use Rattle.json_values.specs.ValueForm.{is_plain}
 use Rattle.json_documents.specs.ExactData.{names, is_number_read, is_read, are_items_read, are_members_read}
 use Rattle.json_documents.specs.ProperValues.{is_integer, is_proper, are_proper, are_proper_pairs}

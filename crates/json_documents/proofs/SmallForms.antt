@@ -1,19 +1,18 @@
 -- The form of a proper value has small numbers and rising names, and is read as that value.
-use Rattle.std.proofs.Common.{◌≡◌, ℕ, ◌^◌, ◌<◌, Bool, true, false, ◌&&◌, ◌||◌, not, if◌then◌else◌, nat_lt, List, [], ◌∷◌, map, pos, negsuc, ℤ, Option, Some, None, option_map, option_and_then, codes, refl, sym, ap, ap₂, ◌∙◌, arith}
+use Rattle.std.proofs.Common.{◌≡◌, ℕ, ◌^◌, ◌<◌, Bool, true, false, ◌&&◌, ◌||◌, not, if◌then◌else◌, List, [], ◌∷◌, map, pos, negsuc, ℤ, Some, None, option_map, option_and_then, codes, refl, ap, ap₂, ◌∙◌, arith}
 use Rattle.std.proofs.lemmas.Bool.{lt-ltb, ltb-true}
 use Rattle.std.specs.Cmp.{first_so, second_so}
 use Rattle.std.specs.Cmp.Derive.{both_true}
-use Rattle.std.specs.List.{list_all}
 use Rattle.serde_json.specs.Data as j
 use Rattle.serde_json.specs.Data.{array, object, Members, no_members, member}
 use Rattle.serde_json.specs.Find.{as_i64, of_integer}
 use Rattle.serde_json.specs.View.{items_of}
 use Rattle.pp_values.specs.Datum.{Datum, undef, flag, int, text, list, hash, reference, kind, default, Data, no_data, datum, Entries, no_entries, entry, pairs_of}
 use Rattle.pp_values.specs.Keys.{are_distinct}
-use Rattle.pp_values.specs.Kinds.{is_kind, kind_of}
+use Rattle.pp_values.specs.Kinds.{is_kind}
 use Rattle.pp_values.specs.Rising.{precedes, is_rising}
 use Rattle.pp_values.specs.Settings.{Setting, setting_names}
-use Rattle.json_values.specs.Forms.{guard, value_of, values_of, members_of, object_value, marked_value, in_turn, long_hash, reference_of, reference_to}
+use Rattle.json_values.specs.Forms.{guard, value_of, values_of, members_of, object_value, marked_value, in_turn, long_hash, reference_to}
 use Rattle.json_values.specs.FromData.{both}
 use Rattle.json_values.specs.ValueForm.{form, list_form, pair_forms, member_forms, first_key, is_plain, is_plain_name, long_form, reference_form, setting_members}
 use Rattle.json_documents.specs.ExactData.{names, has_rising, items_have_rising, members_have_rising}

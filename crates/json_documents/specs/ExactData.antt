@@ -1,8 +1,8 @@
 -- Data whose text can be read back: numbers are integers of 64 bits, and the names of each object rise.
-use Rattle.std.specs.Prelude.{ℕ, Bool, true, false, ◌&&◌, List, [], ◌∷◌}
+use Rattle.std.specs.Prelude.{ℕ, Bool, true, ◌&&◌, List, [], ◌∷◌}
 use Rattle.serde_json.specs.Data.{Num, unsigned, negative, float, Data, null, boolean, number, string, array, object, Items, no_items, item, Members, no_members, member}
 use Rattle.pp_values.specs.Rising.{is_rising}
-use Rattle.json_documents.specs.SmallNumbers.{is_small, has_small}
+use Rattle.json_documents.specs.SmallNumbers.{is_small}
 
 -- the names of an object's members, in their order
 abbrev pub names : Members → List (List ℕ)

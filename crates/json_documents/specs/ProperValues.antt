@@ -1,5 +1,5 @@
 -- What each value of the language is that a document has a form of.
-use Rattle.std.specs.Prelude.{ℕ, ◌^◌, nat_lt, Bool, true, false, ◌&&◌, ◌||◌, ℤ, pos, negsuc, List}
+use Rattle.std.specs.Prelude.{◌^◌, nat_lt, Bool, true, false, ◌&&◌, ◌||◌, ℤ, pos, negsuc, List}
 use Rattle.std.specs.List.{list_all}
 use Rattle.pp_values.specs.Datum.{Datum, undef, flag, int, text, list, hash, reference, kind, default, Data, no_data, datum, Entries, no_entries, entry, pairs_of}
 use Rattle.pp_values.specs.Keys.{are_distinct}

@@ -1,4 +1,4 @@
-//! The texts of documents: catalogs, logs, faults, sites, reports, journals and replies.
+//! The texts of documents: catalogs, logs, faults, sites, journals and replies, and those of reports and machines.
 #![tactic(auto)]
 
 pub mod catalog_texts;

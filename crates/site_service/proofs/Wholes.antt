@@ -227,6 +227,6 @@ module _ {S C F : Type 0} (meaning : Meaning S C F) (listed : Listed S) (d : Dia
       opening.nobodys tt tt (last_opening id p opening) opening.given (none_joined p) (omega arith) none rose
       (told_unbound n.told m.told same.told) same.later legal begins within others)
 
-  pub closes_opening : {S' : Type 0} (id : LockId) (p : Known S') (site : S') (limit : ℕ) →
-      p ≡ first_pass id (opened site limit) → p.room + held p ≡ 65536
-  closes_opening id p site limit is = ap (λ x. x.room + held x) is
+pub closes_opening : {S : Type 0} (id : LockId) (p : Known S) (site : S) (limit : ℕ) →
+    p ≡ first_pass id (opened site limit) → (p.site ≡ id) × (p.room + held p ≡ 65536)
+closes_opening id p site limit is = (ap (λ x. x.site) is, ap (λ x. x.room + held x) is)

@@ -7,9 +7,9 @@ pub loop-visited-init : goal.loop-visited-init
 loop-visited-init g c =
     let none = ap length c.requires.none in (
       handed_none g.N.Conn.Outside.stream c.args.site.now c.args.pass (g.N.Listener.net c.args.net.now) c.args.visits.items _
-          c.args.ends.items c.into_iter.ensures.rest c.requires.site c.requires.of c.requires.out c.requires.none,
-      omega (arith, none, c.args.ends.ok.0, c.into_iter.ensures.len, c.requires.room),
-      omega (arith, c.into_iter.ensures.len, c.args.visits.ok.0, ap length c.into_iter.ensures.rest),
+          c.args.ends.items c.into_iter-visited-iterator.ensures.into_iter_gives.0 c.requires.site c.requires.of c.requires.out c.requires.none,
+      omega (arith, none, c.args.ends.ok.0, c.into_iter-visited-iterator.ensures.into_iter_gives.1, c.requires.room),
+      omega (arith, c.into_iter-visited-iterator.ensures.into_iter_gives.1, c.args.visits.ok.0, ap length c.into_iter-visited-iterator.ensures.into_iter_gives.0),
     )
 
 pub overflow_add-number : goal.overflow_add-number
@@ -56,8 +56,23 @@ loop-visited-preserved g c =
       omega (arith, c.loop-visited.invariant.2, c.in-Some.ensures.steps.1, next),
     )
 
+pub returns-clause-joined : goal.returns-clause-joined
+returns-clause-joined g c =
+    (handed_all g.N.Conn.Outside.stream c.args.site.now c.args.pass c.loop-visited.pass (g.N.Listener.net c.args.net.now)
+    (g.N.Listener.net c.loop-visited.net) c.args.visits.items _ c.loop-visited.number c.loop-visited.ends.items
+    c.loop-visited.invariant.0
+    (nil_from_length _ (omega (arith, c.loop-visited.invariant.2, c.in-None.ensures.steps.0)))).0
+
 pub returns-clause-back : goal.returns-clause-back
 returns-clause-back g c =
     (handed_all g.N.Conn.Outside.stream c.args.site.now c.args.pass c.loop-visited.pass (g.N.Listener.net c.args.net.now)
     (g.N.Listener.net c.loop-visited.net) c.args.visits.items _ c.loop-visited.number c.loop-visited.ends.items
-    c.loop-visited.invariant.0 (nil_from_length _ (omega (arith, c.loop-visited.invariant.2, c.in-None.ensures.steps.0)))).1
+    c.loop-visited.invariant.0
+    (nil_from_length _ (omega (arith, c.loop-visited.invariant.2, c.in-None.ensures.steps.0)))).1
+
+pub returns-clause-ends : goal.returns-clause-ends
+returns-clause-ends g c =
+    (handed_all g.N.Conn.Outside.stream c.args.site.now c.args.pass c.loop-visited.pass (g.N.Listener.net c.args.net.now)
+    (g.N.Listener.net c.loop-visited.net) c.args.visits.items _ c.loop-visited.number c.loop-visited.ends.items
+    c.loop-visited.invariant.0
+    (nil_from_length _ (omega (arith, c.loop-visited.invariant.2, c.in-None.ensures.steps.0)))).3

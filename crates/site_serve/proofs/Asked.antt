@@ -1,8 +1,9 @@
 -- Reports that are sent; what is asked has facts where it has any.
 use Rattle.std.proofs.Common.{◌≡◌, ◌⊎◌, inl, inr, ℕ, Bool, true, false, IsTrue, List, [], ◌∷◌, Option, Some, None, refl, sym, ap, ◌∙◌, subst}
-use Rattle.std.specs.Prelude.{Result, Ok, Err, if◌then◌else◌, nat_eq, option_map, option_and_then}
+use Rattle.std.specs.Prelude.{Result, Ok, Err, IfOk, if◌then◌else◌, nat_eq, option_map, option_and_then}
 use Rattle.std.specs.Option.{ok_or}
-use Rattle.std.specs.Str.{is_utf8}
+use Rattle.std.specs.Str.{is_utf8, IsUtf8}
+use Rattle.std.proofs.lemmas.Str.{is_utf8-from_IsUtf8, IsUtf8-from_is_utf8}
 use Rattle.std.specs.Cmp.Lexicographic.{pointwise}
 use Rattle.std.proofs.lemmas.Bool.Decides.{Decides-eqb}
 use Rattle.std.proofs.lemmas.Slice.Eq.{slice_eq-Decides}
@@ -14,7 +15,9 @@ use Rattle.pp_values.specs.Facts.{are_facts}
 use Rattle.res_core.specs.Asked.{Wanted}
 use Rattle.res_core.specs.AskedFacts.{has_facts}
 use Rattle.agent_machine.specs.declared.report.Report.{Report}
-use Rattle.json_documents.specs.LinesOfText.{IsFirstBad}
+use Rattle.json_documents.specs.LinesOfText.{IsFirstBad, ReadsDocument}
+use Rattle.json_documents.specs.declared.doc_stop.DocStop.{DocStop}
+use Rattle.json_documents.specs.declared.doc_stop.DocStop.TheVariants as doc
 use Rattle.agent_docs.specs.ReportText.{IsReportText}
 use Rattle.site_bundle.specs.GivenFacts.{given_facts}
 use Rattle.site_bundle.proofs.FactSteps.{given_are_facts}
@@ -23,7 +26,7 @@ use Rattle.site_core.specs.declared.plain.Plain.TheVariants as ask
 use Rattle.http_wire.specs.declared.request.HttpRequest.{HttpRequest}
 use Rattle.site_serve.specs.Endpoints.{endpoint_of, method_of}
 use Rattle.site_serve.specs.Requests.{Reading, seen_asked, facts_said, facts_asked, wanted_by, IsSent, ReportAsked, site_asked, FilingAsked, AsksAt, AsksBy, AsksOf, Asks}
-use Rattle.site_serve.specs.Steps.{IsRefused, ReadsBy, gives_facts}
+use Rattle.site_serve.specs.Steps.{IsRefused, ReadsBy, ReadsSent, gives_facts}
 use Rattle.site_serve.specs.declared.ask_stop.AskStop.{AskStop}
 use Rattle.site_serve.specs.declared.ask_stop.AskStop.TheVariants as stop
 use Rattle.site_serve.specs.declared.endpoint.Endpoint.{Endpoint}
@@ -38,6 +41,19 @@ pub none_sent : (n : ℕ) (body text : List ℕ) → text ≡ body → IsFirstBa
     (report : Report) → IsSent body report → ⊥
 none_sent n body text same bad report sent =
     bad.3 (report, text, subst (λ l. IsReportText report l) (sym same) sent.1, refl)
+
+pub bad_sent : (s : DocStop) (n : ℕ) (body text : List ℕ) → s ≡ doc.Bad n → text ≡ body →
+    ReadsDocument IsReportText text (Err s) → (report : Report) → IsSent body report → ⊥
+bad_sent s n body text is same reads =
+    none_sent n body text same (subst (λ x. ReadsDocument IsReportText text (Err x)) is reads)
+
+pub none_read : (node body given : List ℕ) (o : Option Report) → given ≡ body → o ≡ None →
+    ReadsSent {M = Unit {0}} given (Ok o) → ReportAsked node body (Err why.Report)
+none_read node body given o same none reads = (
+  refl,
+  inl (subst (λ l. (report : Report) → IsSent l report → ⊥) same
+      (subst (λ x. ReadsSent {M = Unit {0}} given (Ok x)) none reads)),
+)
 
 pub is_of : (node body : List ℕ) (report : Report) → IsSent body report → pointwise nat_eq report.node node ≡ true →
     ReportAsked node body (Ok report)
@@ -90,6 +106,22 @@ module _ {S : Type 0} (said_site : List ℕ → Option S) where
   other_method false endpoint r is = refl
 
 -- ---- facts
+
+pub said_given : {V M : Type 0} (shown : V → Datum) (body : List ℕ) (j : Data) (result : Result (Option V) M) →
+    IsUtf8 body → read body ≡ Some j → IfOk result (λ o. option_map shown o ≡ given_facts j) →
+    IfOk result (λ o. option_map shown o ≡ facts_said body)
+said_given shown body j result text is given =
+    subst (λ x. IfOk result (λ o. option_map shown o ≡ x)) (sym
+    (ap (λ b. if b then option_and_then given_facts (read body) else None) (is_utf8-from_IsUtf8 body text)
+    ∙ ap (option_and_then given_facts) is)) given
+
+pub not_said : (body : List ℕ) → (IsUtf8 body → read body ≡ None) → facts_said body ≡ None
+not_said body is =
+    elim (is_utf8 body) as (λ b. is_utf8 body ≡ b →
+    (if b then option_and_then given_facts (read body) else None) ≡ None) [
+      | true ↦ λ e. ap (option_and_then given_facts) (is (IsUtf8-from_is_utf8 body e))
+      | false ↦ λ e. refl
+    ] refl
 
 -- a step answers, where the one before it did
 stepped : {A B : Type 0} (r : Reading A) (next : A → Reading B) (b : B) → and_then r next ≡ Ok b →

@@ -250,6 +250,7 @@ module _ {S C F : Type 0} (meaning : Meaning S C F) (listed : Listed S) (d : Dia
         taken = inl goes_on;
         front = inr (
           why,
+          goes_on,
           subst (λ l. Refuses why (rest ++ more) (l ≡ Some [])) (sym begun.3.left) refuses,
           (begun.1, ap (λ l. done.text ++ l) begun.2 ∙ sym (append_assoc done.text begun.0 begun.1)),
         );

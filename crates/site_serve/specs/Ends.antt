@@ -101,7 +101,8 @@ module _ {S C F : Type 0} (d : Dialect S C F) (Replied : List (Asked S) → List
     pub replies : Replied (asked_in turns) (replies_in turns)
     pub due_is : due ≡ texts_of d turns
 
-  -- A front was written of what was due: the responses to all requests, or these and a refusal.
+  -- A front was written of what was due: the responses to all requests, or these and a refusal, where none of them ended the
+  -- connection.
   pub record HasStopped (before after : Stream) : Type 0 where
     pub bytes : List ℕ
     pub rest : List ℕ
@@ -112,7 +113,7 @@ module _ {S C F : Type 0} (d : Dialect S C F) (Replied : List (Asked S) → List
     pub traded : HasTraded bytes text before after
     pub taken : AreTaken rs
     pub front : IsFront text due
-        ⊎ ((why : H) × Refuses why rest (after.left ≡ Some []) × IsFront text (due ++ refusal_text why))
+        ⊎ ((why : H) × GoOn rs × Refuses why rest (after.left ≡ Some []) × IsFront text (due ++ refusal_text why))
 
   -- What was read from the connection and written to it, by its end.
   abbrev pub Ends : ConnEnd → Stream → Stream → Type 0

@@ -4,8 +4,6 @@
 #[cfg(test)]
 mod batches;
 #[cfg(test)]
-mod connections;
-#[cfg(test)]
 mod history;
 #[cfg(test)]
 mod jobs;

@@ -14,7 +14,7 @@ returns-in-Ok-None g c =
 pub returns-in_default : goal.returns-in_default
 returns-in_default g c =
     let x = read_one _ _ _ _ _ _ c.in-Ok-Some.field-0-is c.in-Ok-Some.ensures in
-    unanswered _ _ _ _ _ _ _ _ _ _ c.loop-answered.invariant.2 c.loop-answered-test.true _ _ x.1 _ _ (x.2, x.3, x.4)
+    unanswered _ _ _ _ _ _ _ _ _ _ c.loop-answered.invariant.2 c.loop-answered-test.true _ _ x.1 _ _ x.2
     _ c.keeps-in-Ok-Some.ensures.few c.in_default.field-0 c.in_default.ensures
 
 pub returns-in-Err-WriteFault : goal.returns-in-Err-WriteFault
@@ -22,19 +22,19 @@ returns-in-Err-WriteFault g c =
     let x = read_one _ _ _ _ _ _ c.in-Ok-Some.field-0-is c.in-Ok-Some.ensures in
     let w = write_stopped _ _ _ _ _ c.in-Err-WriteFault.field-0-is c.in-Err-WriteFault.ensures in
     write_failed _ _ _ _ _ _ _ _ _ _ c.loop-answered.invariant.2 c.loop-answered-test.true _ _ x.1 _ _
-    (x.2, x.3, x.4) _ c.keeps-in-Ok-Some.ensures.few (Unit {0}) _ c.in-Ok.ensures _ w.0 w.1
+    x.2 _ c.keeps-in-Ok-Some.ensures.few (Unit {0}) _ c.in-Ok.ensures _ w.0 w.1
 
 pub returns-in-Err-Memory-write_response : goal.returns-in-Err-Memory-write_response
 returns-in-Err-Memory-write_response g c =
     let x = read_one _ _ _ _ _ _ c.in-Ok-Some.field-0-is c.in-Ok-Some.ensures in
     let w = write_stopped _ _ _ _ _ c.in-Err-Memory-write_response.field-0-is c.in-Err-Memory-write_response.ensures in
     not_written _ _ _ _ _ _ _ _ _ _ c.loop-answered.invariant.2 c.loop-answered-test.true _ _ x.1 _ _
-    (x.2, x.3, x.4) _ c.keeps-in-Ok-Some.ensures.few (Unit {0}) _ c.in-Ok.ensures _ w
+    x.2 _ c.keeps-in-Ok-Some.ensures.few (Unit {0}) _ c.in-Ok.ensures _ w
 
 pub returns-then-request : goal.returns-then-request
 returns-then-request g c =
     let x = read_one _ _ _ _ _ _ c.in-Ok-Some.field-0-is c.in-Ok-Some.ensures in
-    closed _ _ _ _ _ _ _ _ _ _ c.loop-answered.invariant.2 c.loop-answered-test.true _ _ x.1 _ _ (x.2, x.3, x.4)
+    closed _ _ _ _ _ _ _ _ _ _ c.loop-answered.invariant.2 c.loop-answered-test.true _ _ x.1 _ _ x.2
     _ c.keeps-in-Ok-Some.ensures.few (Unit {0}) _ c.in-Ok.ensures _ c.in-Ok-write_response.ensures c.if-request.true
 
 pub returns-in-Err-Bad : goal.returns-in-Err-Bad
@@ -59,7 +59,7 @@ loop-answered-preserved g c =
       search rules,
       search rules,
       answered_one _ _ _ _ _ _ _ _ _ _ c.loop-answered.invariant.2
-          c.loop-answered-test.true _ _ x.1 _ _ (x.2, x.3, x.4) _ c.keeps-in-Ok-Some.ensures.few (Unit {0}) _
+          c.loop-answered-test.true _ _ x.1 _ _ x.2 _ c.keeps-in-Ok-Some.ensures.few (Unit {0}) _
           c.in-Ok.ensures _ c.in-Ok-write_response.ensures c.if-request.false,
     )
 

@@ -1,9 +1,9 @@
-mod Bundled
-mod Exact
-mod Examples
-mod Readable
+mod Applied
+mod Decoding
+mod Reading
+mod Rising
 mod Saying
-mod Sent
-mod SentData
+mod Settling
 mod Told
+mod Wording
 mod Worked

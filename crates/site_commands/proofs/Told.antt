@@ -1,31 +1,181 @@
--- Where a source tells what it has left, what was read tells of the input.
-use Rattle.std.proofs.Common.{◌≡◌, ℕ, ◌<◌, ◌≤◌, true, false, List, [], ◌++◌, length, subst, sym, ap, ◌∙◌, refl, arith, length-append, append-nil, leb}
+-- What was read, where source and tree tell what they have.
+use Rattle.std.proofs.Common.{◌≡◌, ◌⊎◌, ℕ, ◌<◌, ◌≤◌, true, false, List, [], ◌++◌, length, subst, sym, ap, ◌∙◌, refl, inl, inr, arith, length-append, append-nil, leb}
+use Rattle.std.proofs.lemmas.Bool.{le-leb}
 use Rattle.std.proofs.lemmas.Bool.Decides.{leb_tells}
-use Rattle.std.proofs.lemmas.Str.{IsUtf8-from_is_utf8}
 use Rattle.std.specs.Io.KnownBytes.{Consumes}
-use Rattle.std.specs.Prelude.{Option, Some, None}
-use Rattle.std.specs.Str.{IsUtf8, is_utf8}
+use Rattle.std.specs.Prelude.{Option, Some, None, option_map, Result, Ok, Err, IfSome, if◌then◌else◌, codes}
+use Rattle.pp_values.specs.declared.place.TheConstants.{MAIN_MANIFEST}
+use Rattle.site_bundle.specs.Bundles.{bundle_of, bundle_in}
+use Rattle.site_bundle.specs.Documents.{json_of}
+use Rattle.site_bundle.specs.FolderSites.{site_walk}
+use Rattle.site_bundle.specs.Refusals.{Refusal, not_json, bad_shape, too_large, Refuses, result_and_then}
+use Rattle.site_bundle.specs.Walks.{Walk, done, refused, listing, reading, End, found, refusal, fault, answer_of, EndsIn, end_over}
+use Rattle.site_bundle.specs.declared.bundle.Bundle.{Bundle}
+use Rattle.site_bundle.specs.declared.bundle_stop.BundleStop.{BundleStop}
+use Rattle.site_bundle.specs.declared.bundle_stop.BundleStop.TheVariants as b
+use Rattle.site_bundle.specs.declared.limits.TheConstants.{MOST_BUNDLE_BYTES, MOST_FILE_BYTES}
+use Rattle.site_io.specs.Folders.{Folder, Held, names_at, bytes_at}
+use Rattle.site_io.specs.Stream.{Stream}
+use Rattle.site_io.specs.declared.transfer.ReadStop.TheVariants as r
+use Rattle.site_commands.specs.Inputs as read
+use Rattle.site_commands.specs.Inputs.{Reading, Input, HasInput, HasStoppedBy, stop_ending}
+use Rattle.site_commands.specs.Settled.{input_told, manifest_of, site_or}
+use Rattle.site_commands.specs.World.{World}
+use Rattle.site_commands.specs.declared.ending.Ending.TheVariants as e
+use Rattle.site_commands.specs.declared.input.InputStop.{InputStop}
+use Rattle.site_commands.specs.declared.input.InputStop.TheVariants as i
+
+-- ---- bytes
 
 -- all bytes that were left are the ones read
-pub read_is_left : (left left' : Option (List ℕ)) (input bytes : List ℕ) → left ≡ Some input → left' ≡ Some []
-    → Consumes left left' bytes → bytes ≡ input
-read_is_left left left' input bytes told ended read =
-    let at_start : Consumes (Some input) left' bytes = subst (λ l. Consumes l left' bytes) told read in
-    let whole : input ≡ bytes ++ [] = subst (λ l. Consumes (Some input) l bytes) ended at_start in
+read_is_left : (left' : Option (List ℕ)) (input bytes : List ℕ) → left' ≡ Some [] → Consumes (Some input) left' bytes →
+    bytes ≡ input
+read_is_left left' input bytes ended read =
+    let whole : input ≡ bytes ++ [] = subst (λ l. Consumes (Some input) l bytes) ended read in
     sym (whole ∙ append-nil bytes)
 
 -- bytes that were read were left
-pub left_is_longer : (left left' : Option (List ℕ)) (input bytes : List ℕ) → left ≡ Some input
-    → Consumes left left' bytes → length bytes ≤ length input
-left_is_longer left None input bytes told read = absurd (subst (λ l. Consumes l None bytes) told read)
-left_is_longer left (Some rest) input bytes told read =
-    let at_start : input ≡ bytes ++ rest = subst (λ l. Consumes l (Some rest) bytes) told read in
-    omega (arith, ap length at_start, length-append bytes rest)
+left_is_longer : (left' : Option (List ℕ)) (input bytes : List ℕ) → Consumes (Some input) left' bytes →
+    length bytes ≤ length input
+left_is_longer None input bytes read = absurd read
+left_is_longer (Some rest) input bytes read =
+    let whole : input ≡ bytes ++ rest = read in
+    omega (arith, ap length whole, length-append bytes rest)
 
-pub is_utf8-no_text : (input : List ℕ) → (IsUtf8 input → ⊥) → is_utf8 input ≡ false
-is_utf8-no_text input no_text =
-    elim (is_utf8 input) as (λ b. is_utf8 input ≡ b → b ≡ false)
-    [ true ↦ λ is. absurd (no_text (IsUtf8-from_is_utf8 input is)) | false ↦ λ is. refl ] refl
-
-pub leb-false : (a b : ℕ) → b < a → leb a b ≡ false
+leb-false : (a b : ℕ) → b < a → leb a b ≡ false
 leb-false a b h = grind (arith, leb_tells)
+
+bundle_of-long : (input : List ℕ) → MOST_BUNDLE_BYTES < length input → bundle_of input ≡ Err (too_large (codes "bundle"))
+unfolding bundle_of
+bundle_of-long input long =
+    ap (λ b. result_and_then bundle_in (if b then json_of input else Err (too_large (codes "bundle"))))
+    (leb-false (length input) MOST_BUNDLE_BYTES long)
+
+-- ---- walks over files that are told
+
+over-found : {A : Type 0} (files : List Held) (w : Walk A) (x : A) → EndsIn (Some files) w (found x) →
+    end_over files w ≡ Ok x
+unfolding EndsIn end_over
+over-found files (done y) x ends = let same : x ≡ y = cc in ap Ok (sym same)
+over-found files (refused why) x ends = cc
+over-found files (listing path next) x (inl ends) = cc
+over-found files (listing path next) x (inr ends) =
+    subst (λ names. end_over files (next names) ≡ Ok x) ends.1.tells (over-found files (next ends.0) x ends.2)
+over-found files (reading path next) x (inl ends) = cc
+over-found files (reading path next) x (inr ends) =
+    subst (λ answer. end_over files (next answer) ≡ Ok x) ends.1.tells (over-found files (next ends.0) x ends.2)
+
+over-refusal : {A : Type 0} (files : List Held) (w : Walk A) (why : Refusal) → EndsIn (Some files) w (refusal why) →
+    end_over files w ≡ Err why
+unfolding EndsIn end_over
+over-refusal files (done y) why ends = cc
+over-refusal files (refused other) why ends = let same : why ≡ other = cc in ap Err (sym same)
+over-refusal files (listing path next) why (inl ends) = cc
+over-refusal files (listing path next) why (inr ends) =
+    subst (λ names. end_over files (next names) ≡ Err why) ends.1.tells (over-refusal files (next ends.0) why ends.2)
+over-refusal files (reading path next) why (inl ends) = cc
+over-refusal files (reading path next) why (inr ends) =
+    subst (λ answer. end_over files (next answer) ≡ Err why) ends.1.tells (over-refusal files (next ends.0) why ends.2)
+
+-- ---- what was had
+
+manifest_told : (left left' : Option (List ℕ)) (bytes : List ℕ) → Consumes left left' bytes → left' ≡ Some [] →
+    length bytes ≤ MOST_FILE_BYTES → IfSome (option_map manifest_of left) (λ told. told ≡ Ok (read.bytes bytes))
+manifest_told None left' bytes took ended fits = tt
+manifest_told (Some input) left' bytes took ended fits =
+    subst (λ x. manifest_of x ≡ Ok (read.bytes bytes)) (read_is_left left' input bytes ended took)
+    (ap (λ b. if b then Ok (read.bytes bytes) else Err (too_large MAIN_MANIFEST.now))
+    (le-leb (length bytes) MOST_FILE_BYTES fits))
+
+bundle_told : (left left' : Option (List ℕ)) (bytes : List ℕ) (meant : Result Bundle Refusal) → Consumes left left' bytes →
+    left' ≡ Some [] → bundle_of bytes ≡ meant →
+    IfSome (option_map (λ input. site_or (bundle_of input)) left) (λ told. told ≡ site_or meant)
+bundle_told None left' bytes meant took ended is = tt
+bundle_told (Some input) left' bytes meant took ended is =
+    subst (λ x. site_or (bundle_of x) ≡ site_or meant) (read_is_left left' input bytes ended took) (ap site_or is)
+
+folder_told : (told : Option (List Held)) (w : Walk Bundle) (said : Bundle) → EndsIn told w (found said) →
+    IfSome (option_map (λ files. site_or (end_over files w)) told) (λ t. t ≡ Ok (read.site said))
+folder_told None w said ends = tt
+folder_told (Some files) w said ends = ap site_or (over-found files w said ends)
+
+-- what was had is what is told
+pub input-told : (from : Reading) (input : Input) (before after : World) →
+    HasInput from input before.source after.source before.folder after.folder →
+    IfSome (input_told from before) (λ told. told ≡ Ok input)
+input-told read.nothing read.none before after had = refl
+input-told read.manifest (read.bytes bytes) before after had =
+    manifest_told before.source.left after.source.left bytes had.0.read.left had.0.ended had.0.fits
+input-told read.bundle (read.site said) before after had =
+    bundle_told before.source.left after.source.left had.0.bytes (Ok said) had.0.read.read.left had.0.read.ended had.0.is
+input-told (read.folder dir) (read.site said) before after had =
+    folder_told before.folder.told (site_walk dir) said had.1.ends
+input-told from input before after had = absurd had
+
+-- ---- what was not had
+
+abbrev pub IsRefusal : Result Input Refusal → Type 0
+IsRefusal told = (why : Refusal) × (told ≡ Err why)
+
+manifest_long : (left left' : Option (List ℕ)) (bytes : List ℕ) → Consumes left left' bytes → MOST_FILE_BYTES < length bytes →
+    IfSome (option_map manifest_of left) IsRefusal
+manifest_long None left' bytes took long = tt
+manifest_long (Some input) left' bytes took long =
+    let shorter : length bytes ≤ length input = left_is_longer left' input bytes took in
+    let longer : MOST_FILE_BYTES < length input = omega (arith, shorter, long) in
+    (too_large MAIN_MANIFEST.now,
+    ap (λ b. if b then Ok (read.bytes input) else Err (too_large MAIN_MANIFEST.now))
+    (leb-false (length input) MOST_FILE_BYTES longer))
+
+bundle_long : (left left' : Option (List ℕ)) (bytes : List ℕ) → Consumes left left' bytes → MOST_BUNDLE_BYTES < length bytes →
+    IfSome (option_map (λ input. site_or (bundle_of input)) left) IsRefusal
+bundle_long None left' bytes took long = tt
+bundle_long (Some input) left' bytes took long =
+    let shorter : length bytes ≤ length input = left_is_longer left' input bytes took in
+    let longer : MOST_BUNDLE_BYTES < length input = omega (arith, shorter, long) in
+    (too_large (codes "bundle"), ap site_or (bundle_of-long input longer))
+
+bundle_refused : (left left' : Option (List ℕ)) (bytes : List ℕ) (why : Refusal) → Consumes left left' bytes →
+    left' ≡ Some [] → bundle_of bytes ≡ Err why → IfSome (option_map (λ input. site_or (bundle_of input)) left) IsRefusal
+bundle_refused None left' bytes why took ended is = tt
+bundle_refused (Some input) left' bytes why took ended is =
+    (why, subst (λ x. site_or (bundle_of x) ≡ Err why) (read_is_left left' input bytes ended took) (ap site_or is))
+
+folder_refused : (told : Option (List Held)) (w : Walk Bundle) (why : Refusal) → EndsIn told w (refusal why) →
+    IfSome (option_map (λ files. site_or (end_over files w)) told) IsRefusal
+folder_refused None w why ends = tt
+folder_refused (Some files) w why ends = (why, ap site_or (over-refusal files w why ends))
+
+-- where what was read is not what the command reads, what is told is neither
+pub stop-told : (stop : InputStop) (from : Reading) (before after : World) → e.BadInput ≡ stop_ending stop →
+    HasStoppedBy stop from before.source after.source before.folder after.folder →
+    IfSome (input_told from before) IsRefusal
+stop-told (i.Unread r.Fault) from before after is did = cc
+stop-told (i.Unread r.Memory) from before after is did = cc
+stop-told (i.Unread r.TooLong) read.nothing before after is did = absurd did.0
+stop-told (i.Unread r.TooLong) read.manifest before after is did =
+    manifest_long before.source.left after.source.left did.1.0.bytes did.1.0.read.left did.1.0.long
+stop-told (i.Unread r.TooLong) read.bundle before after is did =
+    bundle_long before.source.left after.source.left did.1.0.bytes did.1.0.read.left did.1.0.long
+stop-told (i.Unread r.TooLong) (read.folder dir) before after is did = absurd did.0
+stop-told (i.Refused why) read.nothing before after is did = absurd did
+stop-told (i.Refused why) read.manifest before after is did = absurd did
+stop-told (i.Refused b.NotJson) read.bundle before after is did =
+    bundle_refused before.source.left after.source.left did.0.bytes not_json did.0.read.read.left did.0.read.ended
+    did.0.refuses
+stop-told (i.Refused (b.BadShape path)) read.bundle before after is did =
+    bundle_refused before.source.left after.source.left did.0.bytes (bad_shape path) did.0.read.read.left did.0.read.ended
+    did.0.refuses
+stop-told (i.Refused (b.TooLarge path)) read.bundle before after is did =
+    bundle_refused before.source.left after.source.left did.0.bytes (too_large path) did.0.read.read.left did.0.read.ended
+    did.0.refuses
+stop-told (i.Refused (b.TreeFault path)) read.bundle before after is did = cc
+stop-told (i.Refused b.Memory) read.bundle before after is did = cc
+stop-told (i.Refused b.NotJson) (read.folder dir) before after is did =
+    folder_refused before.folder.told (site_walk dir) not_json did.1.ends
+stop-told (i.Refused (b.BadShape path)) (read.folder dir) before after is did =
+    folder_refused before.folder.told (site_walk dir) (bad_shape path) did.1.ends
+stop-told (i.Refused (b.TooLarge path)) (read.folder dir) before after is did =
+    folder_refused before.folder.told (site_walk dir) (too_large path) did.1.ends
+stop-told (i.Refused (b.TreeFault path)) (read.folder dir) before after is did = cc
+stop-told (i.Refused b.Memory) (read.folder dir) before after is did = cc

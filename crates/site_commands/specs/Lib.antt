@@ -1,14 +1,10 @@
--- What the clauses of `site_main` rest on, and a reader has to believe: Demo, Outputs, Program, Endings, Limits,
--- Numbers, Status, Words, Work, World
--- What functions promise one another, what types keep, and what proofs read: Stops
-pub mod Demo
-pub mod Outputs
-pub mod Program
+-- What the clauses of `site_main` rest on, and a reader has to believe: Applying, Endings, Inputs, Program, Settled, Status,
+-- Work, World
+pub mod Applying
 pub mod Endings
-pub mod Limits
-pub mod Numbers
+pub mod Inputs
+pub mod Program
+pub mod Settled
 pub mod Status
-pub mod Stops
-pub mod Words
 pub mod Work
 pub mod World

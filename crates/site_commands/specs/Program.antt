@@ -1,5 +1,6 @@
 -- What a run of the program means, from the words that the system hands to it to the status that it exits with.
 use Rattle.std.specs.Prelude.{◌≡◌, ◌≢◌, ℕ, List, [], ◌∷◌, Result, Ok, Err, codes}
+use Rattle.command_outputs.specs.Lines.{line}
 use Rattle.std.specs.declared.alloc.Global.{Global}
 use Rattle.std.specs.IoError.{error_kind}
 use Rattle.std.specs.declared.io.Error.{Error}
@@ -7,24 +8,15 @@ use Rattle.std.specs.declared.io.ErrorKind.{ErrorKind}
 use Rattle.std.specs.declared.io.ErrorKind.TheVariants.{OutOfMemory}
 use Rattle.std.specs.declared.string.String.{String}
 use Rattle.std.specs.declared.vec.Vec.{Vec}
-use Rattle.site_commands.specs.declared.ending.Ending.{Ending}
-use Rattle.site_commands.specs.Endings.{Ends}
-use Rattle.site_commands.specs.Status.{status_of}
-use Rattle.site_commands.specs.Words.{texts_of}
-use Rattle.site_commands.specs.Work.{SaysOnly}
-use Rattle.site_commands.specs.World.{World, line}
-
--- a run on these words ended with this status
-pub record HasEnded (status : ℕ) (words : List (List ℕ)) (before after : World) : Type 0 where
-  pub ending : Ending
-  pub is : status ≡ status_of ending
-  pub ends : Ends ending words before after
+use Rattle.site_words.specs.Asked.{asked_of}
+use Rattle.site_words.specs.Reading.{texts_of}
+use Rattle.site_commands.specs.Endings.{HasEnded, SaysAlone}
+use Rattle.site_commands.specs.World.{World}
 
 -- memory was wanting for the words: nothing was read, and only this was said
 pub record LacksMemory (status : ℕ) (before after : World) : Type 0 where
   pub is : status ≡ 16
-  pub source : after.source ≡ before.source
-  pub said : SaysOnly (line (codes "memory")) before.out after.out before.err after.err
+  pub said : SaysAlone (line (codes "memory")) before after
 
 -- all that stands behind the program's name
 abbrev pub without_name : {T : Type 0} → List T → List T
@@ -34,10 +26,10 @@ without_name (name ∷ words) = words
 -- There are no words, by an error of this kind.
 pub record HasFailedOn (status : ℕ) (kind : ErrorKind) (before after : World) : Type 0 where
   pub memory : kind ≡ OutOfMemory → LacksMemory status before after
-  pub no_texts : kind ≢ OutOfMemory → HasEnded status [] before after
+  pub no_texts : kind ≢ OutOfMemory → HasEnded status (asked_of []) before after
 
 -- The program ran on the words of its command line, without its name. Words that are no texts are those of no command;
 -- where there was no memory for them, that was said.
 abbrev pub HasRunOn : ℕ → Result (Vec (String Global) Global) Error → World → World → Type 0
-HasRunOn status (Ok line) before after = HasEnded status (texts_of (without_name line.items)) before after
+HasRunOn status (Ok line) before after = HasEnded status (asked_of (texts_of (without_name line.items))) before after
 HasRunOn status (Err error) before after = HasFailedOn status (error_kind error) before after

@@ -1,16 +1,28 @@
--- The work of a command on an input that was read, and what each of its endings means.
-use Rattle.std.specs.Prelude.{◌≡◌, ◌⊎◌, ℕ, List, [], ◌∷◌, ◌++◌, codes}
-use Rattle.pp_values.specs.declared.place.TheConstants.{MAIN_MANIFEST}
+-- What is written of an output, and what each ending of it means.
+use Rattle.std.specs.Prelude.{◌≡◌, ◌⊎◌, ℕ, List, [], ◌∷◌, Result, Ok, Err, codes}
+use Rattle.command_outputs.specs.Lines.{line}
+use Rattle.command_outputs.specs.Outputs.{manifest_output, checked_output, compiled_output, looked_up_output, HasRun, HasShared, HasDemonstrated}
+use Rattle.command_outputs.specs.declared.output.Output.{Output}
+use Rattle.command_outputs.specs.declared.output.Output.TheVariants as o
+use Rattle.pp_values.specs.declared.memory.Memory.{Memory}
 use Rattle.site_io.specs.Stream.{Stream, HasWritten}
-use Rattle.site_io.specs.declared.transfer.ReadStop.{ReadStop}
-use Rattle.site_io.specs.declared.transfer.ReadStop.TheVariants as r
-use Rattle.site_commands.specs.Outputs.{IsOutput}
-use Rattle.site_commands.specs.Words.{CommandLine, manifest, sequence, batch, lookup, demo, usage, bad_word}
-use Rattle.site_commands.specs.World.{line, Says, FailsToSay}
-use Rattle.site_commands.specs.declared.output.Output.{Output}
-use Rattle.site_commands.specs.declared.output.Output.TheVariants as a
+use Rattle.site_words.specs.Asked as a
+use Rattle.site_words.specs.Asked.{Asked}
+use Rattle.site_commands.specs.Inputs.{Input, none, bytes, site}
+use Rattle.site_commands.specs.World.{Says, FailsToSay}
 use Rattle.site_commands.specs.declared.ending.Ending.{Ending}
 use Rattle.site_commands.specs.declared.ending.Ending.TheVariants as e
+
+-- the output to a command, by what was read
+abbrev pub IsOutput : Asked → Output → Input → Type 0
+IsOutput (a.manifest node) output (bytes input) = output ≡ manifest_output node input
+IsOutput (a.check dir) output (site said) = output ≡ checked_output said.site
+IsOutput (a.compile node dir) output (site said) = output ≡ compiled_output said.site node
+IsOutput a.sequence output (site said) = HasRun output said
+IsOutput (a.lookup node key merge dir) output (site said) = output ≡ looked_up_output said.site node key merge
+IsOutput (a.demo nodes) output none = HasDemonstrated nodes output
+IsOutput (a.batch workers) output (site said) = HasShared workers output said
+IsOutput asked output input = ⊥
 
 -- an error line alone
 abbrev pub SaysOnly : List ℕ → Stream → Stream → Stream → Stream → Type 0
@@ -42,39 +54,26 @@ WritesLogged ending log text out out' err err' = (ending ≡ e.Done)
 
 -- what is written of an output; out and err, before and after
 abbrev pub Delivers : Ending → Output → Stream → Stream → Stream → Stream → Type 0
-Delivers ending (a.Done text) out out' err err' = WritesOr ending e.Done text out out' × (err' ≡ err)
-Delivers ending (a.Compiled log text) out out' err err' = WritesLogged ending log text out out' err err'
-Delivers ending (a.Refused text) out out' err err' = WritesOr ending e.Refused text out out' × (err' ≡ err)
-Delivers ending (a.Short text) out out' err err' = WritesShort ending text out out' err err'
-Delivers ending (a.Fault text) out out' err err' = WritesOr ending e.Refused text err err' × (out' ≡ out)
-Delivers ending (a.BadInput text) out out' err err' = (ending ≡ e.BadInput) × SaysOnly text out out' err err'
+Delivers ending (o.Done text) out out' err err' = WritesOr ending e.Done text out out' × (err' ≡ err)
+Delivers ending (o.Compiled log text) out out' err err' = WritesLogged ending log text out out' err err'
+Delivers ending (o.Refused text) out out' err err' = WritesOr ending e.Refused text out out' × (err' ≡ err)
+Delivers ending (o.Short text) out out' err err' = WritesShort ending text out out' err err'
+Delivers ending (o.Fault text) out out' err err' = WritesOr ending e.Refused text err err' × (out' ≡ out)
+Delivers ending (o.BadInput text) out out' err err' = (ending ≡ e.BadInput) × SaysOnly text out out' err err'
 
 -- the output to the input was written, as far as the streams took it
-pub record Serves (ending : Ending) (asked : CommandLine) (input : List ℕ) (out out' err err' : Stream) : Type 0 where
+pub record HasDelivered (ending : Ending) (asked : Asked) (input : Input) (out out' err err' : Stream) : Type 0 where
   pub output : Output
   pub is : IsOutput asked output input
   pub written : Delivers ending output out out' err err'
 
--- the work on the input ended so: the output was written, or memory was wanting for it
-abbrev pub Works : Ending → CommandLine → List ℕ → Stream → Stream → Stream → Stream → Type 0
-Works e.Memory asked input out out' err err' =
-    Serves e.Memory asked input out out' err err' ⊎ SaysOnly (line (codes "memory")) out out' err err'
-Works e.BadWords asked input out out' err err' = ⊥
-Works e.ReadFault asked input out out' err err' = ⊥
-Works ending asked input out out' err err' = Serves ending asked input out out' err err'
+-- the output to the input was written, or memory was wanting for it
+abbrev pub GivesOutput : Ending → Asked → Input → Stream → Stream → Stream → Stream → Type 0
+GivesOutput e.Memory asked input out out' err err' =
+    HasDelivered e.Memory asked input out out' err err' ⊎ SaysOnly (line (codes "memory")) out out' err err'
+GivesOutput ending asked input out out' err err' = HasDelivered ending asked input out out' err err'
 
--- the line for an input that is longer than the command reads
-abbrev pub too_long : CommandLine → List ℕ
-too_long (manifest node) = codes "B3 " ++ MAIN_MANIFEST.now
-too_long sequence = codes "B3 bundle"
-too_long (batch workers) = codes "B3 bundle"
-too_long (lookup node key merge) = codes "B3 bundle"
-too_long (demo nodes) = codes ""
-too_long usage = codes ""
-too_long (bad_word word) = codes ""
-
--- how a run ends whose input was not read, and what is said of it
-abbrev pub GivesUp : CommandLine → ReadStop → Ending → Stream → Stream → Type 0
-GivesUp asked r.Fault ending err err' = (ending ≡ e.ReadFault) × Says (line (codes "read fault")) err err'
-GivesUp asked r.TooLong ending err err' = (ending ≡ e.BadInput) × Says (line (too_long asked)) err err'
-GivesUp asked r.Memory ending err err' = (ending ≡ e.Memory) × Says (line (codes "memory")) err err'
+-- what was made for the output was written, or memory was wanting for it
+abbrev pub WritesMade : Ending → Result Output Memory → Stream → Stream → Stream → Stream → Type 0
+WritesMade ending (Ok output) out out' err err' = Delivers ending output out out' err err'
+WritesMade ending (Err memory) out out' err err' = (ending ≡ e.Memory) × SaysOnly (line (codes "memory")) out out' err err'

@@ -7,8 +7,17 @@ pub enum Ending {
     /// The command did its work.
     Done,
 
-    /// The work was refused, and the error stream says why.
+    /// The work was refused, and the error stream or the output says why.
     Refused,
+
+    /// A catalog was applied: something changed, and nothing failed.
+    Changed,
+
+    /// A catalog was applied: something failed, and nothing changed.
+    Failed,
+
+    /// A catalog was applied: something changed, and something failed.
+    ChangedAndFailed,
 
     /// The words are faulty.
     BadWords,
@@ -22,6 +31,12 @@ pub enum Ending {
     /// The output could not be written.
     WriteFault,
 
+    /// The listener failed.
+    NetFault,
+
+    /// The tree of files failed.
+    TreeFault,
+
     Memory,
 }
 
@@ -33,10 +48,15 @@ impl Ending {
         match self {
             Ending::Done => 0,
             Ending::Refused => 1,
+            Ending::Changed => 2,
+            Ending::Failed => 4,
+            Ending::ChangedAndFailed => 6,
             Ending::BadWords => 10,
             Ending::BadInput => 11,
             Ending::ReadFault => 12,
             Ending::WriteFault => 13,
+            Ending::NetFault => 14,
+            Ending::TreeFault => 15,
             Ending::Memory => 16,
         }
     }

@@ -1,20 +1,16 @@
-//! The commands of the site's program: words and streams in, a status out.
+//! The commands of the site's program: words and the outside in, a status out.
 #![tactic(auto)]
 
-pub mod batch_output;
-pub mod bundle_output;
-pub mod demo_output;
-pub mod demo_site;
+mod applying;
+mod commands;
+mod delivering;
 pub mod ending;
-mod lines;
-pub mod lookup_output;
-pub mod manifest_output;
-mod numbers;
-pub mod output;
+mod giving_up;
+pub mod input;
 pub mod program;
 mod say;
 pub mod site;
-pub mod words;
+mod telling;
 
 pub use ending::Ending;
 pub use program::run_program;

@@ -2,11 +2,14 @@
 ghost use Rattle.std.specs.Prelude.{◌≡◌, codes};
 ghost use Rattle.std.specs.Process.{exit_status};
 ghost use Rattle.site_commands.specs.Program.{without_name, HasRunOn};
-ghost use Rattle.site_commands.specs.World.{world, line, Says};
+ghost use Rattle.command_outputs.specs.Lines.{line};
+ghost use Rattle.site_commands.specs.World.{world, Says};
 
 use crate::ending::Ending;
-use crate::site::{refuse, site_main};
-use site_io::{Gate, Sink, Source};
+use crate::giving_up::refuse;
+use crate::site::site_main;
+use agent_machine::Machine;
+use site_io::{Gate, Listener, Sink, Source, Tree};
 use std::alloc::Global;
 use std::io;
 use std::io::ErrorKind;
@@ -17,26 +20,40 @@ use std::thread::Threads;
 /// Runs the program on its command line, whose first word is the program's name, and gives the code to exit with.
 ///
 /// A word that is no text makes them faulty words.
-pub fn run_program<S: Source, K: Sink, E: Sink, G: Gate + Sync, R: Threads + Wait + Sync>(
+pub fn run_program<
+    S: Source,
+    K: Sink,
+    E: Sink,
+    N: Listener,
+    T: Tree,
+    M: Machine,
+    G: Gate + Sync,
+    R: Threads + Wait + Sync,
+>(
     rt: &R,
     alloc: Global,
     line: io::Result<Vec<String>>,
     source: &mut S,
     out: &mut K,
     err: &mut E,
+    net: &mut N,
+    tree: &mut T,
+    machine: &mut M,
     gate: &G,
 ) -> ExitCode
     ensures { HasRunOn (exit_status result) line
-        (world (S.stream source.old) (K.stream out.old) (E.stream err.old))
-        (world (S.stream source.new) (K.stream out.new) (E.stream err.new)) }
+        (world (S.stream source.old) (K.stream out.old) (E.stream err.old) (N.net net.old) (T.folder tree.old)
+        (M.state machine.old))
+        (world (S.stream source.new) (K.stream out.new) (E.stream err.new) (N.net net.new) (T.folder tree.new)
+        (M.state machine.new)) }
 {
     let status = match line {
         Ok(line) => {
             let words = without_name(line.as_slice());
-            site_main(rt, alloc, words, source, out, err, gate)
+            site_main(rt, alloc, words, source, out, err, net, tree, machine, gate)
         }
         Err(error) if error.kind() == ErrorKind::OutOfMemory => lack_memory(err),
-        Err(_) => site_main(rt, alloc, &[], source, out, err, gate),
+        Err(_) => site_main(rt, alloc, &[], source, out, err, net, tree, machine, gate),
     };
     ExitCode::from(status)
 }

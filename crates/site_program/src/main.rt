@@ -1,11 +1,13 @@
-//! The program of the site: `manifest NODE` reads a manifest and writes the node's catalog; `sequence` reads a bundle,
-//! answers its requests one after another, and writes the history and the replies; `batch` has workers share them out;
-//! `lookup NODE KEY` writes the value that a bundle's data have.
+//! The program of the site, over the real words, streams, sockets and folders, and a machine that is a document.
 #![tactic(auto)]
 
+use agent_machine::{DocMachine, FailingTexts, MachineDoc, States};
 use core::thread::{Anything, Stack};
+use pp_values::Memory;
 use site_commands::run_program;
-use site_io::{OpenGate, StandardError, StandardInput, StandardOutput, write_all};
+use site_io::{
+    FolderTree, OpenGate, StandardError, StandardInput, StandardOutput, TcpPort, write_all,
+};
 use std::alloc::Global;
 use std::process::ExitCode;
 use std::thread::Threads;
@@ -25,25 +27,44 @@ const NO_MEMORY: u8 = 16;
 /// is wanting, and nothing is run.
 fn main(rt: HostRuntime) -> ExitCode {
     make_room(&rt, rt.alloc());
-    let ended = on_large_stack(&rt, move || {
-        run_program(
-            &rt,
+    match on_large_stack(&rt, move || run(&rt)) {
+        Ok(code) => code,
+        Err(_) => lack_memory(&rt),
+    }
+}
+
+/// Runs the program over what the system has.
+fn run(rt: &HostRuntime) -> ExitCode {
+    match empty_machine(rt.alloc()) {
+        Ok(mut machine) => run_program(
+            rt,
             rt.alloc(),
-            command_line(&rt),
+            command_line(rt),
             &mut StandardInput::new(rt.stdin()),
             &mut StandardOutput::new(rt.stdout()),
             &mut StandardError::new(rt.stderr()),
+            &mut TcpPort::new(rt),
+            &mut FolderTree::new(rt),
+            &mut machine,
             &OpenGate,
-        )
-    });
-    match ended {
-        Ok(code) => code,
-        Err(_) => {
-            // The status tells the cause, whether the line can be written or not.
-            let _ = write_all(&mut StandardError::new(rt.stderr()), "memory\n".as_bytes());
-            ExitCode::from(NO_MEMORY)
-        }
+        ),
+        Err(Memory) => lack_memory(rt),
     }
+}
+
+/// A machine of which nothing is recorded until a document is loaded.
+fn empty_machine(alloc: Global) -> Result<DocMachine, Memory> {
+    let document = MachineDoc {
+        failing: FailingTexts::new(alloc),
+        state: States::new(alloc),
+    };
+    DocMachine::new(alloc, document, &[])
+}
+
+/// Says that memory is wanting. The status tells the cause, whether the line can be written or not.
+fn lack_memory(rt: &HostRuntime) -> ExitCode {
+    let _ = write_all(&mut StandardError::new(rt.stderr()), "memory\n".as_bytes());
+    ExitCode::from(NO_MEMORY)
 }
 
 /// Makes the heap of a thread, lets it grow once, and ends that thread, so that the next one has this heap: it grows by a

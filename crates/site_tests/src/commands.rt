@@ -1,6 +1,8 @@
-//! The commands of the program, over streams in memory: words, inputs, bundles, and streams that fail.
+//! The commands of the program, over streams, a tree and a machine in memory: words, inputs, bundles, and streams that fail.
+use agent_machine::{DocMachine, FailingTexts, MachineDoc, States};
+use pp_values::Memory;
 use site_commands::site_main;
-use site_io::{MemSink, MemSource, OpenGate};
+use site_io::{MemListener, MemSink, MemSource, MemTree, OpenGate};
 use std::alloc::{AllocError, Global};
 use std::sync::Wait;
 use std::test::Fail;
@@ -31,19 +33,42 @@ pub fn ends_so<R: Threads + Wait + Sync>(
     rt: &R,
     alloc: Global,
     run: &Run<'_>,
-) -> Result<bool, AllocError> {
+) -> Result<bool, Memory> {
     let (words, input, (reads, writes, tells), status, wanted, told) = run;
     let words = words_of(alloc, words)?;
     let mut source = MemSource::new(alloc, input.as_bytes(), &[*reads])?;
     let mut out = MemSink::new(alloc, 65_536, &[*writes])?;
     let mut err = MemSink::new(alloc, 4096, &[*tells])?;
-    let words = words.as_slice();
-    let ended = site_main(rt, alloc, words, &mut source, &mut out, &mut err, &OpenGate);
-    let is_written = out.written() == wanted.as_bytes() && err.written() == told.as_bytes();
-    Ok(ended == *status && is_written)
+    let mut net = MemListener::new(alloc, Vec::new(alloc), &[])?;
+    let mut tree = MemTree::new(alloc, &[])?;
+    let mut machine = empty_machine(alloc)?;
+    let ended = site_main(
+        rt,
+        alloc,
+        words.as_slice(),
+        &mut source,
+        &mut out,
+        &mut err,
+        &mut net,
+        &mut tree,
+        &mut machine,
+        &OpenGate,
+    );
+    let is_told = *told == USAGE || err.written() == told.as_bytes();
+    Ok(ended == *status && out.written() == wanted.as_bytes() && is_told)
 }
 
-const USAGE: &str = "usage: manifest NODE\n";
+/// A machine of which nothing is recorded, until a document is loaded.
+pub fn empty_machine(alloc: Global) -> Result<DocMachine, Memory> {
+    let document = MachineDoc {
+        failing: FailingTexts::new(alloc),
+        state: States::new(alloc),
+    };
+    DocMachine::new(alloc, document, &[])
+}
+
+/// What `clap` says of words that it refuses, whatever that is.
+const USAGE: &str = "usage";
 
 const GOOD: &str = "notify { 'a': }";
 
@@ -424,6 +449,67 @@ const STREAMS: [Run<'static>; 35] = [
     ("demo|1", "", (0, 1, 0), 13, "", ""),
 ];
 
+/// A package that can't be written, and a service behind it.
+const PACKAGE: &str =
+    r#"{"bundle": 1, "files": {"manifests/site.pp": "package { 'p': ensure => present }\nclass e { }\ninclude e\nservice { 's': ensure => running }\nnotify { 'n': }\nPackage['p'] -> Class['e']\nClass['e'] ~> Service['s']"}, "nodes": {"n": {}}, "machine": {"failing": ["write Package[p] ensure"], "state": {}}}"#;
+
+/// Two files to which a service subscribes.
+const FILES: &str =
+    r#"{"bundle": 1, "files": {"manifests/site.pp": "file { '/a': content => 'x' }\nfile { '/b': content => 'y' }\nservice { 's': ensure => running, subscribe => [File['/a'], File['/b']] }"}, "nodes": {"n": {}}, "machine": {"failing": [], "state": {"Service[s]": {"ensure": "running"}}}}"#;
+
+/// The same, where both files are as they are to be.
+const SETTLED: &str =
+    r#"{"bundle": 1, "files": {"manifests/site.pp": "file { '/a': content => 'x' }\nfile { '/b': content => 'y' }\nservice { 's': ensure => running, subscribe => [File['/a'], File['/b']] }"}, "nodes": {"n": {}}, "machine": {"failing": [], "state": {"File[/a]":{"content":"x"},"File[/b]":{"content":"y"},"Service[s]":{"ensure":"running"}}}}"#;
+
+/// What becomes of both files.
+const APPLIED: &str =
+    r#"{"changed":3,"failed":0,"node":"n","noop":0,"report":2,"resources":[{"changes":["content"],"fault":null,"ref":"File[/a]","refreshed":false,"status":"changed"},{"changes":["content"],"fault":null,"ref":"File[/b]","refreshed":false,"status":"changed"},{"changes":[],"fault":null,"ref":"Service[s]","refreshed":true,"status":"unchanged"}]}
+{"failing":[],"machine":1,"state":{"File[/a]":{"content":"x"},"File[/b]":{"content":"y"},"Service[s]":{"ensure":"running"}}}
+"#;
+
+/// Nodes of bundles, and machines.
+const NODES: [Run<'static>; 14] = [
+    ("compile|z", BUNDLE, NONE, 1, "", "unknown node z\n"),
+    ("compile|n", "{", NONE, 11, "", "B1\n"),
+    ("compile|n", "{\"bundle\":2}", NONE, 11, "", "B2 bundle\n"),
+    ("check", BUNDLE, NONE, 0, "files 1 faults 0\n", ""),
+    (
+        "check",
+        r#"{"bundle": 1, "files": {"manifests/site.pp": "notify {", "modules/a/manifests/init.pp": "class a { }"}}"#,
+        NONE,
+        1,
+        "F1 manifests/site.pp:1 Syntax\nfiles 2 faults 1\n",
+        "",
+    ),
+    ("apply|z", BUNDLE, NONE, 1, "", "unknown node z\n"),
+    (
+        "apply|n",
+        PACKAGE,
+        NONE,
+        6,
+        r#"{"changed":1,"failed":1,"node":"n","noop":0,"report":2,"resources":[{"changes":[],"fault":"write ensure","ref":"Package[p]","refreshed":false,"status":"failed"},{"changes":[],"fault":null,"ref":"Service[s]","refreshed":false,"status":"skipped"},{"changes":["run"],"fault":null,"ref":"Notify[n]","refreshed":false,"status":"changed"}]}
+{"failing":["write Package[p] ensure"],"machine":1,"state":{}}
+"#,
+        "",
+    ),
+    ("apply|n", FILES, NONE, 2, APPLIED, ""),
+    (
+        "apply|n",
+        SETTLED,
+        NONE,
+        0,
+        r#"{"changed":0,"failed":0,"node":"n","noop":0,"report":2,"resources":[{"changes":[],"fault":null,"ref":"File[/a]","refreshed":false,"status":"unchanged"},{"changes":[],"fault":null,"ref":"File[/b]","refreshed":false,"status":"unchanged"},{"changes":[],"fault":null,"ref":"Service[s]","refreshed":false,"status":"unchanged"}]}
+{"failing":[],"machine":1,"state":{"File[/a]":{"content":"x"},"File[/b]":{"content":"y"},"Service[s]":{"ensure":"running"}}}
+"#,
+        "",
+    ),
+    ("apply|n", FILES, (0, 1, 0), 13, "", ""),
+    ("apply|n", FILES, (1, 0, 0), 12, "", "read fault\n"),
+    ("apply|a", LOGGED, (0, 0, 1), 13, "", ""),
+    ("check|--dir|d", "", NONE, 11, "", "B2 manifests/site.pp\n"),
+    ("compile|a|--dir=d", BUNDLE, NONE, 11, "", "B2 manifests/site.pp\n"),
+];
+
 #[test]
 fn words_and_inputs_are_refused(rt: HostRuntime) -> Result<(), Fail> {
     for run in WORDS.iter() {
@@ -447,6 +533,16 @@ fn manifests_and_bundles_are_answered(rt: HostRuntime) -> Result<(), Fail> {
 #[test]
 fn streams_may_fail(rt: HostRuntime) -> Result<(), Fail> {
     for run in STREAMS.iter() {
+        let words = run.0;
+        let input = run.1;
+        assert!(rt; ends_so(&rt, rt.alloc(), run)?, "{words} {input}");
+    }
+    Ok(())
+}
+
+#[test]
+fn nodes_are_compiled_and_applied(rt: HostRuntime) -> Result<(), Fail> {
+    for run in NODES.iter() {
         let words = run.0;
         let input = run.1;
         assert!(rt; ends_so(&rt, rt.alloc(), run)?, "{words} {input}");

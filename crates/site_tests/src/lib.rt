@@ -14,3 +14,5 @@ mod lookups;
 mod names;
 #[cfg(test)]
 mod replies;
+#[cfg(test)]
+mod services;

@@ -112,7 +112,7 @@ const LOOKUPS: [Run<'static>; 34] = [
         "F20 lookup:1 LookupMissing zz\n",
     ),
     (
-        "lookup|n|--merge",
+        "lookup|n|--|--merge",
         WITHIN,
         NONE,
         1,

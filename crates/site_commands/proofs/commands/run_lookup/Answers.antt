@@ -1,0 +1,14 @@
+use Rattle.std.proofs.Common.{refl}
+use Rattle.std.specs.Prelude.{option_map}
+use Rattle.site_words.specs.Asked as a
+use Rattle.site_commands.proofs.Worked.{ends_made, ends_stopped}
+use Rattle.site_commands.specs.Inputs.{site}
+use Rattle.site_commands.proofs.commands.run_lookup.Goals as goal
+
+pub returns-in-Ok : goal.returns-in-Ok
+returns-in-Ok g c = λ n m. ends_made c.write_made.result c.lookup_output.result (a.lookup c.args.node.now c.args.key.now c.args.merge (option_map (λ d. d.now) c.args.dir)) (site c.in-Ok.bundle) _ _
+    (λ given. (given, (refl, refl))) c.in-Ok.ensures.all c.lookup_output.ensures c.write_made.ensures
+
+pub returns-in-Err : goal.returns-in-Err
+returns-in-Err g c = λ n m. ends_stopped c.in-Err.stop c.give_up.result (a.lookup c.args.node.now c.args.key.now c.args.merge (option_map (λ d. d.now) c.args.dir)) _ _ c.give_up.ensures.ending c.in-Err.ensures.stop
+    c.give_up.ensures.line refl refl refl

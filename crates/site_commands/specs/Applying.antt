@@ -1,0 +1,113 @@
+-- What becomes of a node's catalog that is applied to a machine.
+use Rattle.std.specs.Prelude.{◌≡◌, ◌⊎◌, ℕ, Bool, true, false, nat_lt, List, [], ◌++◌, Option, None, Some, option_map, Result, Ok, Err, codes}
+use Rattle.std.specs.List.{count_by}
+use Rattle.agent_docs.specs.MachineText.{machine_text}
+use Rattle.agent_docs.specs.ReportText.{has_changed, has_failed, report_text}
+use Rattle.agent_machine.specs.Machines.{Told, Loads}
+use Rattle.agent_machine.specs.declared.machine_doc.MachineDoc.{MachineDoc}
+use Rattle.agent_machine.specs.declared.report.Report.{Report}
+use Rattle.agent_transaction.specs.Catalogs.{IsRun, IsRunStop}
+use Rattle.agent_transaction.specs.declared.run_stop.RunStop.TheVariants as stop
+use Rattle.command_outputs.specs.Lines.{line}
+use Rattle.command_outputs.specs.Nodes.{NodeRefusal, node_meaning}
+use Rattle.command_outputs.specs.Outputs.{node_refusal_line}
+use Rattle.pp_values.specs.declared.reference.Reference.{Reference}
+use Rattle.res_core.specs.declared.catalog.Catalog.{Catalog}
+use Rattle.site_bundle.specs.declared.bundle.Bundle.{Bundle}
+use Rattle.site_docs.specs.LogText.{log_text}
+use Rattle.site_io.specs.Stream.{Stream, HasWritten}
+use Rattle.site_commands.specs.Work.{SaysOnly, WritesOr, HasLogged}
+use Rattle.site_commands.specs.World.{FailsToSay}
+use Rattle.site_commands.specs.declared.ending.Ending.{Ending}
+use Rattle.site_commands.specs.declared.ending.Ending.TheVariants as e
+
+-- ---- what is told of a run
+
+abbrev pub machine_line : Option MachineDoc → List ℕ
+machine_line None = []
+machine_line (Some document) = line (machine_text document)
+
+-- the report's line, and where the machine tells what is recorded, the line of that
+abbrev pub applied_text : Report → Option MachineDoc → List ℕ
+applied_text report document = line (report_text report) ++ machine_line document
+
+abbrev pub ending_by : (changed failed : Bool) → Ending
+ending_by false false = e.Done
+ending_by true false = e.Changed
+ending_by false true = e.Failed
+ending_by true true = e.ChangedAndFailed
+
+-- by what the report counts
+abbrev pub report_ending : Report → Ending
+report_ending report =
+    ending_by (nat_lt 0 (count_by has_changed report.lines)) (nat_lt 0 (count_by has_failed report.lines))
+
+-- what is told of a run was written, or a front of it; or memory was wanting for it, and nothing of it was written
+abbrev pub TellsReport : Ending → Report → Option MachineDoc → Stream → Stream → Stream → Stream → Type 0
+TellsReport e.WriteFault report document out out' err err' =
+    FailsToSay (applied_text report document) out out' × (err' ≡ err)
+TellsReport e.Memory report document out out' err err' = SaysOnly (line (codes "memory")) out out' err err'
+TellsReport ending report document out out' err err' =
+    (ending ≡ report_ending report) × (HasWritten (applied_text report document) out out' × (err' ≡ err))
+
+-- ---- a catalog
+
+-- the catalog was applied to this report, of which was told
+pub record HasTold (ending : Ending) (catalog : Catalog) (loaded : Told) (out out' err err' : Stream) (after : Told) : Type 0 where
+  pub report : Report
+  pub ran : IsRun catalog report loaded after
+  pub told : TellsReport ending report (option_map (λ c. c.document) after.content) out out' err err'
+
+-- The catalog was applied to a machine with its document loaded, and told of; or memory was wanting for the run or in it,
+-- and only that was said. A catalog with a cycle, which no compile makes, would be refused before the machine's first call.
+abbrev pub HasRunLoaded : Ending → Catalog → Told → Stream → Stream → Stream → Stream → Told → Type 0
+HasRunLoaded e.Memory catalog loaded out out' err err' after =
+    (IsRunStop catalog stop.Memory loaded after × SaysOnly (line (codes "memory")) out out' err err')
+    ⊎ HasTold e.Memory catalog loaded out out' err err' after
+HasRunLoaded e.Refused catalog loaded out out' err err' after =
+    (cycle : List Reference) × (IsRunStop catalog (stop.Cycle cycle) loaded after
+    × SaysOnly (line (codes "cycle")) out out' err err')
+HasRunLoaded ending catalog loaded out out' err err' after = HasTold ending catalog loaded out out' err err' after
+
+-- the document was loaded, and then the catalog applied
+pub record RunsOn (ending : Ending) (catalog : Catalog) (document : MachineDoc) (out out' err err' : Stream) (m m' : Told) : Type 0 where
+  pub loaded : Told
+  pub loads : Loads document m loaded
+  pub ran : HasRunLoaded ending catalog loaded out out' err err' m'
+
+-- and before that the log was written whole
+pub record AppliesLogged (ending : Ending) (catalog : Catalog) (document : MachineDoc) (out out' err err' : Stream)
+    (m m' : Told) : Type 0 where
+  pub logged : Stream
+  pub log : HasLogged (log_text catalog.log) err logged
+  pub runs : RunsOn ending catalog document out out' logged err' m m'
+
+-- The log comes first. Where it was not written whole, the machine was not called, and nothing else was written.
+abbrev pub AppliesCatalog : Ending → Catalog → MachineDoc → Stream → Stream → Stream → Stream → Told → Told → Type 0
+AppliesCatalog e.WriteFault catalog document out out' err err' m m' =
+    (FailsToSay (log_text catalog.log) err err' × ((out' ≡ out) × (m' ≡ m)))
+    ⊎ AppliesLogged e.WriteFault catalog document out out' err err' m m'
+AppliesCatalog ending catalog document out out' err err' m m' =
+    AppliesLogged ending catalog document out out' err err' m m'
+
+-- ---- a node
+
+-- memory may be wanting before anything is done
+abbrev pub OrLacks : (Ending → Type 0) → Ending → Stream → Stream → Stream → Stream → Told → Told → Type 0
+OrLacks Done e.Memory out out' err err' m m' =
+    (SaysOnly (line (codes "memory")) out out' err err' × (m' ≡ m)) ⊎ Done e.Memory
+OrLacks Done ending out out' err err' m m' = Done ending
+
+-- where the node has no catalog, the line that tells why was written, or a front of it, and the machine was not called
+abbrev pub AppliesMeant : List ℕ → Result Catalog NodeRefusal → MachineDoc → Stream → Stream → Stream → Stream → Told → Told
+    → Ending → Type 0
+AppliesMeant node (Err refusal) document out out' err err' m m' ending =
+    WritesOr ending e.Refused (node_refusal_line node refusal) err err' × ((out' ≡ out) × (m' ≡ m))
+AppliesMeant node (Ok catalog) document out out' err err' m m' ending =
+    AppliesCatalog ending catalog document out out' err err' m m'
+
+-- the node of a bundle was applied so: its catalog, by the facts that the site lists and without exports
+abbrev pub Applies : Ending → List ℕ → Bundle → Stream → Stream → Stream → Stream → Told → Told → Type 0
+Applies ending node said out out' err err' m m' =
+    OrLacks (AppliesMeant node (node_meaning said.site node) said.machine out out' err err' m m') ending out out' err err'
+    m m'

@@ -1,0 +1,139 @@
+-- What a command reads, what it has then, and what stands in the way.
+use Rattle.std.specs.Prelude.{◌≡◌, ℕ, List, ◌++◌, codes, Option, None, Some, Result, Ok, Err}
+use Rattle.pp_values.specs.declared.place.TheConstants.{MAIN_MANIFEST}
+use Rattle.site_bundle.specs.Bundles.{bundle_of}
+use Rattle.site_bundle.specs.FolderSites.{site_walk}
+use Rattle.site_bundle.specs.Refusals.{Refuses, stop_line}
+use Rattle.site_bundle.specs.Walks.{Goes}
+use Rattle.site_bundle.specs.declared.bundle.Bundle.{Bundle}
+use Rattle.site_bundle.specs.declared.bundle_stop.BundleStop.{BundleStop}
+use Rattle.site_bundle.specs.declared.bundle_stop.BundleStop.TheVariants as b
+use Rattle.site_bundle.specs.declared.limits.TheConstants.{MOST_BUNDLE_BYTES, MOST_FILE_BYTES}
+use Rattle.site_io.specs.Folders.{Folder}
+use Rattle.site_io.specs.Stream.{Stream}
+use Rattle.site_io.specs.Transfer.{HasReadAll, StopsBy}
+use Rattle.site_io.specs.declared.transfer.ReadStop.TheVariants as r
+use Rattle.site_words.specs.Asked as a
+use Rattle.site_words.specs.Asked.{Asked}
+use Rattle.site_commands.specs.declared.ending.Ending.{Ending}
+use Rattle.site_commands.specs.declared.ending.Ending.TheVariants as e
+use Rattle.site_commands.specs.declared.input.InputStop.{InputStop}
+use Rattle.site_commands.specs.declared.input.InputStop.TheVariants as i
+
+-- ---- from where
+
+pub data Reading : Type 0 where
+  nothing : Reading
+  -- a manifest, from the source
+  manifest : Reading
+  -- a bundle, from the source
+  bundle : Reading
+  -- the site of the folder at this path
+  folder : List ℕ → Reading
+
+-- from the folder that is named, or else from the source
+abbrev pub site_from : Option (List ℕ) → Reading
+site_from None = bundle
+site_from (Some dir) = folder dir
+
+abbrev pub reading_of : Asked → Reading
+reading_of (a.manifest node) = manifest
+reading_of (a.check dir) = site_from dir
+reading_of (a.compile node dir) = site_from dir
+reading_of a.sequence = bundle
+reading_of (a.lookup node key merge dir) = site_from dir
+reading_of (a.apply node dir) = site_from dir
+reading_of (a.demo nodes) = nothing
+reading_of (a.batch workers) = bundle
+reading_of (a.serve port count dir) = folder dir
+reading_of a.refused = nothing
+reading_of (a.bad_word word) = nothing
+
+-- ---- what was read
+
+pub data Input : Type 0 where
+  none : Input
+  -- the bytes of a manifest
+  bytes : List ℕ → Input
+  -- what a bundle says, or a folder
+  site : Bundle → Input
+
+-- the source was read to its end, and its bytes say this bundle
+pub record HasReadBundle (said : Bundle) (before after : Stream) : Type 0 where
+  pub bytes : List ℕ
+  pub read : HasReadAll bytes MOST_BUNDLE_BYTES before after
+  pub is : bundle_of bytes ≡ Ok said
+
+-- the walk over the folder at this path, and what came of it
+abbrev pub ReadsFolder : List ℕ → Result Bundle BundleStop → Folder → Folder → Type 0
+ReadsFolder dir result before after = Goes (λ said. said) result (site_walk dir) before after
+
+-- The input was had; source and tree, before and after. Who reads the folder leaves the source alone, and the other way
+-- round.
+abbrev pub HasInput : Reading → Input → Stream → Stream → Folder → Folder → Type 0
+HasInput nothing none s s' f f' = (s' ≡ s) × (f' ≡ f)
+HasInput manifest (bytes input) s s' f f' = HasReadAll input MOST_FILE_BYTES s s' × (f' ≡ f)
+HasInput bundle (site said) s s' f f' = HasReadBundle said s s' × (f' ≡ f)
+HasInput (folder dir) (site said) s s' f f' = (s' ≡ s) × ReadsFolder dir (Ok said) f f'
+HasInput reading input s s' f f' = ⊥
+
+-- ---- what stands in the way
+
+-- how much is read from the source
+abbrev pub limit_of : Reading → ℕ
+limit_of nothing = 0
+limit_of manifest = MOST_FILE_BYTES
+limit_of bundle = MOST_BUNDLE_BYTES
+limit_of (folder dir) = 0
+
+abbrev pub IsOfSource : Reading → Type 0
+IsOfSource nothing = ⊥
+IsOfSource manifest = Unit {0}
+IsOfSource bundle = Unit {0}
+IsOfSource (folder dir) = ⊥
+
+-- the source was read to its end, and its bytes are no bundle, or memory was wanting to read them
+pub record HasReadNone (why : BundleStop) (before after : Stream) : Type 0 where
+  pub bytes : List ℕ
+  pub read : HasReadAll bytes MOST_BUNDLE_BYTES before after
+  pub refuses : Refuses why (bundle_of bytes)
+
+-- reading stopped so; source and tree, before and after
+abbrev pub HasStoppedBy : InputStop → Reading → Stream → Stream → Folder → Folder → Type 0
+HasStoppedBy (i.Unread stop) reading s s' f f' = IsOfSource reading × (StopsBy stop (limit_of reading) s s' × (f' ≡ f))
+HasStoppedBy (i.Refused why) nothing s s' f f' = ⊥
+HasStoppedBy (i.Refused why) manifest s s' f f' = ⊥
+HasStoppedBy (i.Refused why) bundle s s' f f' = HasReadNone why s s' × (f' ≡ f)
+HasStoppedBy (i.Refused why) (folder dir) s s' f f' = (s' ≡ s) × ReadsFolder dir (Err why) f f'
+
+-- the path that names the whole of what a command reads from the source
+abbrev pub whole_of : Asked → List ℕ
+whole_of (a.manifest node) = MAIN_MANIFEST.now
+whole_of asked = codes "bundle"
+
+-- the line that tells the stop, without a line feed; where the source has more than is read, it names the whole
+abbrev pub stop_text : List ℕ → InputStop → List ℕ
+stop_text whole (i.Unread r.Fault) = codes "read fault"
+stop_text whole (i.Unread r.TooLong) = codes "B3 " ++ whole
+stop_text whole (i.Unread r.Memory) = codes "memory"
+stop_text whole (i.Refused why) = stop_line why
+
+-- how a run ends by it
+abbrev pub refused_ending : BundleStop → Ending
+refused_ending b.NotJson = e.BadInput
+refused_ending (b.BadShape path) = e.BadInput
+refused_ending (b.TooLarge path) = e.BadInput
+refused_ending (b.TreeFault path) = e.TreeFault
+refused_ending b.Memory = e.Memory
+
+abbrev pub stop_ending : InputStop → Ending
+stop_ending (i.Unread r.Fault) = e.ReadFault
+stop_ending (i.Unread r.TooLong) = e.BadInput
+stop_ending (i.Unread r.Memory) = e.Memory
+stop_ending (i.Refused why) = refused_ending why
+
+-- what is made of the bytes of a source
+abbrev pub ReadsBundle : Result Bundle InputStop → List ℕ → Type 0
+ReadsBundle (Ok said) input = bundle_of input ≡ Ok said
+ReadsBundle (Err (i.Unread stop)) input = ⊥
+ReadsBundle (Err (i.Refused why)) input = Refuses why (bundle_of input)

@@ -1,0 +1,77 @@
+-- Which status a run has, as far as words and input decide it.
+use Rattle.std.specs.Prelude.{◌≡◌, ◌⊎◌, ℕ, if◌then◌else◌, nat_le, List, length, Option, None, Some, option_map, Result, Ok, Err, IfSome}
+use Rattle.agent_transaction.specs.Catalogs.{IsCycleTold}
+use Rattle.command_outputs.specs.Nodes.{NodeRefusal, node_meaning}
+use Rattle.command_outputs.specs.Statuses.{manifest_status, check_status, compile_status, sequence_status, lookup_status, demo_status, IsBatchStatus}
+use Rattle.pp_values.specs.declared.place.TheConstants.{MAIN_MANIFEST}
+use Rattle.pp_values.specs.declared.reference.Reference.{Reference}
+use Rattle.res_core.specs.declared.catalog.Catalog.{Catalog}
+use Rattle.site_bundle.specs.Bundles.{bundle_of}
+use Rattle.site_bundle.specs.FolderSites.{site_walk}
+use Rattle.site_bundle.specs.Refusals.{Refusal, too_large}
+use Rattle.site_bundle.specs.Walks.{end_over}
+use Rattle.site_bundle.specs.declared.bundle.Bundle.{Bundle}
+use Rattle.site_bundle.specs.declared.limits.TheConstants.{MOST_FILE_BYTES}
+use Rattle.site_words.specs.Asked as a
+use Rattle.site_words.specs.Asked.{Asked}
+use Rattle.site_commands.specs.Inputs.{Reading, nothing, manifest, bundle, folder, Input, none, bytes, site, reading_of}
+use Rattle.site_commands.specs.World.{World}
+
+-- ---- the input that is told
+
+-- a manifest that is not too long
+abbrev pub manifest_of : List ℕ → Result Input Refusal
+manifest_of input = if nat_le (length input) MOST_FILE_BYTES then Ok (bytes input) else Err (too_large MAIN_MANIFEST.now)
+
+abbrev pub site_or : Result Bundle Refusal → Result Input Refusal
+site_or (Ok said) = Ok (site said)
+site_or (Err refusal) = Err refusal
+
+-- what the input is, or why there is none, where source or tree tell what they have
+abbrev pub input_told : Reading → World → Option (Result Input Refusal)
+input_told nothing before = Some (Ok none)
+input_told manifest before = option_map manifest_of before.source.left
+input_told bundle before = option_map (λ input. site_or (bundle_of input)) before.source.left
+input_told (folder dir) before = option_map (λ files. site_or (end_over files (site_walk dir))) before.folder.told
+
+-- ---- the status by the input
+
+abbrev pub IsReportStatus : ℕ → Type 0
+IsReportStatus status = (status ≡ 0) ⊎ ((status ≡ 2) ⊎ ((status ≡ 4) ⊎ (status ≡ 6)))
+
+abbrev pub HasCycle : Catalog → Type 0
+HasCycle catalog = (cycle : List Reference) × IsCycleTold catalog.resources catalog.edges cycle
+
+-- 1 where the node has no catalog; else 0, 2, 4 or 6, by what the report counts. A catalog with a cycle, which no compile
+-- makes, would have 1.
+abbrev pub IsApplyStatus : ℕ → Result Catalog NodeRefusal → Type 0
+IsApplyStatus status (Ok catalog) = IsReportStatus status ⊎ ((status ≡ 1) × HasCycle catalog)
+IsApplyStatus status (Err refusal) = status ≡ 1
+
+abbrev pub IsWorkStatus : ℕ → Asked → Input → Type 0
+IsWorkStatus status (a.manifest node) (bytes input) = status ≡ manifest_status node input
+IsWorkStatus status (a.check dir) (site said) = status ≡ check_status said.site
+IsWorkStatus status (a.compile node dir) (site said) = status ≡ compile_status said.site node
+IsWorkStatus status a.sequence (site said) = status ≡ sequence_status said
+IsWorkStatus status (a.lookup node key merge dir) (site said) = status ≡ lookup_status said.site node key merge
+IsWorkStatus status (a.apply node dir) (site said) = IsApplyStatus status (node_meaning said.site node)
+IsWorkStatus status (a.demo nodes) none = status ≡ demo_status nodes
+IsWorkStatus status (a.batch workers) (site said) = IsBatchStatus status
+IsWorkStatus status (a.serve port count dir) (site said) = status ≡ 0
+IsWorkStatus status asked input = ⊥
+
+-- 11 where the input is none of its kind
+abbrev pub IsStatusFor : ℕ → Asked → Result Input Refusal → Type 0
+IsStatusFor status asked (Ok input) = IsWorkStatus status asked input
+IsStatusFor status asked (Err refusal) = status ≡ 11
+
+-- reading or writing failed, or memory was wanting
+abbrev pub IsFaultStatus : ℕ → Type 0
+IsFaultStatus status = (status ≡ 12) ⊎ ((status ≡ 13) ⊎ ((status ≡ 14) ⊎ ((status ≡ 15) ⊎ (status ≡ 16))))
+
+-- Words and input decide the status so, unless something failed or memory was wanting. Faulty words have 10.
+abbrev pub IsSettled : ℕ → Asked → World → Type 0
+IsSettled status a.refused before = (status ≡ 10) ⊎ (status ≡ 16)
+IsSettled status (a.bad_word word) before = (status ≡ 10) ⊎ (status ≡ 16)
+IsSettled status asked before =
+    IfSome (input_told (reading_of asked) before) (λ input. IsStatusFor status asked input ⊎ IsFaultStatus status)

@@ -1,0 +1,160 @@
+//! The commands that write texts.
+ghost use Rattle.std.specs.Prelude.{◌≤◌, option_map};
+ghost use Rattle.site_words.specs.Asked as asked;
+ghost use Rattle.site_words.specs.Asked.{MOST_WORKERS};
+ghost use Rattle.site_commands.specs.Endings.{Ends};
+ghost use Rattle.site_commands.specs.Work.{WritesMade};
+ghost use Rattle.site_commands.specs.World.{world};
+
+use crate::delivering::deliver;
+use crate::ending::Ending;
+use crate::giving_up::{give_up, refuse};
+use crate::input::{take_bundle, take_manifest, take_source};
+use command_outputs::{
+    Output, batch_output, check_output, compile_output, demo_output, lookup_output,
+    manifest_output, sequence_output,
+};
+use hiera_merge::Merge;
+use pp_values::{MAIN_MANIFEST, Memory};
+use site_io::{Gate, Sink, Source, Tree};
+use std::alloc::Global;
+use std::sync::Wait;
+use std::thread::Threads;
+
+/// What is told where a bundle has more bytes than are read.
+pub const BUNDLE: &str = "bundle";
+
+pub fn run_manifest<S: Source, K: Sink, E: Sink>(
+    alloc: Global,
+    node: &str,
+    source: &mut S,
+    out: &mut K,
+    err: &mut E,
+) -> Ending
+    ensures { (n : _) (f : _) (m : _) → Ends result (asked.manifest node.now)
+        (world (S.stream source.old) (K.stream out.old) (E.stream err.old) n f m)
+        (world (S.stream source.new) (K.stream out.new) (E.stream err.new) n f m) }
+{
+    match take_manifest(alloc, source) {
+        Ok(input) => write_made(manifest_output(alloc, node, input), out, err),
+        Err(stop) => give_up(&stop, MAIN_MANIFEST, err),
+    }
+}
+
+pub fn run_check<S: Source, K: Sink, E: Sink, T: Tree>(
+    alloc: Global,
+    dir: Option<&str>,
+    source: &mut S,
+    out: &mut K,
+    err: &mut E,
+    tree: &mut T,
+) -> Ending
+    ensures { (n : _) (m : _) → Ends result (asked.check (option_map (λ d. d.now) dir.entry))
+        (world (S.stream source.old) (K.stream out.old) (E.stream err.old) n (T.folder tree.old) m)
+        (world (S.stream source.new) (K.stream out.new) (E.stream err.new) n (T.folder tree.new) m) }
+{
+    match take_bundle(alloc, dir, source, tree) {
+        Ok(bundle) => write_made(check_output(alloc, &bundle.site), out, err),
+        Err(stop) => give_up(&stop, BUNDLE, err),
+    }
+}
+
+pub fn run_compile<S: Source, K: Sink, E: Sink, T: Tree>(
+    alloc: Global,
+    node: &str,
+    dir: Option<&str>,
+    source: &mut S,
+    out: &mut K,
+    err: &mut E,
+    tree: &mut T,
+) -> Ending
+    ensures { (n : _) (m : _) → Ends result (asked.compile node.now (option_map (λ d. d.now) dir.entry))
+        (world (S.stream source.old) (K.stream out.old) (E.stream err.old) n (T.folder tree.old) m)
+        (world (S.stream source.new) (K.stream out.new) (E.stream err.new) n (T.folder tree.new) m) }
+{
+    match take_bundle(alloc, dir, source, tree) {
+        Ok(bundle) => write_made(compile_output(alloc, &bundle.site, node), out, err),
+        Err(stop) => give_up(&stop, BUNDLE, err),
+    }
+}
+
+pub fn run_sequence<S: Source, K: Sink, E: Sink>(
+    alloc: Global,
+    source: &mut S,
+    out: &mut K,
+    err: &mut E,
+) -> Ending
+    ensures { (n : _) (f : _) (m : _) → Ends result asked.sequence
+        (world (S.stream source.old) (K.stream out.old) (E.stream err.old) n f m)
+        (world (S.stream source.new) (K.stream out.new) (E.stream err.new) n f m) }
+{
+    match take_source(alloc, source) {
+        Ok(bundle) => write_made(sequence_output(alloc, bundle), out, err),
+        Err(stop) => give_up(&stop, BUNDLE, err),
+    }
+}
+
+pub fn run_lookup<S: Source, K: Sink, E: Sink, T: Tree>(
+    alloc: Global,
+    node: &str,
+    key: &str,
+    merge: Option<Merge>,
+    dir: Option<&str>,
+    source: &mut S,
+    out: &mut K,
+    err: &mut E,
+    tree: &mut T,
+) -> Ending
+    ensures { (n : _) (m : _) →
+        Ends result (asked.lookup node.now key.now merge (option_map (λ d. d.now) dir.entry))
+        (world (S.stream source.old) (K.stream out.old) (E.stream err.old) n (T.folder tree.old) m)
+        (world (S.stream source.new) (K.stream out.new) (E.stream err.new) n (T.folder tree.new) m) }
+{
+    match take_bundle(alloc, dir, source, tree) {
+        Ok(bundle) => write_made(lookup_output(alloc, &bundle.site, node, key, merge), out, err),
+        Err(stop) => give_up(&stop, BUNDLE, err),
+    }
+}
+
+pub fn run_demo<K: Sink, E: Sink>(alloc: Global, nodes: u32, out: &mut K, err: &mut E) -> Ending
+    ensures { (s : _) (n : _) (f : _) (m : _) → Ends result (asked.demo nodes)
+        (world s (K.stream out.old) (E.stream err.old) n f m)
+        (world s (K.stream out.new) (E.stream err.new) n f m) }
+{
+    write_made(demo_output(alloc, nodes), out, err)
+}
+
+pub fn run_batch<S: Source, K: Sink, E: Sink, G: Gate + Sync, R: Threads + Wait + Sync>(
+    rt: &R,
+    alloc: Global,
+    workers: u32,
+    source: &mut S,
+    out: &mut K,
+    err: &mut E,
+    gate: &G,
+) -> Ending
+    requires some { 1 ≤ workers }
+    requires few { workers ≤ MOST_WORKERS }
+    ensures { (n : _) (f : _) (m : _) → Ends result (asked.batch workers)
+        (world (S.stream source.old) (K.stream out.old) (E.stream err.old) n f m)
+        (world (S.stream source.new) (K.stream out.new) (E.stream err.new) n f m) }
+{
+    match take_source(alloc, source) {
+        Ok(bundle) => write_made(batch_output(rt, alloc, bundle, workers, gate), out, err),
+        Err(stop) => give_up(&stop, BUNDLE, err),
+    }
+}
+
+/// Writes the output, if there was memory for it.
+fn write_made<K: Sink, E: Sink>(
+    made: Result<Output, Memory>,
+    out: &mut K,
+    err: &mut E,
+) -> Ending
+    ensures { WritesMade result made (K.stream out.old) (K.stream out.new) (E.stream err.old) (E.stream err.new) }
+{
+    match made {
+        Ok(output) => deliver(&output, out, err),
+        Err(_) => refuse(err, Ending::Memory, "memory\n"),
+    }
+}

@@ -27,28 +27,24 @@ const NO_MEMORY: u8 = 16;
 /// is wanting, and nothing is run.
 fn main(rt: HostRuntime) -> ExitCode {
     make_room(&rt, rt.alloc());
-    match on_large_stack(&rt, move || run(&rt)) {
-        Ok(code) => code,
-        Err(_) => lack_memory(&rt),
-    }
-}
-
-/// Runs the program over what the system has.
-fn run(rt: &HostRuntime) -> ExitCode {
-    match empty_machine(rt.alloc()) {
+    let ended = on_large_stack(&rt, move || match empty_machine(rt.alloc()) {
         Ok(mut machine) => run_program(
-            rt,
+            &rt,
             rt.alloc(),
-            command_line(rt),
+            command_line(&rt),
             &mut StandardInput::new(rt.stdin()),
             &mut StandardOutput::new(rt.stdout()),
             &mut StandardError::new(rt.stderr()),
-            &mut TcpPort::new(rt),
-            &mut FolderTree::new(rt),
+            &mut TcpPort::new(&rt),
+            &mut FolderTree::new(&rt),
             &mut machine,
             &OpenGate,
         ),
-        Err(Memory) => lack_memory(rt),
+        Err(Memory) => lack_memory(&rt),
+    });
+    match ended {
+        Ok(code) => code,
+        Err(_) => lack_memory(&rt),
     }
 }
 

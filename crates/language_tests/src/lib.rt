@@ -2,8 +2,6 @@
 #![tactic(auto)]
 
 #[cfg(test)]
-mod agent_documents;
-#[cfg(test)]
 mod attributes;
 #[cfg(test)]
 mod copies;

@@ -1,5 +1,5 @@
 -- From the steps of an application to what became of it.
-use Rattle.std.proofs.Common.{◌≡◌, ℕ, Bool, true, false, List, ◌++◌, sym, subst, refl, inl, inr}
+use Rattle.std.proofs.Common.{◌≡◌, ℕ, Bool, true, false, List, sym, subst, refl, inl, inr}
 use Rattle.std.specs.Prelude.{Option, Result, Ok, Err, codes, nat_lt}
 use Rattle.std.specs.List.{count_by}
 use Rattle.agent_docs.specs.ReportText.{has_changed, has_failed}
@@ -22,7 +22,7 @@ use Rattle.site_commands.proofs.Worked.{IsOfWork, ends_worked, ending-writes}
 use Rattle.site_commands.specs.Applying.{ending_by, report_ending, applied_text, TellsReport, HasTold, HasRunLoaded, AppliesLogged, AppliesCatalog, AppliesMeant, Applies, OrLacks}
 use Rattle.site_commands.specs.Endings.{Ends}
 use Rattle.site_commands.specs.Inputs.{site, site_from, HasInput}
-use Rattle.site_commands.specs.Work.{SaysOnly, Delivers}
+use Rattle.site_commands.specs.Work.{Delivers}
 use Rattle.site_commands.specs.World.{World, Says}
 use Rattle.site_commands.specs.declared.ending.Ending.{Ending}
 use Rattle.site_commands.specs.declared.ending.Ending.TheVariants as e

@@ -1,8 +1,10 @@
 mod Applied
 mod Decoding
+mod Examples
 mod Reading
 mod Rising
 mod Saying
+mod Served
 mod Settling
 mod Told
 mod Wording

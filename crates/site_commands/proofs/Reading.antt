@@ -1,5 +1,5 @@
 -- What was read, by the folder that is named.
-use Rattle.std.proofs.Common.{◌≡◌, ℕ, List, ◌∷◌, [], ◌++◌, sym, ap, subst}
+use Rattle.std.proofs.Common.{◌≡◌, ℕ, List, ◌∷◌, [], ◌++◌, sym, subst}
 use Rattle.std.specs.Prelude.{Result, Ok, Err, IfOk, codes}
 use Rattle.command_outputs.specs.Lines.{line}
 use Rattle.site_bundle.specs.Refusals.{stop_line}

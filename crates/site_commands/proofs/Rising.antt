@@ -1,5 +1,5 @@
 -- Statuses of faults of the outside come where its counts rose.
-use Rattle.std.proofs.Common.{◌≡◌, ◌⊎◌, ℕ, Bool, true, false, List, sym, ap, ◌∙◌, subst, refl, inl, inr}
+use Rattle.std.proofs.Common.{◌≡◌, ◌⊎◌, ℕ, Bool, true, false, List, ◌∙◌, subst, refl, inl, inr}
 use Rattle.std.specs.Prelude.{Result, Ok, Err, nat_lt}
 use Rattle.std.specs.List.{count_by}
 use Rattle.agent_docs.specs.ReportText.{has_changed, has_failed}
@@ -15,6 +15,7 @@ use Rattle.site_io.specs.Stream.{Stream, Rose}
 use Rattle.site_io.specs.declared.transfer.ReadStop.TheVariants as r
 use Rattle.site_words.specs.Asked as a
 use Rattle.site_words.specs.Asked.{Asked}
+use Rattle.site_commands.proofs.Served.{served_net, served_sinks}
 use Rattle.site_commands.specs.Applying.{ending_by, AppliesCatalog, AppliesMeant}
 use Rattle.site_commands.proofs.Decoding.{ending_of, ending-is}
 use Rattle.site_commands.specs.Endings.{Ends, HasEnded, HasStopped, HasWorked, Works}
@@ -87,8 +88,11 @@ meant_rose node (Err refusal) document before after did = inr did.0.0
 
 works_rose : (asked : Asked) (input : Input) (before after : World) → Works e.WriteFault asked input before after →
     SinkRose before after
+unfolding SinkRose
 works_rose (a.apply node dir) (site said) before after did =
     meant_rose node (node_meaning said.site node) said.machine before after did.0
+works_rose (a.serve port count dir) (site said) before after did =
+    served_sinks said.site count before.out after.out before.err after.err before.net after.net did.0
 works_rose asked input before after did = delivered_rose did.0.output before after did.0.written
 
 -- ---- the net
@@ -114,10 +118,17 @@ meant_no_net node (Ok catalog) document out out' err err' m m' did =
     (nat_lt 0 (count_by has_failed did.runs.ran.report.lines)) did.runs.ran.told.0
 meant_no_net node (Err refusal) document out out' err err' m m' did = cc did.0.0
 
-works_no_net : (asked : Asked) (input : Input) (before after : World) → Works e.NetFault asked input before after → ⊥
-works_no_net (a.apply node dir) (site said) before after did =
-    meant_no_net node (node_meaning said.site node) said.machine _ _ _ _ _ _ did.0
-works_no_net asked input before after did = delivered_no_net did.0.output _ _ _ _ did.0.written
+NetRose : World → World → Type 0
+NetRose before after = Rose before.net.faults after.net.faults
+
+works_net : (asked : Asked) (input : Input) (before after : World) → Works e.NetFault asked input before after →
+    NetRose before after
+unfolding NetRose
+works_net (a.serve port count dir) (site said) before after did =
+    served_net said.site count before.out after.out before.err after.err before.net after.net did.0
+works_net (a.apply node dir) (site said) before after did =
+    absurd (meant_no_net node (node_meaning said.site node) said.machine _ _ _ _ _ _ did.0)
+works_net asked input before after did = absurd (delivered_no_net did.0.output _ _ _ _ did.0.written)
 
 -- ---- by the status
 
@@ -143,6 +154,7 @@ module _ (status : ℕ) (asked : Asked) (before after : World) (ended : HasEnded
       works_rose asked worked.input before after worked.work
 
   pub ended-net : status ≡ 14 → Rose before.net.faults after.net.faults
+  unfolding NetRose
   ended-net is =
       let worked : HasWorked e.NetFault asked before after = ends_as 14 e.NetFault is refl in
-      absurd (works_no_net asked worked.input before after worked.work)
+      works_net asked worked.input before after worked.work

@@ -16,6 +16,7 @@ use Rattle.site_bundle.specs.declared.bundle.Bundle.{Bundle}
 use Rattle.site_io.specs.Stream.{Stream}
 use Rattle.site_words.specs.Asked as a
 use Rattle.site_words.specs.Asked.{Asked}
+use Rattle.site_commands.proofs.Served.{served_status}
 use Rattle.site_commands.proofs.Told.{input-told, stop-told, IsRefusal}
 use Rattle.site_commands.proofs.Worked.{ending-delivers, ending-writes, output_ending}
 use Rattle.site_commands.specs.Applying.{ending_by, report_ending, TellsReport, HasRunLoaded, AppliesCatalog, AppliesMeant, Applies}
@@ -151,6 +152,8 @@ work_status : (ending : Ending) (asked : Asked) (input : Input) (before after : 
 unfolding IsMeant
 work_status ending (a.apply node dir) (site said) before after did =
     apply_status ending node said before.out after.out before.err after.err before.machine after.machine did.0
+work_status ending (a.serve port count dir) (site said) before after did =
+    served_status ending said.site count before.out after.out before.err after.err before.net after.net did.0
 work_status ending asked input before after did =
     given_status ending asked input before.out after.out before.err after.err did.0
 
@@ -198,8 +201,8 @@ ends_decided e.Refused asked before after other did = decided_worked e.Refused a
 ends_decided e.Changed asked before after other did = decided_worked e.Changed asked before after did
 ends_decided e.Failed asked before after other did = decided_worked e.Failed asked before after did
 ends_decided e.ChangedAndFailed asked before after other did = decided_worked e.ChangedAndFailed asked before after did
-ends_decided e.BadInput asked before after no (inl did) = decided_stopped asked before after did
-ends_decided e.BadInput asked before after no (inr did) = decided_worked e.BadInput asked before after did
+ends_decided e.BadInput asked before after other (inl did) = decided_stopped asked before after did
+ends_decided e.BadInput asked before after other (inr did) = decided_worked e.BadInput asked before after did
 ends_decided e.ReadFault asked before after other did = decided_fault 12 asked before (inl refl)
 ends_decided e.WriteFault asked before after other did = decided_fault 13 asked before (inr (inl refl))
 ends_decided e.NetFault asked before after other did = decided_fault 14 asked before (inr (inr (inl refl)))

@@ -1,5 +1,5 @@
 -- What was read, where source and tree tell what they have.
-use Rattle.std.proofs.Common.{◌≡◌, ◌⊎◌, ℕ, ◌<◌, ◌≤◌, true, false, List, [], ◌++◌, length, subst, sym, ap, ◌∙◌, refl, inl, inr, arith, length-append, append-nil, leb}
+use Rattle.std.proofs.Common.{◌≡◌, ℕ, ◌<◌, ◌≤◌, false, List, [], ◌++◌, length, subst, sym, ap, ◌∙◌, refl, inl, inr, arith, length-append, append-nil, leb}
 use Rattle.std.proofs.lemmas.Bool.{le-leb}
 use Rattle.std.proofs.lemmas.Bool.Decides.{leb_tells}
 use Rattle.std.specs.Io.KnownBytes.{Consumes}
@@ -8,14 +8,12 @@ use Rattle.pp_values.specs.declared.place.TheConstants.{MAIN_MANIFEST}
 use Rattle.site_bundle.specs.Bundles.{bundle_of, bundle_in}
 use Rattle.site_bundle.specs.Documents.{json_of}
 use Rattle.site_bundle.specs.FolderSites.{site_walk}
-use Rattle.site_bundle.specs.Refusals.{Refusal, not_json, bad_shape, too_large, Refuses, result_and_then}
-use Rattle.site_bundle.specs.Walks.{Walk, done, refused, listing, reading, End, found, refusal, fault, answer_of, EndsIn, end_over}
+use Rattle.site_bundle.specs.Refusals.{Refusal, not_json, bad_shape, too_large, result_and_then}
+use Rattle.site_bundle.specs.Walks.{Walk, done, refused, listing, reading, found, refusal, EndsIn, end_over}
 use Rattle.site_bundle.specs.declared.bundle.Bundle.{Bundle}
-use Rattle.site_bundle.specs.declared.bundle_stop.BundleStop.{BundleStop}
 use Rattle.site_bundle.specs.declared.bundle_stop.BundleStop.TheVariants as b
 use Rattle.site_bundle.specs.declared.limits.TheConstants.{MOST_BUNDLE_BYTES, MOST_FILE_BYTES}
-use Rattle.site_io.specs.Folders.{Folder, Held, names_at, bytes_at}
-use Rattle.site_io.specs.Stream.{Stream}
+use Rattle.site_io.specs.Folders.{Held}
 use Rattle.site_io.specs.declared.transfer.ReadStop.TheVariants as r
 use Rattle.site_commands.specs.Inputs as read
 use Rattle.site_commands.specs.Inputs.{Reading, Input, HasInput, HasStoppedBy, stop_ending}
@@ -122,10 +120,11 @@ manifest_long : (left left' : Option (List ℕ)) (bytes : List ℕ) → Consumes
 manifest_long None left' bytes took long = tt
 manifest_long (Some input) left' bytes took long =
     let shorter : length bytes ≤ length input = left_is_longer left' input bytes took in
-    let longer : MOST_FILE_BYTES < length input = omega (arith, shorter, long) in
-    (too_large MAIN_MANIFEST.now,
-    ap (λ b. if b then Ok (read.bytes input) else Err (too_large MAIN_MANIFEST.now))
-    (leb-false (length input) MOST_FILE_BYTES longer))
+    let longer : MOST_FILE_BYTES < length input = omega (arith, shorter, long) in (
+      too_large MAIN_MANIFEST.now,
+      ap (λ b. if b then Ok (read.bytes input) else Err (too_large MAIN_MANIFEST.now))
+          (leb-false (length input) MOST_FILE_BYTES longer),
+    )
 
 bundle_long : (left left' : Option (List ℕ)) (bytes : List ℕ) → Consumes left left' bytes → MOST_BUNDLE_BYTES < length bytes →
     IfSome (option_map (λ input. site_or (bundle_of input)) left) IsRefusal

@@ -84,7 +84,7 @@ output_ending-of_work (o.Short text) = tt
 output_ending-of_work (o.Fault text) = tt
 output_ending-of_work (o.BadInput text) = tt
 
-either_of_work : (ending whole : Ending) → IsOfWork whole → (ending ≡ whole) ⊎ (ending ≡ e.WriteFault) → IsOfWork ending
+pub either_of_work : (ending whole : Ending) → IsOfWork whole → (ending ≡ whole) ⊎ (ending ≡ e.WriteFault) → IsOfWork ending
 either_of_work ending whole of_work (inl is) = subst IsOfWork (sym is) of_work
 either_of_work ending whole of_work (inr is) = subst IsOfWork (sym is) tt
 

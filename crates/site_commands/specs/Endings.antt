@@ -8,6 +8,7 @@ use Rattle.site_words.specs.declared.word_stop.WordStop.{WordStop}
 use Rattle.site_words.specs.declared.word_stop.WordStop.TheVariants as w
 use Rattle.site_commands.specs.Applying.{Applies}
 use Rattle.site_commands.specs.Inputs.{Input, site, reading_of, HasInput, HasStoppedBy, whole_of, stop_text, stop_ending}
+use Rattle.site_commands.specs.Serving.{Serves}
 use Rattle.site_commands.specs.Status.{status_of}
 use Rattle.site_commands.specs.Work.{GivesOutput}
 use Rattle.site_commands.specs.World.{World, Says}
@@ -69,11 +70,14 @@ pub record HasStopped (ending : Ending) (asked : Asked) (before after : World) :
   pub net : after.net ≡ before.net
   pub machine : after.machine ≡ before.machine
 
--- The work of a command on what was read ended so. `apply` calls the machine, and no other command does.
+-- The work of a command on what was read ended so. `apply` alone calls the machine, and `serve` alone the listener.
 abbrev pub Works : Ending → Asked → Input → World → World → Type 0
 Works ending (a.apply node dir) (site said) before after =
     Applies ending node said before.out after.out before.err after.err before.machine after.machine
     × (after.net ≡ before.net)
+Works ending (a.serve port count dir) (site said) before after =
+    Serves ending said.site count before.out after.out before.err after.err before.net after.net
+    × (after.machine ≡ before.machine)
 Works ending asked input before after =
     GivesOutput ending asked input before.out after.out before.err after.err
     × ((after.net ≡ before.net) × (after.machine ≡ before.machine))

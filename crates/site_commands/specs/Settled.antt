@@ -1,5 +1,5 @@
 -- Which status a run has, as far as words and input decide it.
-use Rattle.std.specs.Prelude.{◌≡◌, ◌⊎◌, ℕ, if◌then◌else◌, nat_le, List, length, Option, None, Some, option_map, Result, Ok, Err, IfSome}
+use Rattle.std.specs.Prelude.{◌≡◌, ◌⊎◌, ℕ, if◌then◌else◌, nat_le, List, length, Option, Some, option_map, Result, Ok, Err, IfSome}
 use Rattle.agent_transaction.specs.Catalogs.{IsCycleTold}
 use Rattle.command_outputs.specs.Nodes.{NodeRefusal, node_meaning}
 use Rattle.command_outputs.specs.Statuses.{manifest_status, check_status, compile_status, sequence_status, lookup_status, demo_status, IsBatchStatus}

@@ -1,7 +1,7 @@
 //! The commands that write texts.
 ghost use Rattle.std.specs.Prelude.{◌≤◌, option_map};
 ghost use Rattle.site_words.specs.Asked as asked;
-ghost use Rattle.site_words.specs.Asked.{MOST_WORKERS};
+ghost use Rattle.word_rules.specs.declared.limits.TheConstants.{MOST_WORKERS};
 ghost use Rattle.site_commands.specs.Endings.{Ends};
 ghost use Rattle.site_commands.specs.Work.{WritesMade};
 ghost use Rattle.site_commands.specs.World.{world};
@@ -111,7 +111,11 @@ pub fn run_lookup<S: Source, K: Sink, E: Sink, T: Tree>(
         (world (S.stream source.new) (K.stream out.new) (E.stream err.new) n (T.folder tree.new) m) }
 {
     match take_bundle(alloc, dir, source, tree) {
-        Ok(bundle) => write_made(lookup_output(alloc, &bundle.site, node, key, merge), out, err),
+        Ok(bundle) => write_made(
+            lookup_output(alloc, &bundle.site, node, key, merge),
+            out,
+            err,
+        ),
         Err(stop) => give_up(&stop, BUNDLE, err),
     }
 }
@@ -146,11 +150,7 @@ pub fn run_batch<S: Source, K: Sink, E: Sink, G: Gate + Sync, R: Threads + Wait 
 }
 
 /// Writes the output, if there was memory for it.
-fn write_made<K: Sink, E: Sink>(
-    made: Result<Output, Memory>,
-    out: &mut K,
-    err: &mut E,
-) -> Ending
+fn write_made<K: Sink, E: Sink>(made: Result<Output, Memory>, out: &mut K, err: &mut E) -> Ending
     ensures { WritesMade result made (K.stream out.old) (K.stream out.new) (E.stream err.old) (E.stream err.new) }
 {
     match made {

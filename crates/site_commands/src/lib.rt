@@ -4,11 +4,14 @@
 mod applying;
 mod commands;
 mod delivering;
+mod end_lines;
 pub mod ending;
 mod giving_up;
 pub mod input;
 pub mod program;
+mod running;
 mod say;
+mod serving;
 pub mod site;
 mod telling;
 

@@ -41,6 +41,8 @@ pub fn run_program<
     machine: &mut M,
     gate: &G,
 ) -> ExitCode
+where
+    N::Conn: Send + Drop,
     ensures { HasRunOn (exit_status result) line
         (world (S.stream source.old) (K.stream out.old) (E.stream err.old) (N.net net.old) (T.folder tree.old)
         (M.state machine.old))

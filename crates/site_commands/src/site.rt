@@ -3,17 +3,14 @@ ghost use Rattle.std.specs.Prelude.{◌≡◌, ◌⊎◌};
 ghost use Rattle.site_io.specs.Stream.{Rose};
 ghost use Rattle.site_words.specs.Asked.{IsWithin, asked_of};
 ghost use Rattle.site_words.specs.Reading.{asked_by, texts_of};
-ghost use Rattle.site_commands.specs.Endings.{Complained, Ends, HasEnded, IsComplaint, IsPlain, IsShared};
+ghost use Rattle.site_commands.specs.Endings.{Complained, HasEnded, IsComplaint, IsPlain, IsShared};
 ghost use Rattle.site_commands.specs.Settled.{IsSettled};
 ghost use Rattle.site_commands.specs.Status.{IsStatus};
 ghost use Rattle.site_commands.specs.World.{world};
 
-use crate::applying::run_apply;
-use crate::commands::{
-    run_batch, run_check, run_compile, run_demo, run_lookup, run_manifest, run_sequence,
-};
 use crate::ending::Ending;
 use crate::giving_up::{refuse, refuse_word};
+use crate::running::{run_plain, run_shared};
 use agent_machine::Machine;
 use site_io::{Gate, Listener, Sink, Source, Tree};
 use site_words::{Command, WordStop, read_words};
@@ -60,6 +57,8 @@ pub fn site_main<
     machine: &mut M,
     gate: &G,
 ) -> u8
+where
+    N::Conn: Send + Drop,
     // What each status means: what was asked, what was read, what was done and what was written.
     ensures ended { HasEnded result (asked_of (texts_of words.now))
         (world (S.stream source.old) (K.stream out.old) (E.stream err.old) (N.net net.old) (T.folder tree.old)
@@ -107,6 +106,8 @@ fn run<
     machine: &mut M,
     gate: &G,
 ) -> u8
+where
+    N::Conn: Send + Drop,
     ensures { HasEnded result (asked_of (texts_of words.now))
         (world (S.stream source.old) (K.stream out.old) (E.stream err.old) (N.net net.old) (T.folder tree.old)
         (M.state machine.old))
@@ -115,7 +116,9 @@ fn run<
 {
     match read_words(alloc, words) {
         Ok(command) => {
-            run_command(rt, alloc, command, source, out, err, net, tree, machine, gate)
+            run_command(
+                rt, alloc, command, source, out, err, net, tree, machine, gate,
+            )
         }
         Err(stop) => complain(&stop, err).status(),
     }
@@ -153,6 +156,8 @@ fn run_command<
     machine: &mut M,
     gate: &G,
 ) -> u8
+where
+    N::Conn: Send + Drop,
     requires { IsWithin (asked_by command) }
     ensures { HasEnded result (asked_by command.entry)
         (world (S.stream source.old) (K.stream out.old) (E.stream err.old) (N.net net.old) (T.folder tree.old)
@@ -162,7 +167,9 @@ fn run_command<
 {
     match command {
         Command::Batch { .. } | Command::Serve { .. } => {
-            shared_command(rt, alloc, command, source, out, err, net, tree, machine, gate)
+            shared_command(
+                rt, alloc, command, source, out, err, net, tree, machine, gate,
+            )
         }
         Command::Manifest { .. }
         | Command::Check { .. }
@@ -177,15 +184,7 @@ fn run_command<
 }
 
 /// Runs a command that waits for nobody.
-pub fn plain_command<
-    S: Source,
-    K: Sink,
-    E: Sink,
-    N: Listener,
-    T: Tree,
-    M: Machine,
-    G: Gate,
->(
+pub fn plain_command<S: Source, K: Sink, E: Sink, N: Listener, T: Tree, M: Machine, G: Gate>(
     alloc: Global,
     command: Command<'_>,
     source: &mut S,
@@ -204,39 +203,6 @@ pub fn plain_command<
         (M.state machine.new)) }
 {
     run_plain(alloc, command, source, out, err, tree, machine).status()
-}
-
-fn run_plain<S: Source, K: Sink, E: Sink, T: Tree, M: Machine>(
-    alloc: Global,
-    command: Command<'_>,
-    source: &mut S,
-    out: &mut K,
-    err: &mut E,
-    tree: &mut T,
-    machine: &mut M,
-) -> Ending
-    requires { IsPlain (asked_by command) }
-    ensures { (n : _) → Ends result (asked_by command.entry)
-        (world (S.stream source.old) (K.stream out.old) (E.stream err.old) n (T.folder tree.old) (M.state machine.old))
-        (world (S.stream source.new) (K.stream out.new) (E.stream err.new) n (T.folder tree.new) (M.state machine.new)) }
-{
-    match command {
-        Command::Manifest { node } => run_manifest(alloc, node, source, out, err),
-        Command::Check { dir } => run_check(alloc, dir, source, out, err, tree),
-        Command::Compile { node, dir } => run_compile(alloc, node, dir, source, out, err, tree),
-        Command::Sequence => run_sequence(alloc, source, out, err),
-        Command::Lookup {
-            node,
-            key,
-            merge,
-            dir,
-        } => run_lookup(alloc, node, key, merge, dir, source, out, err, tree),
-        Command::Apply { node, dir } => {
-            run_apply(alloc, node, dir, source, out, err, tree, machine)
-        }
-        Command::Demo { nodes } => run_demo(alloc, nodes, out, err),
-        Command::Batch { .. } | Command::Serve { .. } => unreachable!(),
-    }
 }
 
 /// Runs a command that may wait, for threads of its own and for what the gate waits for.
@@ -261,6 +227,8 @@ pub fn shared_command<
     _machine: &mut M,
     gate: &G,
 ) -> u8
+where
+    N::Conn: Send + Drop,
     requires shared { IsShared (asked_by command) }
     requires within { IsWithin (asked_by command) }
     ensures { HasEnded result (asked_by command.entry)
@@ -269,33 +237,5 @@ pub fn shared_command<
         (world (S.stream source.new) (K.stream out.new) (E.stream err.new) (N.net net.new) (T.folder tree.new)
         (M.state _machine.new)) }
 {
-    run_shared(rt, alloc, command, source, out, err, gate).status()
-}
-
-fn run_shared<S: Source, K: Sink, E: Sink, G: Gate + Sync, R: Threads + Wait + Sync>(
-    rt: &R,
-    alloc: Global,
-    command: Command<'_>,
-    source: &mut S,
-    out: &mut K,
-    err: &mut E,
-    gate: &G,
-) -> Ending
-    requires shared { IsShared (asked_by command) }
-    requires within { IsWithin (asked_by command) }
-    ensures { (n : _) (f : _) (m : _) → Ends result (asked_by command.entry)
-        (world (S.stream source.old) (K.stream out.old) (E.stream err.old) n f m)
-        (world (S.stream source.new) (K.stream out.new) (E.stream err.new) n f m) }
-{
-    match command {
-        Command::Batch { workers } => run_batch(rt, alloc, workers, source, out, err, gate),
-        Command::Serve { .. } => refuse(err, Ending::Memory, "memory\n"),
-        Command::Manifest { .. }
-        | Command::Check { .. }
-        | Command::Compile { .. }
-        | Command::Sequence
-        | Command::Lookup { .. }
-        | Command::Apply { .. }
-        | Command::Demo { .. } => unreachable!(),
-    }
+    run_shared(rt, alloc, command, source, out, err, net, tree, gate).status()
 }

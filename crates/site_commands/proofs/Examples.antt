@@ -1,0 +1,44 @@
+-- What is read, how a run ends by what stands in the way, and what is told of connections, on examples.
+use Rattle.std.proofs.Common.{◌≡◌, true, false, [], ◌∷◌, refl}
+use Rattle.std.specs.Fmt.{digits}
+use Rattle.std.specs.Prelude.{codes, Some, None}
+use Rattle.http_wire.specs.declared.request.H.TheVariants as h
+use Rattle.site_bundle.specs.declared.bundle_stop.BundleStop.TheVariants as b
+use Rattle.site_io.specs.declared.transfer.ReadStop.TheVariants as r
+use Rattle.site_serve.specs.declared.conn_end.ConnEnd.TheVariants as c
+use Rattle.site_service.specs.declared.service_stop.ServiceStop.TheVariants as s
+use Rattle.site_words.specs.Asked as a
+use Rattle.site_commands.specs.Applying.{ending_by}
+use Rattle.site_commands.specs.Inputs.{bundle, folder, reading_of, stop_text, stop_ending, whole_of}
+use Rattle.site_commands.specs.Serving.{connection_line, end_lines, service_ending}
+use Rattle.site_commands.specs.declared.ending.Ending.TheVariants as e
+use Rattle.site_commands.specs.declared.input.InputStop.TheVariants as i
+
+from_source : reading_of (a.check None) ≡ bundle
+from_source = refl
+
+from_folder : reading_of (a.check (Some (codes "d"))) ≡ folder (codes "d")
+from_folder = refl
+
+too_long : stop_text (whole_of (a.manifest (codes "n"))) (i.Unread r.TooLong) ≡ codes "B3 manifests/site.pp"
+too_long = refl
+
+tree_told : stop_text (codes "bundle") (i.Refused (b.TreeFault (codes "d/data/"))) ≡ codes "tree fault d/data/"
+tree_told = refl
+
+tree_ends : stop_ending (i.Refused (b.TreeFault (codes "d/data/"))) ≡ e.TreeFault
+tree_ends = refl
+
+changed_alone : ending_by true false ≡ e.Changed
+changed_alone = refl
+
+lines_told : end_lines 1 (c.Closed ∷ c.Bad h.Truncated 3 ∷ c.Memory ∷ []) ≡
+    codes "connection 2 H4\nconnection 3 memory\n"
+unfolding end_lines connection_line digits
+lines_told = refl
+
+memory_decides : service_ending (c.Closed ∷ c.Memory ∷ []) s.NetFault ≡ e.Memory
+memory_decides = refl
+
+net_decides : service_ending (c.Closed ∷ []) s.NetFault ≡ e.NetFault
+net_decides = refl

@@ -507,7 +507,14 @@ const NODES: [Run<'static>; 14] = [
     ("apply|n", FILES, (1, 0, 0), 12, "", "read fault\n"),
     ("apply|a", LOGGED, (0, 0, 1), 13, "", ""),
     ("check|--dir|d", "", NONE, 11, "", "B2 manifests/site.pp\n"),
-    ("compile|a|--dir=d", BUNDLE, NONE, 11, "", "B2 manifests/site.pp\n"),
+    (
+        "compile|a|--dir=d",
+        BUNDLE,
+        NONE,
+        11,
+        "",
+        "B2 manifests/site.pp\n",
+    ),
 ];
 
 #[test]

@@ -14,11 +14,13 @@ type Service<'a> = (&'a str, &'a str, u64, u8, &'a str, &'a str);
 
 const ASKED: &str = "POST /catalog/n HTTP/1.1\r\nHost: s\r\nContent-Length: 2\r\n\r\n{}";
 
-const OPENED: &str = r#"{"entry":0,"journal":2,"kind":"open","site":{"files":{"manifests/site.pp":""},"nodes":{}}}
+const OPENED: &str =
+    r#"{"entry":0,"journal":2,"kind":"open","site":{"files":{"manifests/site.pp":""},"nodes":{}}}
 {"entries":1}
 "#;
 
-const PUBLISHED: &str = r#"{"entry":0,"journal":2,"kind":"open","site":{"files":{"manifests/site.pp":""},"nodes":{}}}
+const PUBLISHED: &str =
+    r#"{"entry":0,"journal":2,"kind":"open","site":{"files":{"manifests/site.pp":""},"nodes":{}}}
 {"author":1,"call":0,"entry":1,"facts":{},"k":1,"kind":"publish","node":"n","set":[]}
 {"entries":2}
 "#;

@@ -1,6 +1,6 @@
--- What a reader of these documents' clauses has to believe: ReportText, ReportLaws, MachineText, MachineLaws,
--- MachineMembers
--- What functions promise one another, and what proofs read: ReportReading, MachineReading
+-- What the clauses of `site_main` rest on, and a reader has to believe: ReportText, MachineText, MachineMembers
+-- What functions promise one another, what types keep, and what proofs read: ReportLaws, ReportReading, MachineLaws,
+-- MachineReading
 pub mod ReportText
 pub mod ReportLaws
 pub mod ReportReading

@@ -1,6 +1,6 @@
--- What clauses of commands rest on, and a reader has to believe: States, Contents, Machines
--- What functions promise one another, what types keep, and what proofs read: CallTexts, Forms, MachineCodes, Recorded,
--- ReportCodes, StateCodes
+-- What the clauses of `site_main` rest on, and a reader has to believe: Contents, Machines, States
+-- What functions promise one another, what types keep, and what proofs read: CallTexts, Forms, MachineCodes,
+-- Recorded, ReportCodes, StateCodes
 pub mod CallTexts
 pub mod Contents
 pub mod Forms

@@ -1,6 +1,6 @@
--- What clauses of commands rest on, and a reader has to believe: Catalogs, Faults, Runs, Steps, Tasks, ToldTurns, Turns
+-- What the clauses of `site_main` rest on, and a reader has to believe: Catalogs, Faults, Runs, Steps, Tasks, Turns
 -- What functions promise one another, what types keep, and what proofs read: Laws, Marking, Preparing, Room,
--- SecondRuns, TaskCodes
+-- SecondRuns, TaskCodes, ToldTurns
 pub mod Catalogs
 pub mod Faults
 pub mod Laws

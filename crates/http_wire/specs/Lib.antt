@@ -1,5 +1,5 @@
--- What a reader has to believe: Fields, Messages, Responses, and of Reading what stands before the steps
--- What functions promise one another: the steps of Reading, Places
+-- What the clauses of `site_main` rest on, and a reader has to believe: Fields, Messages, Responses
+-- What functions promise one another, what types keep, and what proofs read: Places, Reading
 pub mod Fields
 pub mod Messages
 pub mod Places

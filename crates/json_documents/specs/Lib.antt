@@ -1,5 +1,6 @@
--- What a reader of a document's clauses has to believe: LinesOfText, LineDocuments
--- What functions promise one another, and what proofs read: Tokens, SmallNumbers, ExactData, ProperValues
+-- What the clauses of `site_main` rest on, and a reader has to believe: Tokens, LinesOfText
+-- What functions promise one another, what types keep, and what proofs read: SmallNumbers, ExactData, LineDocuments,
+-- ProperValues
 pub mod Tokens
 pub mod SmallNumbers
 pub mod ExactData

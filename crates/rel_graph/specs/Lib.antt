@@ -1,6 +1,6 @@
--- What the clauses of `site_main` rest on, and a reader has to believe: Graphs
--- What functions promise one another, what types keep, and what proofs read: Chains, Before, Orders, Cycles, Pairs,
--- Marks, Distances, Listing, Stops, Spans, Laws
+-- What the clauses of `site_main` rest on, and a reader has to believe: Chains, Before, Orders, Cycles, Graphs
+-- What functions promise one another, what types keep, and what proofs read: Pairs, Marks, Distances, Listing, Stops,
+-- Spans, Laws
 pub mod Chains
 pub mod Before
 pub mod Orders

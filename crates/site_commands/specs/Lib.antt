@@ -1,5 +1,6 @@
--- What the clauses of `site_main` rest on, and a reader has to believe: Applying, Endings, Inputs, Program, Serving, Settled,
+-- What the clauses of `site_main` rest on, and a reader has to believe: Applying, Endings, Inputs, Serving, Settled,
 -- Status, Work, World
+-- What functions promise one another, what types keep, and what proofs read: Program
 pub mod Applying
 pub mod Endings
 pub mod Inputs

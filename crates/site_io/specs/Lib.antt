@@ -1,6 +1,6 @@
--- What the clauses of `site_main` rest on, and a reader has to believe: Stream, Transfer
--- What functions promise one another, what types keep, and what proofs read: Got, Took, Scripted, Adapter, Sure, Net,
--- ScriptedNet, Folders, ScriptedFolder
+-- What the clauses of `site_main` rest on, and a reader has to believe: Stream, Net, Folders, Transfer
+-- What functions promise one another, what types keep, and what proofs read: Got, Took, Scripted, Adapter, Sure,
+-- ScriptedNet, ScriptedFolder
 pub mod Stream
 pub mod Got
 pub mod Took

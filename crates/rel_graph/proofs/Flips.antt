@@ -1,10 +1,9 @@
 -- Pairs the other way round.
-use Rattle.std.proofs.Common.{◌≡◌, ℕ, Bool, ◌<◌, List, [], ◌∷◌, map, inl, inr, refl, sym, subst, ap, ◌∙◌}
+use Rattle.std.proofs.Common.{◌≡◌, ℕ, ◌<◌, List, [], ◌∷◌, map, inl, inr, refl, sym, subst, ap, ◌∙◌}
 use Rattle.std.proofs.lemmas.List.Elements.{All-map}
 use lib.ListN.{get_or-map, length-map}
 use Rattle.rel_graph.specs.Chains.{Paired, Chain, Closure}
 use Rattle.rel_graph.specs.Before.{Belongs, Direct}
-use Rattle.rel_graph.specs.Marks.{Marked, Reached, Crossed, Followed}
 use Rattle.rel_graph.specs.Pairs.{AllBelow, flip}
 use Rattle.rel_graph.proofs.Chains.{closure_join}
 
@@ -51,44 +50,3 @@ pub direct_back : (containers edges : List (ℕ × ℕ)) (r s : ℕ) → Direct 
     Direct containers edges r s
 direct_back containers edges r s d = subst (λ es. Direct containers es r s) (flip_again edges)
     (direct_flip containers (map flip edges) s r d)
-
--- up, across and down again
-pub followed_from : (containers edges : List (ℕ × ℕ)) (marks sources targets : List Bool) (x : ℕ) →
-    ((y : ℕ) → Marked sources y → Reached (map flip containers) marks y) →
-    ((y : ℕ) → Marked targets y → Crossed edges sources y) →
-    Reached containers targets x → Followed containers edges marks x
-followed_from containers edges marks sources targets x up across down =
-    let c = across down.from down.marked in
-    let u = up c.from c.marked in
-    record {
-      from = u.from;
-      marked = u.marked;
-      direct = record {
-        earlier = c.from;
-        later = down.from;
-        edge = c.edge;
-        source = belongs_back containers u.from c.from u.leads;
-        target = down.leads;
-      };
-    }
-
-pub followed_to : (containers edges : List (ℕ × ℕ)) (marks sources targets : List Bool) (x : ℕ) →
-    ((y : ℕ) → Reached (map flip containers) marks y → Marked sources y) →
-    ((y : ℕ) → Crossed edges sources y → Marked targets y) →
-    Followed containers edges marks x → Reached containers targets x
-followed_to containers edges marks sources targets x up across f =
-    let d = f.direct in
-    record {
-      from = d.later;
-      marked = across d.later (record {
-        from = d.earlier;
-        marked = up d.earlier (record {
-          from = f.from;
-          marked = f.marked;
-          leads =
-              belongs_flip containers f.from d.earlier d.source;
-        });
-        edge = d.edge;
-      });
-      leads = d.target;
-    }

@@ -1,33 +1,39 @@
 -- Distances, level by level.
-use Rattle.std.proofs.Common.{◌≡◌, ◌⊎◌, ◌↔◌, ℕ, zero, suc, Bool, true, false, ◌+◌, ◌<◌, ◌≤◌, List, [], ◌∷◌, length, map, get_or, set, replicate, Option, Some, None, inl, inr, refl, sym, subst, ap, ◌∙◌, arith, true≢false, add-one, take, drop, ◌++◌, cond, is_none, is_some, count_by}
+use Rattle.std.proofs.Common.{◌≡◌, ◌⊎◌, ℕ, zero, suc, Bool, true, false, ◌+◌, ◌<◌, ◌≤◌, List, [], ◌∷◌, length, map, get_or, set, replicate, Option, Some, None, inl, inr, refl, sym, subst, subst₂, ap, ◌∙◌, arith, true≢false, add-one, take, drop, ◌++◌, is_some, not, count_by, Contains, get_or-set_same, get_or-set_other}
+use Rattle.std.proofs.lemmas.List.Elements.{Contains-push, Contains-push_cases, Contains-append_left}
 use Rattle.std.proofs.lemmas.Bool.{cases_lt}
-use Rattle.std.proofs.lemmas.List.{get_or_past}
+use Rattle.std.proofs.lemmas.Bool.Decides.{eqb_tells}
+use Rattle.std.proofs.lemmas.List.{get_or_past, take_more}
 use lib.ListN.{get_or-replicate, length-replicate}
-use Rattle.rel_graph.proofs.Marking.{marked_set_cases, marked_set_here}
 use Rattle.rel_graph.specs.Chains.{Chain}
-use Rattle.rel_graph.specs.Marks.{Marked, Followed}
+use Rattle.rel_graph.specs.Marks.{Marked}
 use Rattle.rel_graph.specs.Pairs.{flip}
 use Rattle.rel_graph.proofs.Flips.{direct_flip, direct_back}
 use Rattle.rel_graph.specs.Before.{Direct}
-use Rattle.rel_graph.specs.Distances.{distance, AreDistances, IsAdvance}
+use Rattle.rel_graph.specs.Distances.{distance, AreDistances}
+use Rattle.rel_graph.specs.Visits.{AreNew, AreVisited}
+use Rattle.rel_graph.specs.declared.ways.Ways.{Ways}
+use Rattle.rel_graph.proofs.Marking.{marked_within}
+use Rattle.rel_graph.proofs.VisitLemmas.{none_in}
 
 -- c is so many steps from the goal
 abbrev pub At : List (Option ℕ) → ℕ → ℕ → ℕ → Type 0
 At numbers goal c zero = c ≡ goal
 At numbers goal c (suc i) = distance numbers c ≡ Some i
 
--- x stands directly before a marked one
-abbrev pub Leads : (ℕ → ℕ → Type 0) → List Bool → ℕ → Type 0
-Leads R marks x = (to : ℕ) × Marked marks to × R x to
-
--- all that are fewer steps away than the level have their numbers, and those at the level are marked
-pub record Levels (R : ℕ → ℕ → Type 0) (numbers : List (Option ℕ)) (marks : List Bool) (goal level : ℕ) : Type 0 where
+-- All that are fewer steps away than the level have their numbers, those at the level are in front, and what has a
+-- number
+-- is marked.
+pub record Levels (R : ℕ → ℕ → Type 0) (numbers : List (Option ℕ)) (inner : List Bool) (front : List ℕ) (goal level : ℕ)
+    : Type 0 where
   pub sound : (x k : ℕ) → distance numbers x ≡ Some k →
       (between : List ℕ) × (length between ≡ k) × Chain R x between goal
   pub low : (x k : ℕ) → distance numbers x ≡ Some k → k < level
   pub closed : (c j x : ℕ) → At numbers goal c j → j < level → R x c → (k : ℕ) × (distance numbers x ≡ Some k) × (k ≤ j)
-  pub front : (c : ℕ) → Marked marks c → At numbers goal c level
-  pub back : (c : ℕ) → At numbers goal c level → Marked marks c
+  pub at_front : (c : ℕ) → Contains front c → At numbers goal c level
+  pub back : (c : ℕ) → At numbers goal c level → Contains front c
+  pub numbered : (x : ℕ) → Marked inner x → (k : ℕ) × (distance numbers x ≡ Some k)
+  pub marked : (x k : ℕ) → distance numbers x ≡ Some k → Marked inner x
 
 bool_cases : (b : Bool) → (b ≡ true) ⊎ (b ≡ false)
 bool_cases true = inl refl
@@ -47,19 +53,24 @@ none≢some o k e f = cc
 some_same : (o : Option ℕ) (j k : ℕ) → o ≡ Some j → o ≡ Some k → j ≡ k
 some_same o j k e f = cc
 
-module _ (R : ℕ → ℕ → Type 0) (numbers after : List (Option ℕ)) (marks before left : List Bool) (goal level : ℕ)
-    (l : Levels R numbers marks goal level) (leads : (x : ℕ) →
-    Marked before x ↔ Leads R marks x) (steps : IsAdvance level numbers after before left) where
+module _ (R : ℕ → ℕ → Type 0) (numbers after : List (Option ℕ)) (inner inner' : List Bool) (front found : List ℕ)
+    (goal level : ℕ) (l : Levels R numbers inner front goal level) (news : AreNew inner inner' found)
+    (leads : (c x : ℕ) → Contains front c → R x c → Marked inner' x)
+    (led : (x : ℕ) → Contains found x → (c : ℕ) × Contains front c × R x c)
+    (given : (x : ℕ) → Contains found x → distance after x ≡ Some level)
+    (kept : (x : ℕ) → ¬ (Contains found x) → distance after x ≡ distance numbers x) where
   after_old : (x k : ℕ) → distance numbers x ≡ Some k → distance after x ≡ Some k
-  after_old x k e = elim (bool_cases (get_or left x false)) [
-    | inl on ↦ absurd (none≢some (distance numbers x) k ((steps x).was_none on) e)
-    | inr off ↦ (steps x).kept off ∙ e
-  ]
+  after_old x k e = kept x (λ c. news.unmarked x c (l.marked x k e)) ∙ e
 
-  after_cases : (x k : ℕ) → distance after x ≡ Some k → (distance numbers x ≡ Some k) ⊎ ((k ≡ level) × Marked left x)
-  after_cases x k e = elim (bool_cases (get_or left x false)) [
-    | inl on ↦ inr (some_same (distance after x) k level e ((steps x).given on), on)
-    | inr off ↦ inl (sym ((steps x).kept off) ∙ e)
+  after_cases : (x k : ℕ) → distance after x ≡ Some k → (distance numbers x ≡ Some k) ⊎ ((k ≡ level) × Contains found x)
+  after_cases x k e = elim (bool_cases (get_or inner' x false)) [
+    | inl on ↦ elim (news.all x on) [
+      | inl old ↦
+          let n = l.numbered x old in
+          inl (n.1 ∙ ap (λ m. Some m) (some_same (distance after x) n.0 k (after_old x n.0 n.1) e))
+      | inr c ↦ inr (some_same (distance after x) k level e (given x c), c)
+    ]
+    | inr off ↦ inl (sym (kept x (λ c. true≢false (sym (news.marked x c) ∙ off))) ∙ e)
   ]
 
   at_old : (c j : ℕ) → j ≤ level → At after goal c j → At numbers goal c j
@@ -79,9 +90,9 @@ module _ (R : ℕ → ℕ → Type 0) (numbers after : List (Option ℕ)) (marks
   sound_after x k e = elim (after_cases x k e) [
     | inl old ↦ l.sound x k old
     | inr new ↦
-        let to = (leads x).0 ((steps x).was_marked new.1) in
+        let to = led x new.1 in
         subst (λ n. (between : List ℕ) × (length between ≡ n) ×
-        Chain R x between goal) (sym new.0) (chain_new x to.0 level (l.front to.0 to.1) to.2)
+        Chain R x between goal) (sym new.0) (chain_new x to.0 level (l.at_front to.0 to.1) to.2)
   ]
 
   low_after : (x k : ℕ) → distance after x ≡ Some k → k < suc level
@@ -91,12 +102,12 @@ module _ (R : ℕ → ℕ → Type 0) (numbers after : List (Option ℕ)) (marks
   ]
 
   closed_at : (c x : ℕ) → At numbers goal c level → R x c → (k : ℕ) × (distance after x ≡ Some k) × (k ≤ level)
-  closed_at c x a r =
-      let m : Marked before x = (leads x).1 (c, l.back c a, r) in
-      elim (option_cases (distance numbers x)) [
-        | inl none ↦ (level, (steps x).given ((steps x).stays m none), omega arith)
-        | inr some ↦ (some.0, after_old x some.0 some.1, let h = l.low x some.0 some.1 in omega (arith, h))
-      ]
+  closed_at c x a r = elim (news.all x (leads c x (l.back c a) r)) [
+    | inl old ↦
+        let n = l.numbered x old in
+        (n.0, after_old x n.0 n.1, let h = l.low x n.0 n.1 in omega (arith, h))
+    | inr new ↦ (level, given x new, omega arith)
+  ]
 
   closed_after : (c j x : ℕ) → At after goal c j → j < suc level → R x c →
       (k : ℕ) × (distance after x ≡ Some k) × (k ≤ j)
@@ -110,29 +121,37 @@ module _ (R : ℕ → ℕ → Type 0) (numbers after : List (Option ℕ)) (marks
             (k.0, k.1, let le = k.2 in omega (arith, e, le))
       ]
 
-  back_after : (c : ℕ) → distance after c ≡ Some level → Marked left c
+  back_after : (c : ℕ) → distance after c ≡ Some level → Contains found c
   back_after c e = elim (after_cases c level e) [
     | inl old ↦ absurd (let h = l.low c level old in omega (arith, h))
     | inr new ↦ new.1
   ]
 
-  pub levels_step : Levels R after left goal (suc level)
+  pub levels_step : Levels R after inner' found goal (suc level)
   levels_step = record {
     sound = sound_after;
     low = low_after;
     closed = closed_after;
-    front = λ c m. (steps c).given m;
+    at_front = given;
     back = back_after;
+    numbered = λ x m. elim (news.all x m) [
+      | inl old ↦ (let n = l.numbered x old in (n.0, after_old x n.0 n.1))
+      | inr new ↦ (level, given x new)
+    ];
+    marked = λ x k e. elim (after_cases x k e) [
+      | inl old ↦ news.keeps x (l.marked x k old)
+      | inr new ↦ news.marked x new.1
+    ];
   }
 
-module _ (R : ℕ → ℕ → Type 0) (numbers : List (Option ℕ)) (marks : List Bool) (goal level : ℕ)
-    (l : Levels R numbers marks goal level) (off : (x : ℕ) → get_or marks x false ≡ false) where
+module _ (R : ℕ → ℕ → Type 0) (numbers : List (Option ℕ)) (inner : List Bool) (goal level : ℕ)
+    (l : Levels R numbers inner [] goal level) where
   at_below : (c j : ℕ) → j ≤ level → At numbers goal c j → j < level
   at_below c j h a = elim (cases_lt j level) [
     | inl less ↦ less
     | inr more ↦
         let e : j ≡ level = omega (arith, h, more) in
-        absurd (true≢false (sym (l.back c (subst (λ n. At numbers goal c n) e a)) ∙ off c))
+        absurd (none_in c (l.back c (subst (λ n. At numbers goal c n) e a)))
   ]
 
   least_at : (x : ℕ) (between : List ℕ) → Chain R x between goal →
@@ -149,8 +168,8 @@ module _ (R : ℕ → ℕ → Type 0) (numbers : List (Option ℕ)) (marks : Lis
   levels_end = record { sound = l.sound; least = λ x between h _. least_at x between h }
 
 -- where the goal has its number, what is no further away has one
-module _ (R : ℕ → ℕ → Type 0) (numbers : List (Option ℕ)) (marks : List Bool) (goal level : ℕ)
-    (l : Levels R numbers marks goal level) (n : ℕ) (is : distance numbers goal ≡ Some n) where
+module _ (R : ℕ → ℕ → Type 0) (numbers : List (Option ℕ)) (inner : List Bool) (front : List ℕ) (goal level : ℕ)
+    (l : Levels R numbers inner front goal level) (n : ℕ) (is : distance numbers goal ≡ Some n) where
   least_near : (x : ℕ) (between : List ℕ) → Chain R x between goal → length between ≤ n →
       (k : ℕ) × (distance numbers x ≡ Some k) × (k ≤ length between)
   least_near x [] r near = l.closed goal 0 x refl (let low = l.low goal n is in omega (arith, low)) r
@@ -173,18 +192,27 @@ same_everywhere n x a = elim (cases_lt x n) [
 pub unmarked : (n x : ℕ) → ¬ (Marked (replicate n false) x)
 unmarked n x m = true≢false (sym m ∙ same_everywhere n x false)
 
-pub levels_start : (R : ℕ → ℕ → Type 0) (n goal : ℕ) → goal < n →
-    Levels R (replicate n None) (set (replicate n false) goal true) goal 0
-levels_start R n goal within = record {
+pub levels_start : (R : ℕ → ℕ → Type 0) (n goal : ℕ) →
+    Levels R (replicate n None) (replicate n false) (goal ∷ []) goal 0
+levels_start R n goal = record {
   sound = λ x k e. absurd (none≢some (get_or (replicate n None) x None) k (same_everywhere n x None) e);
   low = λ x k e. absurd (none≢some (get_or (replicate n None) x None) k (same_everywhere n x None) e);
   closed = λ c j x a h. absurd (omega arith);
-  front = λ c m. elim (marked_set_cases (replicate n false) goal c m) [
-    | inl e ↦ sym e
-    | inr k ↦ absurd (unmarked n c k)
+  at_front = λ c h. elim (Contains-push_cases [] goal c h) [
+    | inl none ↦ absurd (none_in c none)
+    | inr e ↦ sym e
   ];
-  back = λ c a. subst (λ z. Marked (set (replicate n false) goal true) z) (sym a)
-      (marked_set_here (replicate n false) goal (subst (λ m. goal < m) (sym (length-replicate n false)) within));
+  back = λ c a. subst (λ z. Contains (goal ∷ []) z) (sym a) (Contains-push [] goal);
+  numbered = λ x m. absurd (unmarked n x m);
+  marked = λ x k e. absurd (none≢some (get_or (replicate n None) x None) k (same_everywhere n x None) e);
+}
+
+-- nothing is visited at first
+pub visited_start : (ways : Ways) (n : ℕ) → AreVisited ways (replicate n false) (replicate n false)
+visited_start ways n = record {
+  up = λ x y p m. absurd (unmarked n x m);
+  across = λ x y p m. absurd (unmarked n x m);
+  down = λ x y p m. absurd (unmarked n x m);
 }
 
 -- what a slice that was changed leaves in its `Vec`
@@ -197,41 +225,88 @@ pub written_back : {X : Type 0} (n : ℕ) (old new : List X) → length new ≡ 
 written_back n old new e = subst (λ m. take m (new ++ drop (length new) old) ≡ new) e
     (take_front new (drop (length new) old))
 
-pub distances_step : (containers edges back : List (ℕ × ℕ)) (numbers numbers' after : List (Option ℕ))
-    (marks marks' before before' left : List Bool) (goal level : ℕ) →
-    Levels (Direct containers edges) numbers marks goal level → back ≡ map flip edges → numbers' ≡ numbers →
-    marks' ≡ marks → before' ≡ before →
-    ((x : ℕ) → Marked before x ↔ Followed containers back marks' x) → IsAdvance level numbers' after before' left →
-    Levels (Direct containers edges) after left goal (level + 1)
-distances_step containers edges back numbers numbers' after marks marks' before before' left goal level l turned en em
-    eb marked steps =
-    let marked' : (x : ℕ) → Marked before x ↔ Followed containers (map flip edges) marks x =
-    subst (λ es. (x : ℕ) → Marked before x ↔ Followed containers es marks x) turned
-    (subst (λ m. (x : ℕ) → Marked before x ↔ Followed containers back m x) em marked) in
-    let steps' : IsAdvance level numbers after before left =
-    subst (λ n. IsAdvance level n after before left) en
-    (subst (λ m. IsAdvance level numbers' after m left) eb steps) in
-    let leads : (x : ℕ) → Marked before x ↔ Leads (Direct containers edges) marks x = λ x. (
-      λ m. let f = (marked' x).0 m in (f.from, f.marked, direct_back containers edges x f.from f.direct),
-      λ p. (marked' x).1
-          (record { from = p.0; marked = p.1; direct = direct_flip containers edges x p.0 p.2 }),
-    ) in
-    subst (λ n. Levels (Direct containers edges) after left goal n) (sym (add-one level))
-    (levels_step (Direct containers edges) numbers after marks before left goal level l leads steps')
+-- One turn: what is found from the front over the edges the other way round is the next front.
+module _ (C E wc we : List (ℕ × ℕ)) (cs : wc ≡ C) (es : we ≡ map flip E) (numbers : List (Option ℕ))
+    (inner inner0 inner' : List Bool) (front found : List ℕ) (goal level : ℕ)
+    (l : Levels (Direct C E) numbers inner front goal level) (same : inner0 ≡ inner) (news : AreNew inner0 inner' found)
+    (all : (s x : ℕ) → Contains front s → Direct wc we s x → Marked inner' x)
+    (sound : (x : ℕ) → Contains found x → (s : ℕ) × Contains front s × Direct wc we s x) where
+  turn_leads : (c x : ℕ) → Contains front c → Direct C E x c → Marked inner' x
+  turn_leads c x h d = all c x h (subst₂ (λ a b. Direct a b c x) (sym cs) (sym es) (direct_flip C E x c d))
 
-pub room_more : (level count : ℕ) (numbers numbers' after : List (Option ℕ)) (any : Bool) →
-    level + count_by is_none numbers ≤ count → numbers' ≡ numbers →
-    count_by is_none after + cond any 1 0 ≤ count_by is_none numbers' → any ≡ true →
-    (level + 1) + count_by is_none after ≤ count
-room_more level count numbers numbers' after any room e fewer on =
-    let f : count_by is_none after + cond any 1 0 ≤ count_by is_none numbers =
-    subst (λ n. count_by is_none after + cond any 1 0 ≤ count_by is_none n) e fewer in
-    let g : count_by is_none after + cond true 1 0 ≤ count_by is_none numbers =
-    subst (λ b. count_by is_none after + cond b 1 0 ≤ count_by is_none numbers) on f in
-    omega (arith, g, room)
+  turn_led : (x : ℕ) → Contains found x → (c : ℕ) × Contains front c × Direct C E x c
+  turn_led x h =
+      let s = sound x h in
+      (s.0, s.1, direct_back C E x s.0 (subst₂ (λ a b. Direct a b s.0 x) cs es s.2))
+
+  turn_news : AreNew inner inner' found
+  turn_news = subst (λ m. AreNew m inner' found) same news
+
+  pub levels_turn : (numbers' after : List (Option ℕ)) (found' : List ℕ) → numbers' ≡ numbers → found' ≡ found →
+      ((x : ℕ) → Contains found' x → distance after x ≡ Some level) →
+      ((x : ℕ) → ¬ (Contains found' x) → distance after x ≡ distance numbers' x) →
+      Levels (Direct C E) after inner' found goal (level + 1)
+  levels_turn numbers' after found' en ef given kept =
+      subst (λ n. Levels (Direct C E) after inner' found goal n) (sym (add-one level))
+      (levels_step (Direct C E) numbers after inner inner' front found goal level l turn_news turn_leads turn_led
+      (λ x h. given x (subst (λ fs. Contains fs x) (sym ef) h))
+      (λ x absent. kept x (λ h. absent (subst (λ fs. Contains fs x) ef h)) ∙ ap (λ ns. distance ns x) en))
+
+  -- nothing more is found
+  pub levels_last : found ≡ [] → AreDistances (Direct C E) goal numbers
+  levels_last none = levels_end (Direct C E) numbers inner' goal (suc level)
+      (subst (λ fs. Levels (Direct C E) numbers inner' fs goal (suc level)) none
+      (levels_step (Direct C E) numbers numbers inner inner' front found goal level l turn_news turn_leads turn_led
+      (λ x h. absurd (none_in x (subst (λ fs. Contains fs x) none h))) (λ x _. refl)))
+
+  -- the goal has its number
+  pub turn_room : (count : ℕ) → level + count_by not inner ≤ count → 0 < length found →
+      (level + 1) + count_by not inner' ≤ count
+  turn_room count room some = (let f = turn_news.fewer in omega (arith, f, room, some))
+
+  pub turn_fewer : 0 < length found → count_by not inner' < count_by not inner
+  turn_fewer some = (let f = turn_news.fewer in omega (arith, f, some))
+
+  pub turn_within : (count : ℕ) → length inner ≡ count → (x : ℕ) → Contains found x → x < count
+  turn_within count long x h =
+      let n = marked_within inner' x (turn_news.marked x h) in
+      let e = turn_news.long in
+      omega (arith, n, e, long)
 
 pub number_within : (numbers : List (Option ℕ)) (x k : ℕ) → distance numbers x ≡ Some k → x < length numbers
 number_within numbers x k e = elim (cases_lt x (length numbers)) [
   | inl less ↦ less
   | inr more ↦ absurd (none≢some (distance numbers x) k (get_or_past numbers x None more) e)
 ]
+
+-- one more that was found has the level
+module _ (numbers after : List (Option ℕ)) (found : List ℕ) (i level : ℕ) (inside : i < length found)
+    (here : get_or found i 0 < length after)
+    (given : (x : ℕ) → Contains (take i found) x → distance after x ≡ Some level)
+    (kept : (x : ℕ) → ¬ (Contains (take i found) x) → distance after x ≡ distance numbers x) where
+  abbrev at : ℕ
+  at = get_or found i 0
+
+  more : (x : ℕ) → Contains (take i found) x → Contains (take (i + 1) found) x
+  more x c = subst (λ l. Contains l x) (sym (take_more found i 0 inside)) (Contains-append_left (take i found) (at ∷
+      []) x c)
+
+  last : Contains (take (i + 1) found) at
+  last = subst (λ l. Contains l at) (sym (take_more found i 0 inside)) (Contains-push (take i found) at)
+
+  pub given_more : (x : ℕ) → Contains (take (i + 1) found) x → distance (set after at (Some level)) x ≡ Some level
+  given_more x c = elim (eqb_tells x at) [
+    | inl same ↦ subst (λ z. distance (set after at (Some level)) z ≡ Some level) (sym same.1)
+        (get_or-set_same after at (Some level) None here)
+    | inr other ↦ get_or-set_other after at x (Some level) None other.1 ∙
+        given x (elim (Contains-push_cases (take i found) at x (subst (λ l. Contains l x) (take_more found i 0 inside)
+        c)) [
+          | inl old ↦ old
+          | inr same ↦ absurd (other.1 (sym same))
+        ])
+  ]
+
+  pub kept_more : (x : ℕ) → ¬ (Contains (take (i + 1) found) x) → distance (set after at (Some level)) x ≡ distance
+      numbers x
+  kept_more x absent = get_or-set_other after at x (Some level) None
+      (λ same. absent (subst (λ z. Contains (take (i + 1) found) z) (sym same) last)) ∙ kept x (λ c. absent (more x c))

@@ -1,8 +1,8 @@
 -- How far each index is from a goal.
-use Rattle.std.specs.Prelude.{◌≡◌, ℕ, Bool, true, false, ◌≤◌, List, ◌∷◌, Option, Some, None, length, slice_index_or}
+use Rattle.std.specs.Prelude.{◌≡◌, ℕ, ◌≤◌, List, ◌∷◌, Option, Some, None, length, slice_index_or}
+use Rattle.std.specs.List.{Contains}
 use Rattle.rel_graph.specs.Chains.{Chain}
 use Rattle.rel_graph.specs.Cycles.{NoLater}
-use Rattle.rel_graph.specs.Marks.{Marked}
 
 abbrev pub distance : List (Option ℕ) → ℕ → Option ℕ
 distance numbers x = slice_index_or numbers x None
@@ -19,20 +19,6 @@ pub record AreDistances (R : ℕ → ℕ → Type 0) (goal : ℕ) (numbers : Lis
   pub least : (x : ℕ) (between : List ℕ) → Chain R x between goal → IsNear numbers goal (length between) →
       (k : ℕ) × (distance numbers x ≡ Some k) × (k ≤ length between)
 
--- what one step does to the number n and the mark m of an index: where it is marked and has no number it is given the
--- level, and stays marked
-pub record StepsTo (level : ℕ) (n after : Option ℕ) (m left : Bool) : Type 0 where
-  pub kept : left ≡ false → after ≡ n
-  pub given : left ≡ true → after ≡ Some level
-  pub was_marked : left ≡ true → m ≡ true
-  pub was_none : left ≡ true → n ≡ None
-  pub stays : m ≡ true → n ≡ None → left ≡ true
-
-abbrev pub IsAdvance : ℕ → List (Option ℕ) → List (Option ℕ) → List Bool → List Bool → Type 0
-IsAdvance level numbers after marks left =
-    (x : ℕ) → StepsTo level (distance numbers x) (distance after x) (slice_index_or marks x false)
-    (slice_index_or left x false)
-
 -- The chain over these indexes from a to the goal has the length n, and of the chains of that length it is the least
 -- by its indexes.
 pub record IsBest (R : ℕ → ℕ → Type 0) (goal a n : ℕ) (between : List ℕ) : Type 0 where
@@ -46,11 +32,11 @@ pub record IsStep (R : ℕ → ℕ → Type 0) (numbers : List (Option ℕ)) (a 
   pub far : distance numbers x ≡ Some left
   pub least : (y : ℕ) → R a y → distance numbers y ≡ Some left → x ≤ y
 
--- the least index that is marked and so far from the goal
-pub record IsLeastAt (marks : List Bool) (numbers : List (Option ℕ)) (left x : ℕ) : Type 0 where
-  pub marked : Marked marks x
+-- the least of these that is so far from the goal
+pub record IsLeastOf (found : List ℕ) (numbers : List (Option ℕ)) (left x : ℕ) : Type 0 where
+  pub among : Contains found x
   pub far : distance numbers x ≡ Some left
-  pub least : (y : ℕ) → Marked marks y → distance numbers y ≡ Some left → x ≤ y
+  pub least : (y : ℕ) → Contains found y → distance numbers y ≡ Some left → x ≤ y
 
 -- from the goal on, over the rest, stands the least of the shortest cycles with so many between
 abbrev pub IsBestCycle : (ℕ → ℕ → Type 0) → ℕ → ℕ → List ℕ → Type 0

@@ -1,16 +1,20 @@
 //! The cycle that is told.
-ghost use Rattle.std.specs.Prelude.{◌≡◌, ◌↔◌, ℕ, ◌+◌, ◌<◌, Some, length, map, IsTrue, IfOk, IfNone, IfSome};
+ghost use Rattle.std.specs.Prelude.{◌≡◌, ◌↔◌, ◌⊎◌, ℕ, ◌<◌, Some, length, IsTrue, IfOk, OnOk, IfNone, IfSome};
+ghost use Rattle.std.specs.List.{All, Contains};
 ghost use Rattle.rel_graph.specs.Before.{Direct, Before};
 ghost use Rattle.rel_graph.specs.Cycles.{IsCycle, HasNoCycle, NoneBelow};
-ghost use Rattle.rel_graph.specs.Distances.{AreDistances, IsBestCycle, IsStep, IsLeastAt, distance};
+ghost use Rattle.rel_graph.specs.Distances.{AreDistances, IsBestCycle, IsStep, IsLeastOf, distance};
 ghost use Rattle.rel_graph.specs.Marks.{Marked};
-ghost use Rattle.rel_graph.specs.Pairs.{AllBelow, flip};
+ghost use Rattle.rel_graph.specs.Pairs.{AllBelow};
 ghost use Rattle.rel_graph.specs.Spans.{span};
+ghost use Rattle.rel_graph.specs.Visits.{AreVisited};
+ghost use Rattle.rel_graph.specs.Ways.{AreWays};
 
-use crate::direct::{flipped, follow};
 use crate::distances::distances;
 use crate::points::laid_out;
 use crate::spans::{is_line, span};
+use crate::visits::visit;
+use crate::ways::{Ways, ways_of};
 use std::alloc::{AllocError, Global};
 
 fn is_far(number: Option<u32>, left: u32) -> bool
@@ -22,45 +26,51 @@ fn is_far(number: Option<u32>, left: u32) -> bool
     }
 }
 
-/// The least index that is marked and so far from the goal.
-fn least_at(count: u32, marks: &[bool], numbers: &[Option<u32>], left: u32) -> u32
-    requires marks_long { length marks.now ≡ count }
-    requires long { length numbers.now ≡ count }
-    requires some { (x : ℕ) × Marked marks.now x × (distance numbers.now x ≡ Some left) }
-    ensures { IsLeastAt marks.now numbers.now left result }
+/// The least of these that is so far from the goal.
+fn least_of(found: &[usize], numbers: &[Option<u32>], left: u32) -> usize
+    requires found { All (λ x. x < length numbers.now) found.now }
+    requires some { (x : ℕ) × Contains found.now x × (distance numbers.now x ≡ Some left) }
+    ensures { IsLeastOf found.now numbers.now left result }
 {
-    for at in 0..count {
-        if marks[at as usize] && is_far(numbers[at as usize], left) {
-            return at;
+    let mut least = numbers.len();
+    for at in found {
+        if *at < least && is_far(numbers[*at], left) {
+            least = *at;
         }
     }
-    unreachable!()
+    least
 }
 
-/// The least index that a resource stands directly before and that is so far from the goal.
+/// The least index that a resource stands directly before and that is so far from the goal. What was found before is
+/// farther away.
 fn next_towards(
     alloc: Global,
-    containers: &[(u32, u32)],
-    outward: &[(u32, u32)],
-    edges: &[(u32, u32)],
-    count: u32,
+    ways: &Ways,
     numbers: &[Option<u32>],
     from: u32,
     left: u32,
-) -> Result<u32, AllocError>
-    requires turned { outward.now ≡ map flip containers.now }
-    requires below { AllBelow containers.now count }
-    requires edges_below { AllBelow edges.now count }
-    requires from { from < count }
-    requires long { length numbers.now ≡ count }
-    requires some { (x : ℕ) × Direct containers.now edges.now from x × (distance numbers.now x ≡ Some left) }
-    ensures { IfOk result (IsStep (Direct containers.now edges.now) numbers.now from left) }
+    outer: &mut [bool],
+    inner: &mut [bool],
+) -> Result<usize, AllocError>
+    requires ways { AreWays (length outer.old) ways.now }
+    requires long { length inner.old ≡ length outer.old }
+    requires numbers { length numbers.now ≡ length outer.old }
+    requires from { from < length outer.old }
+    requires visited { AreVisited ways.now outer.old inner.old }
+    requires farther { (x : ℕ) → Marked inner.old x → ¬ (distance numbers.now x ≡ Some left) }
+    requires some { (x : ℕ) × Direct ways.now.containers.items ways.now.edges.items from x ×
+        (distance numbers.now x ≡ Some left) }
+    ensures step { IfOk result (IsStep (Direct ways.now.containers.items ways.now.edges.items) numbers.now from left) }
+    ensures outer { OnOk result (length outer.new ≡ length outer.old) }
+    ensures inner { OnOk result (length inner.new ≡ length inner.old) }
+    ensures visited { OnOk result (AreVisited ways.now outer.new inner.new) }
+    ensures found { OnOk result ((x : ℕ) → Marked inner.new x →
+        Marked inner.old x ⊎ Direct ways.now.containers.items ways.now.edges.items from x) }
 {
-    let mut marks = vec![in alloc; false; count as usize]?;
-    marks[from as usize] = true;
-    let after = follow(alloc, containers, outward, edges, marks.as_slice())?;
-    let next = least_at(count, after.as_slice(), numbers, left);
-    Ok(next)
+    let mut start = Vec::new(alloc);
+    start.push(from as usize)?;
+    let found = visit(alloc, ways, start, outer, inner)?;
+    Ok(least_of(found.as_slice(), numbers, left))
 }
 
 /// The least of the shortest cycles from the goal on.
@@ -81,23 +91,17 @@ fn trace(
     requires far { distance numbers.now goal ≡ Some between }
     ensures { IfOk result (λ v. IsBestCycle (Direct containers.now edges.now) goal between v.items) }
 {
-    let outward = flipped(alloc, containers)?;
+    let ways = ways_of(alloc, containers, edges, count)?;
+    let mut outer = vec![in alloc; false; count as usize]?;
+    let mut inner = vec![in alloc; false; count as usize]?;
     let mut cycle = Vec::new(alloc);
     cycle.push(goal)?;
     let mut at = goal;
     let mut left = between;
     while left > 0 {
         left -= 1;
-        at = next_towards(
-            alloc,
-            containers,
-            outward.as_slice(),
-            edges,
-            count,
-            numbers,
-            at,
-            left,
-        )?;
+        let next = next_towards(alloc, &ways, numbers, at, left, &mut outer, &mut inner)?;
+        at = next as u32;
         cycle.push(at)?;
     }
     Ok(cycle)

@@ -1,36 +1,27 @@
 //! How far resources stand before one of them.
-ghost use Rattle.std.specs.Prelude.{◌≡◌, ℕ, ◌+◌, ◌<◌, ◌≤◌, false, cond, is_none, length, slice_index_or, IfOk};
-ghost use Rattle.std.specs.List.{count_by};
+ghost use Rattle.std.specs.Prelude.{◌≡◌, ℕ, ◌<◌, Some, length, IfOk};
+ghost use Rattle.std.specs.List.{All, Contains};
 ghost use Rattle.rel_graph.specs.Before.{Direct};
-ghost use Rattle.rel_graph.specs.Distances.{AreDistances, IsAdvance};
+ghost use Rattle.rel_graph.specs.Distances.{AreDistances, distance};
 ghost use Rattle.rel_graph.specs.Pairs.{AllBelow};
 
-use crate::direct::{flipped, follow};
+use crate::visits::visit;
+use crate::ways::{flipped, ways_of};
 use std::alloc::{AllocError, Global};
 
-/// Gives the level to what is marked and has no number yet, and leaves just these marked. Tells whether there are any.
-fn advance(numbers: &mut [Option<u32>], marks: &mut [bool], level: u32) -> bool
-    requires { length marks.old ≡ length numbers.old }
-    ensures advance { IsAdvance level numbers.old numbers.new marks.old marks.new }
-    ensures fewer { count_by is_none numbers.new + cond result 1 0 ≤ count_by is_none numbers.old }
-    ensures last { result ≡ false → (x : ℕ) → slice_index_or marks.new x false ≡ false }
+/// Gives the level to what was found.
+fn number_all(numbers: &mut [Option<u32>], found: &[usize], level: u32)
+    requires { All (λ x. x < length numbers.old) found.now }
+    ensures given { (x : ℕ) → Contains found.now x → distance numbers.new x ≡ Some level }
+    ensures kept { (x : ℕ) → ¬ (Contains found.now x) → distance numbers.new x ≡ distance numbers.old x }
 {
-    let mut any = false;
-    for at in 0..marks.len() {
-        if marks[at] {
-            if numbers[at].is_none() {
-                numbers[at] = Some(level);
-                any = true;
-            } else {
-                marks[at] = false;
-            }
-        }
+    for at in found {
+        numbers[*at] = Some(level);
     }
-    any
 }
 
-/// How many resources stand between each one and the goal on a shortest chain. The search ends when it comes to the goal
-/// again.
+/// How many resources stand between each one and the goal on a shortest chain. The search goes back from the goal, and
+/// ends when it comes to it again.
 pub fn distances(
     alloc: Global,
     containers: &[(u32, u32)],
@@ -44,27 +35,24 @@ pub fn distances(
     ensures long { IfOk result (λ v. length v.items ≡ count) }
     ensures distances { IfOk result (λ v. AreDistances (Direct containers.now edges.now) goal v.items) }
 {
-    let outward = flipped(alloc, containers)?;
     let back = flipped(alloc, edges)?;
+    let ways = ways_of(alloc, containers, back.as_slice(), count)?;
     let mut numbers = vec![in alloc; None; count as usize]?;
-    let mut marks = vec![in alloc; false; count as usize]?;
-    marks[goal as usize] = true;
+    let mut outer = vec![in alloc; false; count as usize]?;
+    let mut inner = vec![in alloc; false; count as usize]?;
+    let mut front = Vec::new(alloc);
+    front.push(goal as usize)?;
     let mut level = 0;
     loop {
-        let mut before = follow(
-            alloc,
-            containers,
-            outward.as_slice(),
-            back.as_slice(),
-            marks.as_slice(),
-        )?;
-        if !advance(&mut numbers, &mut before, level) {
+        let found = visit(alloc, &ways, front, &mut outer, &mut inner)?;
+        if found.is_empty() {
             return Ok(numbers);
         }
+        number_all(&mut numbers, found.as_slice(), level);
         if numbers[goal as usize].is_some() {
             return Ok(numbers);
         }
-        marks = before;
+        front = found;
         level += 1;
     }
 }

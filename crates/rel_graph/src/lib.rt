@@ -1,20 +1,22 @@
 //! The order of resources by containment and relationships, and cycles of these.
 #![tactic(auto)]
 
+mod arrows;
 mod containment;
 mod cycles;
-mod direct;
 mod distances;
 mod graph;
 mod laws;
 mod listed;
 mod listing;
-mod marks;
 mod points;
 mod ranges;
+mod releasing;
 mod sorting;
 mod spans;
 mod stops;
+mod visits;
+mod ways;
 
 pub use containment::{Containers, Containment};
 pub use graph::{Edges, Graph, Order, build};

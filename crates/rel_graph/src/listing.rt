@@ -1,28 +1,56 @@
 //! Resources are listed one after another, as they become ready.
-ghost use Rattle.std.specs.Prelude.{◌≡◌, length, IfOk, MatchOption};
+ghost use Rattle.std.specs.Prelude.{◌≡◌, ◌<◌, ◌^◌, length, IfOk};
 ghost use Rattle.rel_graph.specs.Before.{Direct};
 ghost use Rattle.rel_graph.specs.Chains.{Paired};
 ghost use Rattle.rel_graph.specs.Cycles.{HasNoCycle};
 ghost use Rattle.rel_graph.specs.Listing.{Listing, IsStuck};
-ghost use Rattle.rel_graph.specs.Marks.{AllBlocked, IsLeastFree};
 ghost use Rattle.rel_graph.specs.Pairs.{AllBelow};
+ghost use Rattle.rel_graph.specs.Steps.{begin_of, AreArrows, AreTargets};
 
-use crate::direct::{flipped, follow};
+use crate::arrows::{arrows_of, begin, listed_by, targets_of};
 use crate::listed::Listed;
+use crate::releasing::{finish, free_of, settle, waits_of};
 use std::alloc::{AllocError, Global};
+use std::collections::BTreeSet;
 
-/// The least index that is left and not blocked.
-fn least_free(count: u32, left: &[bool], blocked: &[bool]) -> Option<u32>
-    requires left { length left.now ≡ count }
-    requires blocked { length blocked.now ≡ count }
-    ensures { MatchOption result (AllBlocked left.now blocked.now) (IsLeastFree left.now blocked.now) }
+/// Lists what is ready, the least index first, as the arrows tell.
+fn list_steps(
+    alloc: Global,
+    containers: &[(u32, u32)],
+    edges: &[(u32, u32)],
+    count: u32,
+    arrows: &[(usize, usize)],
+    out: &[Vec<usize>],
+) -> Result<Listed, AllocError>
+    requires below { AllBelow containers.now count }
+    requires edges_below { AllBelow edges.now count }
+    requires contains { HasNoCycle (Paired containers.now) }
+    requires arrows { AreArrows containers.now edges.now count arrows.now }
+    requires arrows_below { AllBelow arrows.now (length out.now) }
+    requires few { length arrows.now < 2 ^ 64 }
+    requires steps { length out.now ≡ begin_of count }
+    requires out { AreTargets arrows.now out.now }
+    ensures listing { IfOk result (λ v. Listing (Direct containers.now edges.now) count v.left.items v.order.items) }
+    ensures stuck { IfOk result (λ v. IsStuck (Direct containers.now edges.now) v.left.items) }
 {
-    for at in 0..count {
-        if left[at as usize] && !blocked[at as usize] {
-            return Some(at);
+    let mut waits = waits_of(alloc, out.len(), arrows)?;
+    let mut free = free_of(alloc, waits.as_slice())?;
+    let mut done = vec![in alloc; false; out.len()]?;
+    let mut ready = BTreeSet::new(alloc);
+    let mut left = vec![in alloc; true; count as usize]?;
+    let mut order = Vec::new(alloc);
+    loop {
+        settle(arrows, out, &mut done, &mut waits, &mut free, &mut ready)?;
+        match ready.pop_first() {
+            Some(step) => {
+                let next = listed_by(step);
+                order.push(next)?;
+                left[next as usize] = false;
+                finish(arrows, out, step, &mut done, &mut waits, &mut free)?;
+            }
+            None => return Ok(Listed { order, left }),
         }
     }
-    None
 }
 
 /// Lists what is ready, the least index first, until nothing is. Nothing stands inside itself.
@@ -38,23 +66,14 @@ pub fn list_ready(
     ensures listing { IfOk result (λ v. Listing (Direct containers.now edges.now) count v.left.items v.order.items) }
     ensures stuck { IfOk result (λ v. IsStuck (Direct containers.now edges.now) v.left.items) }
 {
-    let outward = flipped(alloc, containers)?;
-    let mut left = vec![in alloc; true; count as usize]?;
-    let mut order = Vec::new(alloc);
-    loop {
-        let blocked = follow(
-            alloc,
-            containers,
-            outward.as_slice(),
-            edges,
-            left.as_slice(),
-        )?;
-        match least_free(count, left.as_slice(), blocked.as_slice()) {
-            Some(next) => {
-                order.push(next)?;
-                left[next as usize] = false;
-            }
-            None => return Ok(Listed { order, left }),
-        }
-    }
+    let arrows = arrows_of(alloc, containers, edges, count)?;
+    let out = targets_of(alloc, begin(count), arrows.as_slice())?;
+    list_steps(
+        alloc,
+        containers,
+        edges,
+        count,
+        arrows.as_slice(),
+        out.as_slice(),
+    )
 }

@@ -1,4 +1,4 @@
-use Rattle.std.proofs.Common.{◌≡◌, ◌∙◌, ℕ, Bool, true, false, List, map, ap, ap₂, sym, subst}
+use Rattle.std.proofs.Common.{◌≡◌, ◌∙◌, ℕ, List, map, ap, ap₂, sym, subst}
 use Rattle.rel_graph.specs.Chains.{Paired}
 use Rattle.rel_graph.specs.Cycles.{HasNoCycle}
 use Rattle.rel_graph.specs.Graphs.{Relations, IsCyclic, containment_pair, edge_pair}

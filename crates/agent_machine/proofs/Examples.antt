@@ -1,9 +1,10 @@
 -- What is recorded, what is held against it, and what calls do, at worked examples.
-use Rattle.std.proofs.Common.{◌≡◌, ℕ, Bool, true, false, List, [], ◌∷◌, refl}
+use Rattle.std.proofs.Common.{◌≡◌, true, false, [], ◌∷◌, None, Some, refl}
 use Rattle.std.specs.Prelude.{codes}
-use Rattle.pp_values.specs.Datum.{Datum, flag, int, text}
+use Rattle.pp_values.specs.Datum.{flag, text}
 use Rattle.pp_values.specs.declared.reference.Reference.{Reference}
 use Rattle.agent_machine.specs.Contents.{Content, holds_answer, refresh_answer, write_answer, after_write}
+use Rattle.agent_machine.specs.Parts.{part_state, content_back}
 use Rattle.agent_machine.specs.States.{State, present, absent, has, written}
 use Rattle.agent_machine.specs.declared.holds.Holds.TheVariants as holds
 use Rattle.agent_machine.specs.declared.wrote.Wrote.TheVariants as wrote
@@ -124,3 +125,35 @@ write_by_text = refl
 failed_write : after_write file_a (codes "mode") (text (codes "0644")) fails_by_text ≡
     record { document = fails_second.document; calls = 3; failing = 2 ∷ [] }
 failed_write = refl
+
+-- ---- parts
+
+-- a part holds the record of its resource, and of the file that is asked for
+part_of_both : part_state service_s (Some (codes "/a")) some_state ≡ some_state
+part_of_both = refl
+
+part_of_one : part_state service_s None some_state ≡ (codes "Service[s]", (codes "ensure", text (codes "running")) ∷ []) ∷ []
+part_of_one = refl
+
+part_of_none : part_state file_a (Some (codes "/b")) [] ≡ []
+part_of_none = refl
+
+abbrev part_of_a : State → Content
+part_of_a state = record { document = record { failing = []; state = state }; calls = 5; failing = 2 ∷ [] }
+
+-- the record of the resource comes back, and no other one; calls are counted on
+back_with_mode : content_back file_a (part_of_a ((codes "File[/a]", (codes "mode", text (codes "0644")) ∷ []) ∷ (codes "Service[s]", []) ∷ [])) fails_second ≡
+    record {
+      document = record {
+        failing = fails_second.document.failing;
+        state = (codes "File[/a]", (codes "mode", text (codes "0644")) ∷ [])
+            ∷ (codes "Service[s]", (codes "ensure", text (codes "running")) ∷ []) ∷ [];
+      };
+      calls = 5;
+      failing = 2 ∷ [];
+    }
+back_with_mode = refl
+
+back_without : (content_back file_a (part_of_a []) fails_second).document.state ≡
+    (codes "Service[s]", (codes "ensure", text (codes "running")) ∷ []) ∷ []
+back_without = refl

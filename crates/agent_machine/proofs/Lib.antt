@@ -1,4 +1,5 @@
 pub mod CallLemmas
+pub mod CopyLemmas
 mod Examples
 pub mod MachineLemmas
 pub mod MapLemmas

@@ -1,5 +1,5 @@
 -- What the calls of a machine in memory are made of.
-use Rattle.std.proofs.Common.{◌≡◌, ℕ, ◌≤◌, Bool, true, false, not, ◌&&◌, if◌then◌else◌, List, Option, None, Some, refl, sym, ap, ap₂, subst, ◌∙◌, arith, min}
+use Rattle.std.proofs.Common.{◌≡◌, ℕ, Bool, true, false, not, ◌&&◌, if◌then◌else◌, List, Option, None, Some, refl, sym, ap, ap₂, subst, ◌∙◌, arith}
 use Rattle.std.specs.Prelude.{option_map}
 use Rattle.pp_values.specs.Datum.{Datum}
 use Rattle.pp_values.specs.declared.reference.Reference.{Reference}

@@ -1,7 +1,7 @@
 -- What is found in maps, and what is put into them.
 use Rattle.std.proofs.Common.{◌≡◌, Bor, ℕ, Bool, true, false, ◌&&◌, cond, None, Some, Option, List, [], ◌∷◌, refl, sym, ap, ap₂, ◌∙◌, IsTrue, ◌||◌, if◌then◌else◌}
 use Rattle.std.specs.List.{list_any}
-use Rattle.std.specs.Prelude.{option_map, option_copied, is_some}
+use Rattle.std.specs.Prelude.{option_map, option_copied}
 use Rattle.std.specs.declared.cmp.Ordering.TheVariants.{Less, Equal, Greater}
 use Rattle.std.specs.Ordering.{eq_by_cmp, match_ordering}
 use Rattle.std.specs.BTreeMap.{insert_entry, is_at}

@@ -7,10 +7,12 @@ ghost use Rattle.agent_machine.specs.States.{removes};
 ghost use Rattle.agent_machine.specs.Machines.{new_machine, counted, recording, FailsNext, Has, Loads, Asks, Writes, Refreshes};
 
 use crate::call_text::CallText;
+use crate::doc_parts::part_state;
 use crate::holds::Holds;
 use crate::machine::Machine;
 use crate::machine_doc::MachineDoc;
 use crate::recording::{has, write};
+use crate::wide_machine::WideMachine;
 use crate::wrote::Wrote;
 use pp_values::{Memory, Reference, Text, Value};
 use std::alloc::Global;
@@ -137,6 +139,31 @@ impl Machine for DocMachine {
         ensures { option_map (λ d. d.now) result ≡ option_map (λ c. c.document) self.now.content }
     {
         Some(&self.document)
+    }
+}
+
+impl WideMachine for DocMachine {
+    type Part = DocMachine;
+
+    fn part(&mut self, what: &Reference, creates: Option<&Text>) -> Result<DocMachine, Memory> {
+        let state = part_state(self.alloc, &self.document.state, what, creates)?;
+        let failing = self.document.failing.share(self.alloc)?;
+        Ok(DocMachine {
+            alloc: self.alloc,
+            document: MachineDoc { failing, state },
+            calls: self.calls,
+            failing: Vec::from_slice(self.alloc, self.failing.as_slice())?,
+            faults: self.faults,
+        })
+    }
+
+    fn put_back(&mut self, what: &Reference, part: DocMachine) -> Result<(), Memory> {
+        part.document
+            .state
+            .copy_into(self.alloc, what, &mut self.document.state)?;
+        self.calls = self.calls.max(part.calls);
+        self.faults = self.faults.max(part.faults);
+        Ok(())
     }
 }
 

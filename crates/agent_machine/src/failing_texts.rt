@@ -7,27 +7,34 @@ use pp_values::{Memory, Text, Texts};
 use std::alloc::Global;
 use std::collections::BTreeSet;
 use std::marker::Model;
+use std::sync::Arc;
 
-/// Texts of calls that fail, such as `write File[/a] mode`, in the order in which they were given.
-///
-/// A contract sees the texts. They are kept sorted beside, so that each call finds whether it is among them.
+/// Texts, and the same ones in order.
 #[derive(Drop)]
-pub struct FailingTexts {
+pub struct Listed {
     texts: Texts,
     in_order: BTreeSet<Text>,
 }
 
+/// Texts of calls that fail, such as `write File[/a] mode`, in the order in which they were given. Parts of a machine
+/// share them.
+///
+/// A contract sees the texts. They are kept sorted beside, so that each call finds whether it is among them.
+#[derive(Drop)]
+pub struct FailingTexts {
+    none: Texts,
+    some: Option<Arc<Listed>>,
+}
+
 impl Model for FailingTexts {
     ghost use Rattle.std.specs.Prelude.{ℕ, List};
+    ghost use Rattle.agent_machine.specs.Failing.{texts_in, IsListed};
 
     ghost Value = { List (List ℕ) };
 
-    ghost view = { λ f. f.texts };
+    ghost view = { λ f. texts_in f.none f.some };
 
-    ghost use Rattle.std.specs.Prelude.{◌≡◌};
-    ghost use Rattle.pp_values.specs.Rising.{sorted};
-
-    ghost invariant = { λ f. f.in_order.keys ≡ sorted f.texts };
+    ghost invariant = { λ f. IsListed f.none f.some };
 }
 
 impl FailingTexts {
@@ -35,8 +42,8 @@ impl FailingTexts {
         ensures { result ≡ [] }
     {
         FailingTexts {
-            texts: Texts::new(alloc),
-            in_order: BTreeSet::new(alloc),
+            none: Texts::new(alloc),
+            some: None,
         }
     }
 
@@ -49,19 +56,42 @@ impl FailingTexts {
             in_order.insert(text.copy(alloc)?)?;
             left = after;
         }
-        Ok(FailingTexts { texts, in_order })
+        let listed = Arc::new(alloc, Listed { texts, in_order })?;
+        Ok(FailingTexts {
+            none: Texts::new(alloc),
+            some: Some(listed),
+        })
+    }
+
+    /// The same texts, which are not copied.
+    pub(crate) fn share(&self, alloc: Global) -> Result<FailingTexts, Memory>
+        ensures { IfOk result (λ f. f ≡ self.now) }
+    {
+        match &self.some {
+            Some(listed) => Ok(FailingTexts {
+                none: Texts::new(alloc),
+                some: Some(listed.clone()?),
+            }),
+            None => Ok(FailingTexts::new(alloc)),
+        }
     }
 
     pub fn as_texts(&self) -> &Texts
         ensures { result.now ≡ self.now }
     {
-        &self.texts
+        match &self.some {
+            Some(listed) => &listed.texts,
+            None => &self.none,
+        }
     }
 
     /// Whether this call is among them.
     pub(crate) fn has(&self, call: CallText<'_>) -> bool
         ensures { result ≡ has_text self.now (pieces_text call.entry) }
     {
-        self.in_order.contains(call)
+        match &self.some {
+            Some(listed) => listed.in_order.contains(call),
+            None => false,
+        }
     }
 }

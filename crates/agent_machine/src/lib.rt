@@ -3,6 +3,7 @@
 
 mod call_text;
 mod doc_machine;
+mod doc_parts;
 mod failing_texts;
 mod form;
 mod holds;
@@ -14,6 +15,7 @@ mod report;
 mod report_line;
 mod states;
 mod status;
+mod wide_machine;
 mod wrote;
 
 pub use doc_machine::DocMachine;
@@ -26,4 +28,5 @@ pub use report::{Report, ReportLines};
 pub use report_line::ReportLine;
 pub use states::States;
 pub use status::Status;
+pub use wide_machine::WideMachine;
 pub use wrote::Wrote;

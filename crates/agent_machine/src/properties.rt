@@ -6,7 +6,7 @@ ghost use Rattle.pp_values.specs.Views.{view};
 ghost use Rattle.res_core.specs.PlainAttributes.{are_plain};
 ghost use Rattle.agent_machine.specs.Recorded.{recorded};
 
-use pp_values::{Memory, Text, Value};
+use pp_values::{Memory, Text, Value, copy};
 use std::alloc::Global;
 use std::collections::BTreeMap;
 use std::marker::Model;
@@ -65,6 +65,17 @@ impl Properties {
         ensures { option_map (λ v. view v.now) result ≡ find text_cmp name.now self.now }
     {
         self.by_name.get(name)
+    }
+
+    /// Properties that say the same.
+    pub(crate) fn copy(&self, alloc: Global) -> Result<Properties, Memory>
+        ensures { IfOk result (λ p. p ≡ self.now) }
+    {
+        let mut copied = Properties::new(alloc);
+        for (name, value) in self.by_name.iter() {
+            copied.put(name.copy(alloc)?, copy(alloc, value)?)?;
+        }
+        Ok(copied)
     }
 
     /// All of them, by name in byte order.

@@ -5,6 +5,7 @@ ghost use Rattle.pp_values.specs.Rising.{text_cmp};
 ghost use Rattle.pp_values.specs.Views.{view};
 ghost use Rattle.pp_values.specs.Words.{reference_text};
 ghost use Rattle.agent_machine.specs.CallTexts.{pieces_text};
+ghost use Rattle.agent_machine.specs.Parts.{copied};
 ghost use Rattle.agent_machine.specs.States.{record_of, with_property, without};
 
 use crate::call_text::CallText;
@@ -63,6 +64,29 @@ impl States {
         ensures { option_copied result ≡ record_of what.now self.now }
     {
         self.by_text.get(key(what))
+    }
+
+    /// Puts a copy of the record of a resource into other states, or takes theirs away where it has none. Where there is
+    /// no memory, they stay as they were.
+    pub(crate) fn copy_into(
+        &self,
+        alloc: Global,
+        what: &Reference,
+        other: &mut States,
+    ) -> Result<(), Memory>
+        ensures { other.new ≡ (if is_ok result then copied what.now self.now other.old else other.old) }
+    {
+        match self.get(what) {
+            Some(properties) => {
+                let properties = properties.copy(alloc)?;
+                let text = reference_text(alloc, what)?;
+                other.put(text, properties)
+            }
+            None => {
+                other.remove(what);
+                Ok(())
+            }
+        }
     }
 
     /// Sets a property of a resource. Where there is no memory, all stays as it was.

@@ -1,6 +1,7 @@
 pub mod ArrowLemmas
 pub mod Examples
 pub mod MarksLemmas
+pub mod LevelLemmas
 pub mod NodePaths
 pub mod SpreadLemmas
 pub mod TargetLemmas

@@ -2,9 +2,13 @@
 #![tactic(auto)]
 
 mod arrows;
+mod leveling;
+mod levels;
 mod marks;
 mod room;
+mod sequence;
 mod spreading;
 
+pub use levels::Levels;
 pub use marks::Marks;
 pub use room::push_ready;

@@ -11,6 +11,7 @@ mod RunExamples
 pub mod RunLemmas
 pub mod SameLemmas
 pub mod SecondRunLemmas
+pub mod Sent
 pub mod StepLemmas
 pub mod TaskFits
 pub mod TaskLemmas

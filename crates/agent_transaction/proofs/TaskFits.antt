@@ -119,7 +119,7 @@ fits_of native.Notify r h a b = absurd (true≢false (sym h ∙ b))
 same_task : (t u : Task) → Some t ≡ Some u → t ≡ u
 same_task t u e = cc e
 
-some_task : (r : Resource) (o : Option NativeType) (q : Task) → option_map (λ n. task_of n r) o ≡ Some q →
+pub some_task : (r : Resource) (o : Option NativeType) (q : Task) → option_map (λ n. task_of n r) o ≡ Some q →
     (n : NativeType) × (o ≡ Some n) × (q ≡ task_of n r)
 some_task r None q e = absurd (cc e)
 some_task r (Some n) q e = (n, refl, sym (same_task (task_of n r) q e))
@@ -128,7 +128,7 @@ abbrev pub Known : List Held → Task → Type 0
 Known hs q = (i : ℕ) × (task_at hs i ≡ Some q)
 
 -- which resource it is
-taken : (hs : List Held) (i : ℕ) (q : Task) → task_at hs i ≡ Some q →
+pub taken : (hs : List Held) (i : ℕ) (q : Task) → task_at hs i ≡ Some q →
     (h : Held) × (slice_get hs i ≡ Some h) × (task_in h.item ≡ Some q)
 taken hs i q e = elim (slice_get hs i) as (λ o. slice_get hs i ≡ o → option_and_then (λ h. task_in h.item) o ≡ Some q →
     (h : Held) × (slice_get hs i ≡ Some h) × (task_in h.item ≡ Some q)) [
@@ -171,6 +171,18 @@ one_at (k ∷ hs) (suc i) zero h g apart a b same =
     absurd (true≢false (sym (any_at hs i h (reference_of k) a here) ∙ not_true _ (first _ _ apart)))
 one_at (k ∷ hs) (suc i) (suc j) h g apart a b same = one_at hs i j h g (second _ _ apart) a b same
 
+place_at : (hs : List Held) (i j : ℕ) (h g : Held) → are_apart (map reference_of hs) ≡ true → slice_get hs i ≡ Some h →
+    slice_get hs j ≡ Some g → reference_of h ≡ reference_of g → i ≡ j
+place_at [] i j h g apart a b same = absurd (cc a)
+place_at (k ∷ hs) zero zero h g apart a b same = refl
+place_at (k ∷ hs) zero (suc j) h g apart a b same =
+    let here : reference_of k ≡ reference_of g = ap reference_of (held k h a) ∙ same in
+    absurd (true≢false (sym (any_at hs j g (reference_of k) b here) ∙ not_true _ (first _ _ apart)))
+place_at (k ∷ hs) (suc i) zero h g apart a b same =
+    let here : reference_of k ≡ reference_of h = ap reference_of (held k g b) ∙ sym same in
+    absurd (true≢false (sym (any_at hs i h (reference_of k) a here) ∙ not_true _ (first _ _ apart)))
+place_at (k ∷ hs) (suc i) (suc j) h g apart a b same = ap suc (place_at hs i j h g (second _ _ apart) a b same)
+
 what_of : (h : Held) (q : Task) → task_in h.item ≡ Some q → q.what ≡ reference_of h
 what_of h q e = let is = some_task h.item (native_of h.item.kind) q e in ap (λ (t : Task). t.what) is.2
 
@@ -208,3 +220,10 @@ module _ (hs : List Held) (es : List Edge) (kept : IsCatalog hs es) where
             (first _ _ (all_at has_form hs b.0 g kept.forms q.1)) texts in
             let one = one_at hs a.0 b.0 h g kept.apart p.1 q.1 refs in
             same_task t u (sym p.2 ∙ ap (λ (k : Held). task_in k.item) one ∙ q.2)
+
+  -- a task is that of one resource
+  pub same_index : (i j : ℕ) (t : Task) → task_at hs i ≡ Some t → task_at hs j ≡ Some t → i ≡ j
+  same_index i j t a b =
+      let p = taken hs i t a in
+      let q = taken hs j t b in
+      place_at hs i j p.0 q.0 kept.apart p.1 q.1 (sym (what_of p.0 t p.2) ∙ what_of q.0 t q.2)

@@ -72,3 +72,8 @@ task_of n r = record {
 -- classes and instances of defined types have no turn
 abbrev pub task_in : Resource → Option Task
 task_in r = option_map (λ n. task_of n r) (native_of r.kind)
+
+-- the file that is asked for before something is run
+abbrev pub creates_of : Work → Option (List ℕ)
+creates_of (work.RunUnless file want) = Some file.title
+creates_of other = None

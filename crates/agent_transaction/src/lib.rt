@@ -28,4 +28,10 @@ pub use laws::{
     a_second_run_changes_nothing, a_told_run_is_one, a_told_turn_is_one, records_rise,
     there_is_a_told_turn,
 };
+pub use plan::Plan;
+pub use planned::Planned;
+pub use prepared::{Prepared, prepare};
+pub use ready::Ready;
+pub use relating::{containment, relations};
 pub use run_stop::RunStop;
+pub use running_all::{has_failed, mark_if, signals};

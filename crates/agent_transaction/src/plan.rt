@@ -40,6 +40,15 @@ impl Plan {
         self.behind.len()
     }
 
+    /// All of them, in their order.
+    pub fn into_vec(self) -> Vec<Planned>
+        ensures { result.items ≡ self }
+    {
+        let mut plan = self.behind;
+        plan.reverse();
+        plan
+    }
+
     /// Takes the next one.
     pub fn take(&mut self) -> Option<Planned>
         ensures { MatchOption result ((self.old ≡ []) × (self.new ≡ [])) (λ p. self.old ≡ p ∷ self.new) }

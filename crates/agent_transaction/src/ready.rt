@@ -1,12 +1,13 @@
-ghost use Rattle.std.specs.Prelude.{◌≡◌, ◌≤◌, IfOk, vec_capacity};
+ghost use Rattle.std.specs.Prelude.{◌≡◌, ◌≤◌, IfOk, option_map, vec_capacity};
 ghost use Rattle.agent_transaction.specs.Room.{most};
+ghost use Rattle.agent_transaction.specs.Tasks.{creates_of};
 ghost use Rattle.agent_transaction.specs.Turns.{TurnGives, skipped_line};
 
 use crate::task::Task;
 use crate::turns::{skipped_line, turn};
 use crate::work::Work;
 use agent_machine::{Machine, ReportLine};
-use pp_values::{Memory, Text};
+use pp_values::{Memory, Reference, Text};
 use std::alloc::Global;
 use std::marker::Model;
 
@@ -63,6 +64,23 @@ impl Ready {
             run_fault,
             fault,
         })
+    }
+
+    /// The resource whose turn it is.
+    pub fn what(&self) -> &Reference
+        ensures { result.now ≡ self.now.what }
+    {
+        &self.task.what
+    }
+
+    /// The file that is asked for before something is run.
+    pub fn creates(&self) -> Option<&Text>
+        ensures { option_map (λ t. t.now) result ≡ creates_of self.now.work }
+    {
+        match &self.task.work {
+            Work::RunUnless(file, _want) => Some(&file.title),
+            _ => None,
+        }
     }
 
     /// The line where it isn't looked at.

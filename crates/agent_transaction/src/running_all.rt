@@ -12,7 +12,7 @@ use agent_marks::{Marks, push_ready};
 use pp_values::Memory;
 
 /// Marks what a source leads to.
-fn mark_if(is_source: bool, at: u32, marks: &mut Marks)
+pub fn mark_if(is_source: bool, at: u32, marks: &mut Marks)
     requires { at < marks.old.count }
     ensures { SpreadsIf is_source at marks.old marks.new }
 {
@@ -21,14 +21,15 @@ fn mark_if(is_source: bool, at: u32, marks: &mut Marks)
     }
 }
 
-fn has_failed(line: &ReportLine) -> bool
+/// Whether a call of its turn failed.
+pub fn has_failed(line: &ReportLine) -> bool
     ensures { result ≡ has_failed line.now }
 {
     line.status == Status::Failed
 }
 
 /// Whether the resource signals.
-fn signals(line: &ReportLine) -> bool
+pub fn signals(line: &ReportLine) -> bool
     ensures { result ≡ signals line.now }
 {
     line.status == Status::Changed || line.refreshed

@@ -1,4 +1,4 @@
-use Rattle.std.proofs.Common.{◌≡◌, ◌∙◌}
+use Rattle.std.proofs.Common.{◌∙◌}
 use Rattle.agent_machine.specs.CallTexts.{pieces_text}
 use Rattle.agent_machine.proofs.CallLemmas.{met_all, met_apart, shorter, as_long}
 use Rattle.agent_machine.proofs.call_text.compare.Goals as goal

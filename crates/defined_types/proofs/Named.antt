@@ -48,7 +48,7 @@ others_at rows q m (Some d) apart at other =
     other_by rows q m d (same_reference q (reference_of d)) apart at refl other
 
 -- what has another number has another reference
-others : (rows : List Row) (q : Reference) (m : ℕ) → AreApart rows → ¬ (number_of q rows ≡ Some m) →
+pub others : (rows : List Row) (q : Reference) (m : ℕ) → AreApart rows → ¬ (number_of q rows ≡ Some m) →
     named_by q (item_at rows m) ≡ false
 others rows q m apart other = others_at rows q m (item_at rows m) apart refl other
 

@@ -24,6 +24,7 @@ pub fn import_all(
     ensures world { Gives same (spec.import_all collector added node.now sets.now evaluator.old.world)
         result evaluator.new.world }
     ensures node { evaluator.new.node ≡ evaluator.old.node }
+    ensures looks { evaluator.new.looks ≡ evaluator.old.looks }
 {
     match evaluator.imports(collector) {
         None => Ok(added),
@@ -47,6 +48,7 @@ fn import_places(
         (spec.take_imports collector before (placed.all_placed_at sets.now places.now) evaluator.old.world)
         result evaluator.new.world }
     ensures node { evaluator.new.node ≡ evaluator.old.node }
+    ensures looks { evaluator.new.looks ≡ evaluator.old.looks }
 {
     let mut added = before;
     let mut left = places;

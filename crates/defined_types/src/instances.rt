@@ -13,6 +13,7 @@ pub fn run_pending(alloc: Global, evaluator: &mut Evaluator<'_>, added: bool) ->
     ensures world { Gives same
         (spec.run_instances added (spec.pending evaluator.old.world.book) evaluator.old.world) result evaluator.new.world }
     ensures node { evaluator.new.node ≡ evaluator.old.node }
+    ensures looks { evaluator.new.looks ≡ evaluator.old.looks }
 {
     let numbers = pending(alloc, evaluator.book())?;
     run_instances(evaluator, added, numbers.as_slice())
@@ -23,6 +24,7 @@ fn run_instances(evaluator: &mut Evaluator<'_>, before: bool, numbers: &[u32]) -
     ensures world { Gives same
         (spec.run_instances before numbers.now evaluator.old.world) result evaluator.new.world }
     ensures node { evaluator.new.node ≡ evaluator.old.node }
+    ensures looks { evaluator.new.looks ≡ evaluator.old.looks }
 {
     let mut added = before;
     let mut left = numbers;

@@ -4,5 +4,6 @@
 mod imports;
 mod instances;
 mod rounds;
+mod watchlist;
 
 pub use rounds::{ROUND_LIMIT, run_rounds};

@@ -1,7 +1,9 @@
 mod Entries
 mod Lists
-mod Worlds
-mod Steps
+mod Marks
+mod Placing
+pub mod Worlds
+pub mod Steps
 mod OfWorld
 mod OfForms
 mod OfClasses
@@ -11,7 +13,7 @@ mod OfCalls
 mod OfResources
 mod OfOverrides
 mod OfChains
-mod OfEvaluator
-mod OfCollecting
-mod OfRounds
+pub mod OfEvaluator
+pub mod OfCollecting
+pub mod Started
 mod Examples

@@ -1,6 +1,6 @@
 -- Classes and defines: how a class is declared, and the bodies of classes and instances.
 use Rattle.std.proofs.Common.{ℕ, Bool, true, false, List, [], ◌∷◌, length}
-use Rattle.std.proofs.Common.{Option, None, Some}
+use Rattle.std.proofs.Common.{◌≡◌, Option, None, Some, refl}
 use Rattle.pp_tree.specs.declared.definition.Class.{Class}
 use Rattle.pp_tree.specs.declared.expr.Expr.{Expr}
 use Rattle.pp_tree.specs.declared.param.Param.{Param}
@@ -12,7 +12,7 @@ use Rattle.pp_values.specs.declared.place.Place.{Place}
 use Rattle.pp_values.specs.declared.reference.Reference.{Reference}
 use Rattle.res_book.proofs.Growth.{grows-bound}
 use Rattle.res_book.specs.Relations.{Related, with_containment, with_line}
-use Rattle.res_book.specs.Rows.{item_at, number_of, reference_of}
+use Rattle.res_book.specs.Rows.{bound_to, item_at, number_of, reference_of}
 use Rattle.res_book.specs.declared.containment.Containment.{Containment}
 use Rattle.res_book.specs.declared.relation_line.RelationLine.{RelationLine}
 use Rattle.res_book.specs.declared.mode.Mode.TheVariants as mode
@@ -23,12 +23,14 @@ use Rattle.scope_core.specs.declared.scope_kind.ScopeKind.TheVariants as kind
 use Rattle.eval_world.specs.Inner.{Inner}
 use Rattle.eval_world.specs.Outcomes.{Step}
 use Rattle.eval_world.specs.Owners.{owner_at}
-use Rattle.eval_world.specs.Worlds.{place_at, put}
+use Rattle.eval_world.specs.Worlds.{place_at}
 use Rattle.eval_world.specs.declared.here.Here.{Here}
+use Rattle.eval_world.specs.declared.owner.Owner.{Owner}
+use Rattle.eval_world.specs.declared.world.World.{World}
 use Rattle.eval_classes.specs.Bodies.{keep, body_rule, class_body, class_by, class_rule}
 use Rattle.eval_classes.specs.Bodies.{instance_body, attributes_at, instance_by, instance_rule, instance_owner, run_item}
 use Rattle.eval_classes.specs.Bodies.{run_by, run_rule}
-use Rattle.eval_classes.specs.Definitions.{class_name, longest_way, module_of}
+use Rattle.eval_classes.specs.Definitions.{class_name, define_found, longest_way, module_of}
 use Rattle.eval_classes.specs.Entering.{enter_rule, with_body}
 use Rattle.eval_classes.specs.Included.{contain_by, require_by, relate_rule, unless_there, declared_once, include_rule, include_from}
 use Rattle.eval_classes.specs.Included.{include_names, included_by, included, names_asked}
@@ -44,31 +46,45 @@ use Rattle.eval_classes.specs.declared.body_owner.BodyOwner.{BodyOwner}
 use Rattle.eval_classes.specs.declared.including.Including.{Including}
 use Rattle.eval_classes.specs.declared.including.Including.TheVariants as including
 use Rattle.eval_classes.specs.declared.listed.Listed.{Listed}
-use Rattle.world_laws.specs.Extends.{RelationsGoOn}
-use Rattle.world_laws.specs.Growing.{Grows, GrowsInner}
+use Rattle.world_laws.specs.Extends.{IsOpened, IsPlaced, RelationsGoOn}
+use Rattle.world_laws.specs.Growing.{Reaches, Grows, GrowsInner}
 use Rattle.world_laws.proofs.Lists.{goes_on, stays}
-use Rattle.world_laws.proofs.OfWorld.{assign_grows, look_up_grows, put_grows}
-use Rattle.world_laws.proofs.Steps.{and_then, pure_grows, answer_grows, fault_grows, told}
-use Rattle.world_laws.proofs.Worlds.{extends_on, scope_entered, book_grows, relations_grow, owner_added}
+use Rattle.world_laws.proofs.Marks.{marks-bound}
+use Rattle.world_laws.proofs.OfWorld.{assign_grows, here_opened, look_up_grows, put_grows}
+use Rattle.world_laws.proofs.Placing.{change_placed}
+use Rattle.world_laws.proofs.Steps.{and_then, pure_grows, answer_grows, fault_grows, from_answer, from_there, told}
+use Rattle.world_laws.proofs.Worlds.{extends_on, scope_entered, book_grows, relations_grow, owner_added, same_world}
 
 -- ---- tables
 
-pub enter_grows : (k : ScopeKind) (parent outer : ℕ) (owner : BodyOwner) → Grows (enter_rule k parent outer owner)
-unfolding enter_rule
-enter_grows k parent outer owner = record {
-  reaches = λ w. extends_on w (record w { scopes = entered k parent w.scopes }) (with_body k parent outer owner w)
-      (scope_entered w k parent)
-      (owner_added (record w { scopes = entered k parent w.scopes }) _ (length w.scopes.scopes) (Some outer));
+abbrev body_owner : BodyOwner → ℕ → Owner
+body_owner owner scope = record {
+  file = owner.file;
+  source = owner.source;
+  resource = owner.resource;
+  scope = scope;
 }
+
+-- a body's scope is opened from one that was
+pub enter_reaches : (k : ScopeKind) (parent outer : ℕ) (owner : BodyOwner) (w : World) →
+    (IsPlaced w → IsOpened w.overrides outer) → Reaches w (enter_rule k parent outer owner w)
+unfolding enter_rule
+enter_reaches k parent outer owner w there =
+    extends_on w (record w { scopes = entered k parent w.scopes }) (with_body k parent outer owner w)
+    (scope_entered w k parent)
+    (owner_added (record w { scopes = entered k parent w.scopes }) (body_owner owner (length w.scopes.scopes))
+    (Some outer) there)
 
 pub declare_grows : (c : Class) (given : List Setting) (at : Place) (from : ℕ) → Grows (declare_rule c given at from)
 unfolding declare_rule
 declare_grows c given at from =
-    told (λ w. put (class_item (owner_at from w.owners) w.book c given at) mode.Plain)
-    (λ w. put_grows (class_item (owner_at from w.owners) w.book c given at) mode.Plain)
+    put_grows (λ w. class_item (owner_at from w.owners) w.book c given at) mode.Plain (here_opened from)
 
 keep_grows : (number : ℕ) (bound : List Setting) → Grows (keep number bound)
-keep_grows number bound = record { reaches = λ w. book_grows w _ (grows-bound number bound w.book) }
+keep_grows number bound = record {
+  reaches = λ w. book_grows w _ (grows-bound number bound w.book) (marks-bound number bound w.book)
+      (λ placed. change_placed w.overrides w.owners w.book placed (bound_to bound) (λ r. refl) number);
+}
 
 -- ---- names of a body
 
@@ -97,7 +113,8 @@ enter_chain_grows chain =
 own_grows : (c : Class) (scope number from : ℕ) → Grows (own_rule c scope number from)
 unfolding own_rule
 own_grows c scope number from = record {
-  reaches = λ w. owner_added w (class_owner w.environment c number scope) scope (Some (owner_at from w.owners).scope);
+  reaches = λ w. owner_added w (class_owner w.environment c number scope) (Some (owner_at from w.owners).scope)
+      (here_opened from w);
 }
 
 class_names_grow : (name : List ℕ) (l : Listed) → Grows (class_names name l)
@@ -315,17 +332,22 @@ module _ (inner : Inner) (g : GrowsInner inner) where
   instance_grows number line own = told (λ w. instance_by inner (item_at w.book number) number line own)
       (λ w. instance_by_grows _ number line own)
 
-  run_item_grows : (item : Declared) (number : ℕ) → Grows (run_item inner item number)
+  -- the scope of the declaration was opened
+  run_item_reaches : (item : Declared) (number : ℕ) (w : World) → item_at w.book number ≡ Some item →
+      Reaches w (run_item inner item number w)
   unfolding run_item
-  run_item_grows item number = and_then (answer_grows _) (λ f. and_then
-      (told (λ w. enter_rule kind.Instance 0 item.scope (instance_owner w.environment item number))
-      (λ w. enter_grows kind.Instance 0 item.scope _))
+  run_item_reaches item number w is =
+      from_answer w (define_found w.environment item.item.kind item.at) _ (λ f.
+      from_there w (enter_rule kind.Instance 0 item.scope (instance_owner w.environment item number) w) _
+      (enter_reaches kind.Instance 0 item.scope (instance_owner w.environment item number) w
+      (λ placed. placed.items number item is))
       (λ own. and_then (g.instance number f.at own) (λ d. pure_grows)))
 
-  run_by_grows : (item : Option Declared) (number : ℕ) → Grows (run_by inner item number)
-  run_by_grows None number = pure_grows
-  run_by_grows (Some item) number = run_item_grows item number
+  run_by_reaches : (item : Option Declared) (number : ℕ) (w : World) → item_at w.book number ≡ item →
+      Reaches w (run_by inner item number w)
+  run_by_reaches None number w is = same_world w
+  run_by_reaches (Some item) number w is = run_item_reaches item number w is
 
   pub run_grows : (number : ℕ) → Grows (run_rule inner number)
   unfolding run_rule
-  run_grows number = told (λ w. run_by inner (item_at w.book number) number) (λ w. run_by_grows _ number)
+  run_grows number = record { reaches = λ w. run_by_reaches (item_at w.book number) number w refl }

@@ -1,5 +1,6 @@
 -- What one collector takes: marks, blocks, imports.
-use Rattle.std.proofs.Common.{ℕ, Bool, true, false, ◌||◌, List, [], ◌∷◌, Option, None, Some, Result, Ok, Err, refl, sym, subst}
+use Rattle.std.proofs.Common.{◌≡◌, ℕ, Bool, true, false, ◌||◌, List, [], ◌∷◌, Option, None, Some, Result, Ok, Err}
+use Rattle.std.proofs.Common.{refl, sym, subst, ◌∙◌}
 use Rattle.std.specs.Prelude.{IsTrue}
 use Rattle.override_rules.specs.Lines.{Line}
 use Rattle.override_rules.specs.Meaning.{State, line_added, test_of, tested, row_of, with_line}
@@ -8,7 +9,7 @@ use Rattle.pp_values.specs.declared.fault.Fault.{Fault}
 use Rattle.res_book.proofs.Applied.{applied-marked}
 use Rattle.res_book.proofs.Growth.{grows-mark}
 use Rattle.res_book.specs.Relations.{Related, is_applied, same_pair, with_applied}
-use Rattle.res_book.specs.Rows.{with_mark}
+use Rattle.res_book.specs.Rows.{marked, with_mark}
 use Rattle.res_book.specs.declared.mode.Mode.TheVariants as mode
 use Rattle.res_book.specs.declared.row.Row.{Row}
 use Rattle.res_core.specs.declared.exported.Exported.{Exported}
@@ -19,28 +20,28 @@ use Rattle.eval_collecting.specs.Importing.{import_match}
 use Rattle.eval_collecting.specs.Matching.{takes_at, mark, take, take_if, local_match}
 use Rattle.eval_resources.specs.declared.known_kind.KnownKind.{KnownKind}
 use Rattle.eval_world.specs.Owners.{owner_at}
-use Rattle.eval_world.specs.Worlds.{put, with_overrides}
+use Rattle.eval_world.specs.Worlds.{with_overrides}
 use Rattle.eval_world.specs.declared.world.World.{World}
 use Rattle.world_laws.specs.Extends.{OverridesStay, RelationsGoOn}
 use Rattle.world_laws.specs.Growing.{Reaches, Grows}
-use Rattle.world_laws.proofs.Lists.{goes_on, stays}
-use Rattle.world_laws.proofs.OfWorld.{put_grows}
+use Rattle.world_laws.proofs.Lists.{stays}
+use Rattle.world_laws.proofs.Marks.{marks-mark}
+use Rattle.world_laws.proofs.OfWorld.{here_opened, put_grows}
+use Rattle.world_laws.proofs.Placing.{change_placed}
+use Rattle.world_laws.proofs.OfOverrides.{one_line}
 use Rattle.world_laws.proofs.Steps.{and_then, pure_grows, answer_grows, told}
 use Rattle.world_laws.proofs.Worlds.{same_overrides, overrides_on, book_grows, overrides_grow, relations_grow}
 
 -- ---- override lines
 
--- where the tables of overrides came out, they are those before and what was added
+-- where the tables of overrides came out, they are those before and what was added, with the same scopes
 abbrev StaysIn : State → Result (Unit {0} × State) Fault → Type 0
-StaysIn s (Ok p) = OverridesStay s p.1
+StaysIn s (Ok p) = OverridesStay s p.1 × (p.1.scopes ≡ s.scopes)
 StaysIn s (Err f) = Unit {0}
-
-one_line : (s : State) (l : Line) → OverridesStay s (with_line s l)
-one_line s l = record { lines = goes_on s.lines (l ∷ []); defaults = λ kind scope name d e. e }
 
 tested_line : (s : State) (l : Line) (r : Result (Unit {0}) Fault) →
     StaysIn s (answers.and_then r (λ u. Ok (tt, with_line s l)))
-tested_line s l (Ok u) = one_line s l
+tested_line s l (Ok u) = (one_line l s, refl)
 tested_line s l (Err f) = tt
 
 -- a line stands behind those before it
@@ -52,19 +53,19 @@ further_lines : (s : State) (r : Result (Unit {0} × State) Fault) → StaysIn s
     StaysIn s (answers.and_then r (λ p. next p.1))
 further_lines s (Err f) stay next more = tt
 further_lines s (Ok p) stay next more = on_to s p.1 (next p.1) stay (more p.1) where
-  on_to : (s t : State) (r : Result (Unit {0} × State) Fault) → OverridesStay s t → StaysIn t r → StaysIn s r
-  on_to s t (Ok p) f g = overrides_on f g
+  on_to : (s t : State) (r : Result (Unit {0} × State) Fault) → StaysIn s (Ok (tt, t)) → StaysIn t r → StaysIn s r
+  on_to s t (Ok p) f g = (overrides_on f.0 g.0, g.1 ∙ f.1)
   on_to s t (Err f) g h = tt
 
 lines_stay : (book : List Row) (ls : List Line) (s : State) → StaysIn s (lines_added book ls s)
 unfolding lines_added
-lines_stay book [] s = same_overrides s
+lines_stay book [] s = (same_overrides s, refl)
 lines_stay book (l ∷ ls) s =
     further_lines s (line_added book l s) (line_stays book l s) (lines_added book ls) (lines_stay book ls)
 
 overrides_reached : (w : World) (r : Result (Unit {0} × State) Fault) → StaysIn w.overrides r →
     Reaches w (with_overrides r w)
-overrides_reached w (Ok p) stay = overrides_grow w p.1 stay
+overrides_reached w (Ok p) stay = overrides_grow w p.1 stay.0 stay.1
 overrides_reached w (Err f) stay = tt
 
 put_lines_grow : (ls : List Line) → Grows (put_lines ls)
@@ -109,7 +110,10 @@ block_grows c n =
 -- ---- local declarations
 
 mark_grows : (n : ℕ) → Grows (mark n)
-mark_grows n = record { reaches = λ w. book_grows w (with_mark n w.book) (grows-mark n w.book) }
+mark_grows n = record {
+  reaches = λ w. book_grows w (with_mark n w.book) (grows-mark n w.book) (marks-mark n w.book)
+      (λ placed. change_placed w.overrides w.owners w.book placed marked (λ r. refl) n);
+}
 
 take_grows : (c n : ℕ) → Grows (take c n)
 unfolding take
@@ -129,8 +133,7 @@ declare_grows : (owner : ℕ) (node : List ℕ) (place : ℕ) (k : KnownKind) (e
     Grows (declare_rule owner node place k e)
 unfolding declare_rule
 declare_grows owner node place k e =
-    told (λ w. put (item_of (owner_at owner w.owners) w.book k e) (mode.Imported node place))
-    (λ w. put_grows (item_of (owner_at owner w.owners) w.book k e) (mode.Imported node place))
+    put_grows (λ w. item_of (owner_at owner w.owners) w.book k e) (mode.Imported node place) (here_opened owner)
 
 import_grows : (owner : ℕ) (node : List ℕ) (place : ℕ) (e : Exported) → Grows (import_rule owner node place e)
 unfolding import_rule

@@ -1,5 +1,5 @@
 -- What stands in a manifest, within any number of levels, and the calls of an evaluator.
-use Rattle.std.proofs.Common.{ℕ, zero, suc, ◌-◌, Bool, true, false, List, [], ◌∷◌, Option, None, Some}
+use Rattle.std.proofs.Common.{ℕ, zero, suc, Bool, true, false, List, [], ◌∷◌, Option, None, Some}
 use Rattle.pp_tree.specs.Building.{form_of, line_of}
 use Rattle.pp_tree.specs.Layers.{FormLayer, OperandLayer, StatementLayer}
 use Rattle.pp_tree.specs.Tables.{Entries}
@@ -37,7 +37,7 @@ use Rattle.world_laws.specs.Growing.{Grows, GrowsInner}
 use Rattle.world_laws.proofs.OfCalls.{call_grows, method_grows, words_grow}
 use Rattle.world_laws.proofs.OfChains.{links_grow}
 use Rattle.world_laws.proofs.OfClasses.{class_declared_grows, once_grows, class_grows, instance_grows, run_grows}
-use Rattle.world_laws.proofs.OfClasses.{enter_grows}
+use Rattle.world_laws.proofs.OfClasses.{enter_reaches}
 use Rattle.world_laws.proofs.OfForms.{type_grows, list_grows, hash_grows, interpolated_grows, prefix_grows, binary_grows}
 use Rattle.world_laws.proofs.OfForms.{assigned_grows, if_grows, unless_grows, case_grows, selected_grows, accessed_grows}
 use Rattle.world_laws.proofs.OfCollectors.{collector_grows}
@@ -213,7 +213,7 @@ block_at_grows b line here depth = (at_depth_grows depth).block b line here
 
 node_grows : (n : Node) → Grows (node_rule n)
 unfolding node_rule
-node_grows n = and_then (enter_grows kind.Node 0 0 node_owner)
+node_grows n = and_then (record { reaches = λ w. enter_reaches kind.Node 0 0 node_owner w (λ placed. placed.top) })
     (λ own. and_then (block_at_grows n.block n.at own 1) (λ d. pure_grows))
 
 chosen_grows : (n : Option Node) (x : List ℕ) → Grows (chosen n x)

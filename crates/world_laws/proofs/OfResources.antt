@@ -10,7 +10,6 @@ use Rattle.pp_values.specs.Datum.{Datum}
 use Rattle.res_core.specs.declared.form.Form.{Form}
 use Rattle.eval_world.specs.Inner.{Inner}
 use Rattle.eval_world.specs.Owners.{owner_at}
-use Rattle.eval_world.specs.Worlds.{put}
 use Rattle.eval_world.specs.declared.here.Here.{Here}
 use Rattle.override_rules.specs.Meaning.{stands}
 use Rattle.eval_resources.specs.Bodies.{is_default, default_rule, default_more, defaults_from, body_rule, body_more}
@@ -24,8 +23,8 @@ use Rattle.eval_resources.specs.declared.named.Named.{Named}
 use Rattle.world_laws.specs.Growing.{Grows, GrowsInner}
 use Rattle.world_laws.proofs.OfClasses.{class_declared_grows}
 use Rattle.world_laws.proofs.OfLines.{lines_grow}
-use Rattle.world_laws.proofs.OfWorld.{put_grows}
-use Rattle.world_laws.proofs.Steps.{and_then, pure_grows, answer_grows, either, told}
+use Rattle.world_laws.proofs.OfWorld.{here_opened, put_grows}
+use Rattle.world_laws.proofs.Steps.{and_then, pure_grows, answer_grows, either}
 use Rattle.world_laws.proofs.Worlds.{same_world}
 
 -- ---- the declaration
@@ -33,8 +32,7 @@ use Rattle.world_laws.proofs.Worlds.{same_world}
 declare_grows : (written : Form) (named : Named) (b : Body) (here : Here) → Grows (declare_rule written named b here)
 unfolding declare_rule
 declare_grows written named b here =
-    told (λ w. put (item_of (owner_at here.owner w.owners) w.book named b) (mode_of written))
-    (λ w. put_grows (item_of (owner_at here.owner w.owners) w.book named b) (mode_of written))
+    put_grows (λ w. item_of (owner_at here.owner w.owners) w.book named b) (mode_of written) (here_opened here.owner)
 
 declared_grows : (written : Form) (kind : List ℕ) (title : Datum) (b : Body) (here : Here) →
     Grows (declared_rule written kind title b here)

@@ -19,11 +19,15 @@ use Rattle.scope_core.specs.Scopes.{own, is_set, is_kept, with_name}
 use Rattle.eval_world.specs.Arguments.{argument_rule, values_from}
 use Rattle.eval_world.specs.Data.{look_up}
 use Rattle.eval_world.specs.Inner.{Inner}
+use Rattle.eval_world.specs.Owners.{owner_at}
 use Rattle.eval_world.specs.Worlds.{read, with_scopes, assign, write_log, place_at, with_book, put}
 use Rattle.eval_world.specs.declared.here.Here.{Here}
 use Rattle.eval_world.specs.declared.world.World.{World}
+use Rattle.world_laws.specs.Extends.{IsOpened, IsPlaced}
 use Rattle.world_laws.specs.Growing.{Reaches, Grows, GrowsInner}
 use Rattle.world_laws.proofs.Lists.{name_set}
+use Rattle.world_laws.proofs.Marks.{marks-declared}
+use Rattle.world_laws.proofs.Placing.{declared_placed, owner_opened}
 use Rattle.world_laws.proofs.Steps.{and_then, pure_grows, answer_grows}
 use Rattle.world_laws.proofs.Worlds.{scopes_kept, book_grows, log_goes_on}
 
@@ -66,12 +70,20 @@ look_up_grows scope key merge at = answer_grows _
 
 -- a declaration that is not refused stands behind the others
 declares : (d : Declared) (m : Mode) (w : World) (r : Result (ℕ × List Row) Fault) → rows.declared d m w.book ≡ r →
-    Reaches w (with_book r w)
-declares d m w (Ok p) is = book_grows w p.1 (grows-declared d m w.book p.1 p.0 is)
-declares d m w (Err f) is = tt
+    (IsPlaced w → IsOpened w.overrides d.scope) → Reaches w (with_book r w)
+declares d m w (Ok p) is there =
+    book_grows w p.1 (grows-declared d m w.book p.1 p.0 is) (marks-declared d m w.book p.1 p.0 is)
+    (λ placed. declared_placed w.overrides w.owners w.book placed d m p.0 p.1 is (there placed))
+declares d m w (Err f) is there = tt
 
-pub put_grows : (d : Declared) (m : Mode) → Grows (put d m)
-put_grows d m = record { reaches = λ w. declares d m w (rows.declared d m w.book) refl }
+-- what stands in a scope that was opened
+pub put_grows : (d : World → Declared) (m : Mode) → ((w : World) → IsPlaced w → IsOpened w.overrides (d w).scope) →
+    Grows (λ w. put (d w) m w)
+put_grows d m there = record { reaches = λ w. declares (d w) m w (rows.declared (d w) m w.book) refl (there w) }
+
+-- the scope of whose code is evaluated
+pub here_opened : (owner : ℕ) (w : World) → IsPlaced w → IsOpened w.overrides (owner_at owner w.owners).scope
+here_opened owner w placed = owner_opened w.overrides w.owners w.book placed owner
 
 -- ---- arguments
 

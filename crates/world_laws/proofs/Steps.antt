@@ -2,7 +2,7 @@
 use Rattle.std.proofs.Common.{Bool, true, false, Result, Ok, Err}
 use Rattle.std.specs.Prelude.{if◌then◌else◌}
 use Rattle.pp_values.specs.declared.fault.Fault.{Fault}
-use Rattle.eval_world.specs.Outcomes.{Outcome, Step, go_on, ◌>>=◌, ◌>>◌, pure, answered}
+use Rattle.eval_world.specs.Outcomes.{Outcome, Step, go_on, ◌>>=◌, pure, answered}
 use Rattle.eval_world.specs.declared.world.World.{World}
 use Rattle.world_laws.specs.Extends.{Extends}
 use Rattle.world_laws.specs.Growing.{Reaches, Grows}
@@ -40,11 +40,17 @@ module _ {A : Type 0} where
   either false f g = g
 
 module _ {A B : Type 0} where
-  goes_on_from : (w : World) (o : Outcome A) (next : A → Step B) → Reaches w o → ((a : A) → Grows (next a)) →
+  -- the next step is taken in the world that there is
+  pub from_answer : (w : World) (r : Result A Fault) (next : A → Step B) → ((a : A) → Reaches w (next a w)) →
+      Reaches w (go_on (answered r w) next)
+  from_answer w (Ok a) next f = f a
+  from_answer w (Err e) next f = tt
+
+  pub from_there : (w : World) (o : Outcome A) (next : A → Step B) → Reaches w o → ((a : A) → Grows (next a)) →
       Reaches w (go_on o next)
-  goes_on_from w (Ok p) next r g = reached_from w p.1 r (next p.0 p.1) ((g p.0).reaches p.1)
-  goes_on_from w (Err e) next r g = tt
+  from_there w (Ok p) next r g = reached_from w p.1 r (next p.0 p.1) ((g p.0).reaches p.1)
+  from_there w (Err e) next r g = tt
 
   -- one step, and then the next one
   pub and_then : {p : Step A} {next : A → Step B} → Grows p → ((a : A) → Grows (next a)) → Grows (p >>= next)
-  and_then {p = p} {next = next} f g = record { reaches = λ w. goes_on_from w (p w) next (f.reaches w) g }
+  and_then {p = p} {next = next} f g = record { reaches = λ w. from_there w (p w) next (f.reaches w) g }

@@ -1,7 +1,9 @@
 -- Worlds that extend each other: one table changes, and the others stay.
-use Rattle.std.proofs.Common.{ℕ, ◌≤◌, List, [], ◌∷◌, ◌++◌, length, Option, refl, ◌∙◌}
+use Rattle.std.proofs.Common.{◌≡◌, ℕ, ◌≤◌, List, [], ◌∷◌, ◌++◌, length, Option, refl, ◌∙◌, arith}
 use Rattle.std.specs.Prelude.{slice_get}
+use Rattle.override_rules.proofs.Opening.{opened_stays, same_scopes, scopes_on}
 use Rattle.override_rules.specs.Meaning.{State, scope_opened}
+use Rattle.override_rules.specs.Ways.{IsWithin}
 use Rattle.res_book.proofs.Growth.{grows-not, grows-on}
 use Rattle.res_book.specs.Growth as rows
 use Rattle.res_book.specs.Relations.{Related}
@@ -12,8 +14,10 @@ use Rattle.scope_core.specs.declared.scope_kind.ScopeKind.{ScopeKind}
 use Rattle.eval_world.specs.Owners.{Owners, with_owner}
 use Rattle.eval_world.specs.declared.owner.Owner.{Owner}
 use Rattle.eval_world.specs.declared.world.World.{World}
-use Rattle.world_laws.specs.Extends.{AreKept, OwnersStay, OverridesStay, RelationsGoOn, Extends}
+use Rattle.world_laws.specs.Extends.{AreKept, ArePlaced, Extends, IsPlaced, MarksStay, OverridesStay, OwnersStay}
+use Rattle.world_laws.specs.Extends.{RelationsGoOn}
 use Rattle.world_laws.proofs.Lists.{goes_on, stays, further, all_kept, all_kept_on, kept_before, kept_beside}
+use Rattle.world_laws.proofs.Placing.{body_placed, opened_here, owner_placed, same_placed}
 
 -- ---- tables that stay
 
@@ -24,10 +28,22 @@ pub one_owner : (x : Owner) (o : Owners) → OwnersStay o (with_owner x o)
 one_owner x o = record { main = refl; others = goes_on o.others (x ∷ []) }
 
 pub same_overrides : (s : State) → OverridesStay s s
-same_overrides s = record { lines = stays s.lines; defaults = λ kind scope name d e. e }
+same_overrides s = record {
+  lines = stays s.lines;
+  defaults = λ kind scope name d e. e;
+  more = λ kind. omega arith;
+  as_many = λ kind e. refl;
+  parents = same_scopes s.scopes;
+}
 
 pub opened : (scope : ℕ) (parent : Option ℕ) (s : State) → OverridesStay s (scope_opened scope parent s)
-opened scope parent s = record { lines = stays s.lines; defaults = λ kind scope name d e. e }
+opened scope parent s = record {
+  lines = stays s.lines;
+  defaults = λ kind scope name d e. e;
+  more = λ kind. omega arith;
+  as_many = λ kind e. refl;
+  parents = opened_stays s.scopes scope parent;
+}
 
 pub same_relations : (r : Related) → RelationsGoOn r r
 same_relations r = record {
@@ -41,6 +57,11 @@ pub overrides_on : {r s t : State} → OverridesStay r s → OverridesStay s t �
 overrides_on f g = record {
   lines = further f.lines g.lines;
   defaults = λ kind scope name d e. g.defaults kind scope name d (f.defaults kind scope name d e);
+  more = λ kind. let x = f.more kind in let y = g.more kind in omega (arith, x, y);
+  as_many = λ kind e.
+      let x = f.more kind in let y = g.more kind in
+      g.as_many kind (omega (arith, x, y, e)) ∙ f.as_many kind (omega (arith, x, y, e));
+  parents = scopes_on f.parents g.parents;
 }
 
 relations_on : {r s t : Related} → RelationsGoOn r s → RelationsGoOn s t → RelationsGoOn r t
@@ -57,22 +78,26 @@ pub same_world : (w : World) → Extends w w
 same_world w = record {
   environment = refl;
   declarations = grows-not w.book;
+  marks = λ n is. is;
   scopes = all_kept w.scopes.scopes;
   owners = same_owners w.owners;
   overrides = same_overrides w.overrides;
   relations = same_relations w.relations;
   log = stays w.log;
+  placed = λ p. p;
 }
 
 pub extends_on : (a b c : World) → Extends a b → Extends b c → Extends a c
 extends_on a b c f g = record {
   environment = g.environment ∙ f.environment;
   declarations = grows-on f.declarations g.declarations;
+  marks = λ n is. g.marks n (f.marks n is);
   scopes = all_kept_on a.scopes.scopes b.scopes.scopes c.scopes.scopes f.scopes g.scopes;
   owners = record { main = g.owners.main ∙ f.owners.main; others = further f.owners.others g.owners.others };
   overrides = overrides_on f.overrides g.overrides;
   relations = relations_on f.relations g.relations;
   log = further f.log g.log;
+  placed = λ p. g.placed (f.placed p);
 }
 
 -- ---- one table changes
@@ -81,73 +106,89 @@ pub scopes_kept : (w : World) (s : Scopes) → AreKept w.scopes.scopes s.scopes 
 scopes_kept w s kept = record {
   environment = refl;
   declarations = grows-not w.book;
+  marks = λ n is. is;
   scopes = kept;
   owners = same_owners w.owners;
   overrides = same_overrides w.overrides;
   relations = same_relations w.relations;
   log = stays w.log;
+  placed = λ p. p;
 }
 
-pub book_grows : (w : World) (book : List Row) → rows.Grows w.book book → Extends w (record w { book = book })
-book_grows w book grows = record {
+pub book_grows : (w : World) (book : List Row) → rows.Grows w.book book → MarksStay w.book book →
+    (IsPlaced w → ArePlaced w.overrides w.owners book) → Extends w (record w { book = book })
+book_grows w book grows marks placed = record {
   environment = refl;
   declarations = grows;
+  marks = marks;
   scopes = all_kept w.scopes.scopes;
   owners = same_owners w.owners;
   overrides = same_overrides w.overrides;
   relations = same_relations w.relations;
   log = stays w.log;
+  placed = placed;
 }
 
-pub overrides_grow : (w : World) (s : State) → OverridesStay w.overrides s → Extends w (record w { overrides = s })
-overrides_grow w s stay = record {
+-- the scopes among them are the same
+pub overrides_grow : (w : World) (s : State) → OverridesStay w.overrides s → s.scopes ≡ w.overrides.scopes →
+    Extends w (record w { overrides = s })
+overrides_grow w s stay same = record {
   environment = refl;
   declarations = grows-not w.book;
+  marks = λ n is. is;
   scopes = all_kept w.scopes.scopes;
   owners = same_owners w.owners;
   overrides = stay;
   relations = same_relations w.relations;
   log = stays w.log;
+  placed = λ p. same_placed w.overrides w.owners w.book p s same;
 }
 
 pub relations_grow : (w : World) (r : Related) → RelationsGoOn w.relations r → Extends w (record w { relations = r })
 relations_grow w r grow = record {
   environment = refl;
   declarations = grows-not w.book;
+  marks = λ n is. is;
   scopes = all_kept w.scopes.scopes;
   owners = same_owners w.owners;
   overrides = same_overrides w.overrides;
   relations = grow;
   log = stays w.log;
+  placed = λ p. p;
 }
 
 pub log_goes_on : (w : World) (x : LogLine) → Extends w (record w { log = w.log ++ x ∷ [] })
 log_goes_on w x = record {
   environment = refl;
   declarations = grows-not w.book;
+  marks = λ n is. is;
   scopes = all_kept w.scopes.scopes;
   owners = same_owners w.owners;
   overrides = same_overrides w.overrides;
   relations = same_relations w.relations;
   log = goes_on w.log (x ∷ []);
+  placed = λ p. p;
 }
 
 -- ---- bodies
 
--- the next owner, in a scope that is opened
-pub owner_added : (w : World) (x : Owner) (scope : ℕ) (parent : Option ℕ) →
+-- the next owner, in a scope that is opened from one that was
+pub owner_added : (w : World) (x : Owner) (parent : Option ℕ) → (IsPlaced w → IsWithin w.overrides.scopes parent) →
     Extends w (record w {
-      overrides = scope_opened scope parent w.overrides;
+      overrides = scope_opened x.scope parent w.overrides;
       owners = with_owner x w.owners;
     })
-owner_added w x scope parent = record {
+owner_added w x parent within = record {
   environment = refl;
   declarations = grows-not w.book;
+  marks = λ n is. is;
   scopes = all_kept w.scopes.scopes;
   owners = one_owner x w.owners;
-  overrides = opened scope parent w.overrides;
+  overrides = opened x.scope parent w.overrides;
   relations = same_relations w.relations;
   log = stays w.log;
+  placed = λ p. owner_placed (scope_opened x.scope parent w.overrides) w.owners w.book
+      (body_placed w.overrides w.owners w.book p x parent (within p)) x (opened_here x.scope parent w.overrides);
 }
 
 pub scope_entered : (w : World) (kind : ScopeKind) (parent : ℕ) →
@@ -160,9 +201,11 @@ pub left_again : (w v : World) (n : ℕ) → length w.scopes.scopes ≤ n → Ex
 left_again w v n past f = record {
   environment = f.environment;
   declarations = f.declarations;
+  marks = f.marks;
   scopes = kept_beside n (slice_get v.scopes.scopes n) w.scopes.scopes v.scopes.scopes past f.scopes;
   owners = f.owners;
   overrides = f.overrides;
   relations = f.relations;
   log = f.log;
+  placed = f.placed;
 }

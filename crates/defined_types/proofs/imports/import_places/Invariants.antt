@@ -9,6 +9,7 @@ invariant-loop-left l =
     (take_imports l.collector l.before (all_placed_at l.sets l.places) l.fn.evaluator.world
     ≡ take_imports l.collector l.added (all_placed_at l.sets l.left) l.evaluator.world)
     × (l.evaluator.node ≡ l.fn.evaluator.node)
+    × (l.evaluator.looks ≡ l.fn.evaluator.looks)
 
 abbrev pub decreases-loop-left : goal.decreases-loop-left
 decreases-loop-left l = length l.left

@@ -1,5 +1,5 @@
-use Rattle.world_laws.proofs.OfRounds.{round_grows, rounds_grow}
-use Rattle.world_laws.proofs.growth.rounds_only_add.Goals as goal
+use Rattle.defined_types.proofs.OfRounds.{round_grows, rounds_grow}
+use Rattle.round_laws.proofs.rounds.rounds_only_add.Goals as goal
 
 pub returns-clause-one : goal.returns-clause-one
 returns-clause-one c = round_grows

@@ -4,7 +4,7 @@ use Rattle.export_store.specs.ExportQueries.{Placed}
 use Rattle.export_store.specs.Sets.{Sets}
 use Rattle.eval_world.specs.Outcomes.{Step}
 use Rattle.eval_collecting.specs.Importing.{imports}
-use Rattle.defined_types.specs.Rounds.{take_from, take_imports, import_kind}
+use Rattle.defined_types.specs.Rounds.{take_from, take_imports, import_all, import_kind}
 use Rattle.defined_types.specs.Rounds.{collector_turn, turns_from, pending, run_instances, round, again}
 use Rattle.defined_types.specs.Rounds.{rounds_left, rounds, limit}
 use Rattle.world_laws.specs.Growing.{Grows}
@@ -31,13 +31,17 @@ import_kind_grows : (c : ℕ) (added : Bool) (kind : Option (List ℕ)) (node : 
 import_kind_grows c added None node sets = pure_grows
 import_kind_grows c added (Some kind) node sets = imports_grow c added _
 
+pub import_all_grows : (c : ℕ) (added : Bool) (node : List ℕ) (sets : Sets) → Grows (import_all c added node sets)
+import_all_grows c added node sets =
+    told (λ w. import_kind c added (imports w c) node sets) (λ w. import_kind_grows c added _ node sets)
+
 -- ---- collectors
 
 turn_grows : (c : ℕ) (node : List ℕ) (sets : Sets) → Grows (collector_turn c node sets)
 unfolding collector_turn
 turn_grows c node sets =
-    and_then (told (λ w. take_from c false 0 (length w.book)) (λ w. takes_grow c false 0 _)) (λ added.
-    told (λ w. import_kind c added (imports w c) node sets) (λ w. import_kind_grows c added _ node sets))
+    and_then (told (λ w. take_from c false 0 (length w.book)) (λ w. takes_grow c false 0 _))
+    (λ added. import_all_grows c added node sets)
 
 turns_grow : (added : Bool) (c left : ℕ) (node : List ℕ) (sets : Sets) → Grows (turns_from added c left node sets)
 unfolding turns_from
@@ -47,7 +51,7 @@ turns_grow added c (suc left) node sets =
 
 -- ---- instances
 
-instances_grow : (added : Bool) (ns : List ℕ) → Grows (run_instances added ns)
+pub instances_grow : (added : Bool) (ns : List ℕ) → Grows (run_instances added ns)
 unfolding run_instances
 instances_grow added [] = pure_grows
 instances_grow added (n ∷ ns) = and_then (instance_at_grows n 1) (λ u. instances_grow true ns)

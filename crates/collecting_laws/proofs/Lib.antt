@@ -1,0 +1,5 @@
+mod Attributes
+pub mod Looking
+pub mod Importing
+pub mod Elsewhere
+pub mod Noting

@@ -1,0 +1,8 @@
+mod SameValues
+mod SameSets
+mod Rules
+mod Exact
+mod First
+mod Kept
+mod Looking
+mod Examples

@@ -1,0 +1,9 @@
+use export_store::version::Version;
+use std::sync::Arc;
+
+/// What some entries come to: the site in force and the exported sets after them.
+#[derive(Drop)]
+pub struct Stage<S> {
+    pub site: Arc<S>,
+    pub version: Version,
+}

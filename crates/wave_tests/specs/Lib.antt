@@ -1,0 +1,2 @@
+-- What the tests speak of: Samples
+pub mod Samples

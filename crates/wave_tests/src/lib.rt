@@ -1,0 +1,5 @@
+//! The tests of runs by waves.
+#![tactic(auto)]
+
+#[cfg(test)]
+mod waves;

@@ -1,0 +1,15 @@
+pub mod ApartLemmas
+pub mod ApplyLemmas
+pub mod BackLemmas
+mod Examples
+pub mod FairRuns
+pub mod FiledLemmas
+pub mod LocalTurns
+pub mod Sent
+pub mod SerialRuns
+pub mod ShareLemmas
+pub mod SortLemmas
+pub mod TakingLemmas
+pub mod WaveLemmas
+pub mod WideFair
+pub mod WideLaw

@@ -1,0 +1,5 @@
+use Rattle.wide_apply.proofs.WideLaw.{waves_are_the_run as law}
+use Rattle.wide_apply.proofs.laws.waves_are_the_run.Goals as goal
+
+pub returns : goal.returns
+returns c = law

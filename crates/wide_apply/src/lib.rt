@@ -1,0 +1,17 @@
+//! A catalog is applied to a machine by waves: all resources that are ready have their turns at once.
+#![tactic(auto)]
+
+mod apart_turn;
+mod applying;
+mod back;
+mod begun;
+mod filed;
+mod laws;
+mod share;
+mod sharing;
+mod taken_turn;
+mod taking;
+mod waves;
+
+pub use applying::run_wide;
+pub use laws::waves_are_the_run;

@@ -1,0 +1,14 @@
+mod EntriesBack
+mod Examples
+mod ExportsBack
+mod ItemSteps
+mod JournalsApart
+mod JournalsRead
+mod LineTexts
+mod LinesRead
+mod MemberSteps
+mod Ordered
+mod ReportsWithin
+mod SitesBack
+mod Steps
+mod TextCuts

@@ -1,0 +1,11 @@
+-- The attributes that are left, behind those that were found, give what all give.
+use Rattle.std.proofs.Common.{◌≡◌, ◌++◌, option_map}
+use Rattle.serde_json.specs.View.{members_view}
+use Rattle.res_core.specs.AttributeViews.{settings}
+use Rattle.journal_reading.specs.EntryReading.{settings_said}
+use Rattle.journal_reading.proofs.exports.settings_said.Given as goal
+
+abbrev pub invariant-loop-name : goal.invariant-loop-name
+invariant-loop-name l =
+    option_map (λ after. settings l.items.items ++ after) (settings_said (members_view l.name-iterator))
+    ≡ settings_said (members_view l.members.entries)

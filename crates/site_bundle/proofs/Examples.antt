@@ -10,7 +10,7 @@ use Rattle.site_bundle.specs.SiteView.{SiteView, facts_for, main_text, text_at, 
 use Rattle.site_bundle.specs.Given.{are_distinct, has_main, is_manifest_path}
 use Rattle.site_bundle.specs.declared.limits.TheConstants.{MOST_BUNDLE_BYTES, MOST_FILES, MOST_FILE_BYTES, MOST_NAME_CHARACTERS, MOST_REQUESTS}
 use Rattle.site_bundle.specs.Refusals.{not_json, bad_shape, too_large, result_and_then}
-use Rattle.site_bundle.specs.Bundles.{bundle_of, site_said}
+use Rattle.site_bundle.specs.Bundles.{bundle_of, site_said, request_list}
 use Rattle.site_bundle.specs.Files.{content_of, has_room, with_file, with_files}
 use Rattle.site_bundle.specs.Keeping.{with_text}
 use Rattle.site_bundle.specs.Machines.{no_machine}
@@ -236,6 +236,16 @@ no_sites : (site_said (codes "[]") ≡ Err (bad_shape (codes "files")))
 unfolding bundle_on_literals with_files
 no_sites = (refl, refl, refl, refl, refl)
 
+-- ---- requests by themselves
+
+lists : (request_list (codes " [{\"deactivate\":\"a\"}]\n") ≡ Ok (deactivate (codes "a") ∷ []))
+    × (request_list (codes "[]") ≡ Ok [])
+    × (request_list (codes "{}") ≡ Err (bad_shape (codes "requests")))
+    × (request_list [] ≡ Err (bad_shape (codes "requests")))
+    × (request_list (codes "[{\"deactivate\":\"a\"},{}]") ≡ Err (bad_shape (codes "requests.1")))
+unfolding request_list bundle_on_literals
+lists = (refl, refl, refl, refl, refl)
+
 empty_name : is_node_name [] ≡ false
 empty_name = refl
 
@@ -306,7 +316,8 @@ given : (are_distinct {X = ℕ} ((codes "a", 0) ∷ (codes "b", 0) ∷ []) ≡ t
     × (is_manifest_path (codes "data/common.json") ≡ false)
 given = (refl, refl, refl, refl, refl, refl, refl, refl)
 
--- how much a bundle may be: 64 MiB, 4 MiB a file, 65,536 files, 1,048,576 requests; and the name of a node: 255 characters
+-- how much a bundle may be: 64 MiB, 4 MiB a file, 65,536 files, 1,048,576 requests; and the name of a node: 255
+-- characters
 limits : (MOST_BUNDLE_BYTES ≡ 64 * 1024 * 1024) × (MOST_FILE_BYTES ≡ 4 * 1024 * 1024)
     × (MOST_FILES ≡ 65536) × (MOST_REQUESTS ≡ 1024 * 1024) × (MOST_NAME_CHARACTERS ≡ 255)
 limits = (refl, refl, refl, refl, refl)

@@ -6,6 +6,7 @@ mod NodeSteps
 pub mod FactSteps
 mod FileSteps
 mod RequestSteps
+mod Lists
 mod GatherSteps
 mod WalkSteps
 mod FolderSteps

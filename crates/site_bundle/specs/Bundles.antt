@@ -4,13 +4,14 @@ use Rattle.serde_json.specs.Data.{Data}
 use Rattle.serde_json.specs.Find.{get, as_number, as_u64}
 use Rattle.site_bundle.specs.declared.bundle.Bundle.{Bundle}
 use Rattle.site_bundle.specs.declared.kept_files.KeptFiles.{KeptFiles}
-use Rattle.site_bundle.specs.Refusals.{Refusal, bad_shape, result_and_then}
-use Rattle.site_bundle.specs.Documents.{document_of}
+use Rattle.site_bundle.specs.Refusals.{Refusal, not_json, bad_shape, too_large, result_and_then}
+use Rattle.site_bundle.specs.Documents.{document_of, json_of}
 use Rattle.site_bundle.specs.Files.{files_of}
 use Rattle.site_bundle.specs.Nodes.{nodes_of}
 use Rattle.site_bundle.specs.SiteView.{SiteView, Listed}
 use Rattle.site_bundle.specs.Machines.{machine_of}
-use Rattle.site_bundle.specs.RequestsOf.{requests_of}
+use Rattle.site_bundle.specs.RequestsOf.{all_asked_in, requests_of}
+use Rattle.res_core.specs.Asked.{Asked}
 
 abbrev pub is_one : Option ℕ → Bool
 is_one None = false
@@ -45,3 +46,14 @@ bundle_of bytes = result_and_then bundle_in (document_of bytes)
 -- other members count.
 unfoldable pub site_said : List ℕ → Result SiteView Refusal
 site_said bytes = result_and_then site_in (document_of bytes)
+
+-- what is no JSON is no list of requests
+abbrev pub list_or : Result Data Refusal → Result Data Refusal
+list_or (Ok d) = Ok d
+list_or (Err not_json) = Err (bad_shape (codes "requests"))
+list_or (Err (bad_shape path)) = Err (bad_shape path)
+list_or (Err (too_large path)) = Err (too_large path)
+
+-- the requests that the bytes say, or the first thing that is wrong with them: a list as `requests` of a bundle is one
+unfoldable pub request_list : List ℕ → Result (List Asked) Refusal
+request_list bytes = result_and_then all_asked_in (list_or (json_of bytes))

@@ -2,20 +2,22 @@
 ghost use Rattle.std.specs.Prelude.{◌≡◌, ◌≤◌, length, IfOk, IsTrue};
 ghost use Rattle.serde_json.specs.View.{view};
 ghost use Rattle.site_bundle.specs.declared.limits.TheConstants.{MOST_REQUESTS};
-ghost use Rattle.site_bundle.specs.Refusals.{Reads};
+ghost use Rattle.site_bundle.specs.Documents.{json_of};
+ghost use Rattle.site_bundle.specs.Refusals.{Reads, ReadsAs};
 ghost use Rattle.res_core.specs.AskedFacts.{give_facts};
-ghost use Rattle.site_bundle.specs.Bundles.{is_bundle, site_in, members_of, bundle_in, bundle_of, site_said};
+ghost use Rattle.site_bundle.specs.Bundles.{is_bundle, site_in, members_of, bundle_in, bundle_of, site_said, list_or, request_list};
 
 use crate::bundle::Bundle;
 use crate::bundle_stop::BundleStop;
-use crate::document::read_document;
+use crate::document::{parse, read_document};
 use crate::files::read_files;
 use crate::kept_files::KeptFiles;
 use crate::machines::read_machine;
 use crate::nodes::read_nodes;
 use crate::refusing::bad_shape;
-use crate::requests::read_requests;
+use crate::requests::{listed_in, read_requests};
 use crate::site::{Site, site_with};
+use res_core::requests::Requests;
 use serde_json::Value;
 use std::alloc::Global;
 
@@ -86,4 +88,27 @@ pub fn read_site_text(alloc: Global, bytes: &[u8]) -> Result<Site, BundleStop>
 {
     let document = read_document(alloc, bytes)?;
     site_in(alloc, &document)
+}
+
+/// The requests that these bytes say, or the first thing that is wrong with them: a JSON list as `requests` of a bundle
+/// is one.
+#[tactic(auto, unfolding(crate::specs::Bundles::request_list))]
+pub fn read_request_list(alloc: Global, bytes: &[u8]) -> Result<Requests, BundleStop>
+    ensures requests { Reads result (request_list bytes.now) }
+    ensures facts { IfOk result (λ rs. IsTrue (give_facts rs)) }
+    ensures few { IfOk result (λ rs. length rs ≤ MOST_REQUESTS) }
+{
+    let list = parse_list(alloc, bytes)?;
+    listed_in(alloc, &list)
+}
+
+/// The JSON that the bytes are; what is none is no list of requests.
+fn parse_list(alloc: Global, bytes: &[u8]) -> Result<Value, BundleStop>
+    ensures { ReadsAs view result (list_or (json_of bytes.now)) }
+{
+    match parse(alloc, bytes) {
+        Ok(json) => Ok(json),
+        Err(BundleStop::NotJson) => Err(bad_shape(alloc, "requests")),
+        Err(_) => Err(BundleStop::Memory),
+    }
 }

@@ -27,9 +27,18 @@ pub fn read_requests(alloc: Global, bundle: &Value) -> Result<Requests, BundleSt
     ensures few { IfOk result (λ rs. length rs ≤ MOST_REQUESTS) }
 {
     match bundle.get("requests") {
-        Some(requests) => all_asked_in(alloc, requests),
+        Some(requests) => listed_in(alloc, requests),
         None => Ok(Requests::new(alloc)),
     }
+}
+
+/// What a list of requests asks for.
+pub fn listed_in(alloc: Global, requests: &Value) -> Result<Requests, BundleStop>
+    ensures requests { Reads result (all_asked_in (view requests.now)) }
+    ensures facts { IfOk result (λ rs. IsTrue (give_facts rs)) }
+    ensures few { IfOk result (λ rs. length rs ≤ MOST_REQUESTS) }
+{
+    all_asked_in(alloc, requests)
 }
 
 fn all_asked_in(alloc: Global, requests: &Value) -> Result<Requests, BundleStop>

@@ -7,6 +7,7 @@ use Rattle.serde_json.specs.Data.{Data, Members, no_members, member, put, string
 use Rattle.serde_json.specs.View.{items_of}
 use Rattle.serde_json.specs.Written.{has_float, members_have_float}
 use Rattle.pp_values.specs.Datum.{Datum}
+use Rattle.res_core.specs.declared.export_set.ExportSet.{ExportSet}
 use Rattle.res_core.specs.declared.exported.Exported.{Exported}
 use Rattle.agent_machine.specs.declared.report.Report.{Report}
 use Rattle.site_core.specs.Events.{Event, opens, publishes, adds}
@@ -18,7 +19,7 @@ use Rattle.site_bundle.specs.SiteView.{SiteView, Filed}
 use Rattle.site_docs.specs.SiteText.{site_object, file_settings, site_data}
 use Rattle.agent_docs.specs.ReportText.{report_data}
 use Rattle.agent_docs.proofs.ReportFloats.{report_no_float}
-use Rattle.site_docs.specs.JournalText.{export_object, export_data, opening_object, publication_object, deactivation_object, deployment_object, filing_object, count_object, plain_data, entry_data}
+use Rattle.site_docs.specs.JournalText.{export_object, export_data, set_data, opening_object, publication_object, deactivation_object, deployment_object, filing_object, count_object, plain_data, entry_data}
 use Rattle.site_docs.specs.ReplyText.{refused_object, full_object, ahead_object, unknown_object, deactivated_object, deployed_object, reported_object, memory_object}
 
 or_first : (a b : Bool) → (a || b) ≡ false → a ≡ false
@@ -59,6 +60,9 @@ export_no_float : (e : Exported) → has_float (export_data e) ≡ false
 unfolding export_data export_object
 export_no_float e = either _ _ (settings_no_float e.item.attributes)
     (either _ _ (all_no_float string (λ t. refl) e.item.tags) refl)
+
+pub set_no_float : (set : ExportSet) → has_float (set_data set) ≡ false
+set_no_float set = all_no_float export_data export_no_float set.items
 
 opening_no_float : (n : ℕ) (s : SiteView) → has_float (opening_object n (site_data s)) ≡ false
 unfolding opening_object

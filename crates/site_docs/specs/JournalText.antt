@@ -5,6 +5,8 @@ use Rattle.std.specs.Prelude.{ℕ, ◌+◌, List, [], ◌∷◌, ◌++◌, lengt
 use Rattle.serde_json.specs.Data.{Data, string, array, object, no_members, member}
 use Rattle.serde_json.specs.View.{items_of}
 use Rattle.pp_values.specs.Words.{kind_text}
+use Rattle.serde_json.specs.Written.{compact_text}
+use Rattle.res_core.specs.declared.export_set.ExportSet.{ExportSet}
 use Rattle.res_core.specs.declared.exported.Exported.{Exported}
 use Rattle.site_core.specs.Events.{Event, opens, publishes, adds}
 use Rattle.site_core.specs.declared.plain.Plain.{Plain}
@@ -30,6 +32,10 @@ export_data e =
     export_object (place_text e.node_place) (object (setting_members e.item.attributes))
     (array (items_of (map string e.item.tags)))
     e.item.title (kind_text e.item.kind)
+
+-- what a node exports
+abbrev pub set_data : ExportSet → Data
+set_data set = array (items_of (map export_data set.items))
 
 -- an entry that opens a site; 2 is the version of this form
 unfoldable pub opening_object : ℕ → Data → Data
@@ -101,3 +107,7 @@ entry_lines n (e ∷ es) = line (entry_data n e) ++ entry_lines (n + 1) es
 
 abbrev pub journal_text : List (Event SiteView) → List ℕ
 journal_text h = entry_lines 0 h ++ line (count_object (length h))
+
+-- the text of a set, as its publication has it
+abbrev pub set_text : ExportSet → List ℕ
+set_text set = compact_text (set_data set)

@@ -10,14 +10,14 @@ ghost use Rattle.json_documents.specs.Tokens.{line};
 ghost use Rattle.site_docs.specs.FaultText.{place_text as text_of_place};
 ghost use Rattle.agent_docs.specs.ReportText.{report_data};
 ghost use Rattle.site_docs.specs.SiteText.{site_data};
-ghost use Rattle.site_docs.specs.JournalText.{export_object as object_of_export, export_data, opening_object as object_of_opening, publication_object as object_of_publication, deactivation_object as object_of_deactivation, deployment_object as object_of_deployment, filing_object as object_of_filing, count_object as object_of_count, entry_data, entry_lines, journal_text};
+ghost use Rattle.site_docs.specs.JournalText.{export_object as object_of_export, export_data, opening_object as object_of_opening, publication_object as object_of_publication, deactivation_object as object_of_deactivation, deployment_object as object_of_deployment, filing_object as object_of_filing, count_object as object_of_count, entry_data, entry_lines, journal_text, set_data, set_text};
 
 use crate::fault_texts::write_place;
 use crate::resource_forms::attributes_form;
 use crate::site_texts::site_form;
 use agent_docs::report_form;
 use agent_machine::Report;
-use json_documents::text_forms;
+use json_documents::{json_text, text_forms};
 use json_values::value_forms::value_form;
 use pp_values::memory::Memory;
 use pp_values::place::Place;
@@ -258,6 +258,21 @@ fn filing_object(
         "node": node,
         "report": report
     })
+}
+
+/// What a node exports, as its entry in a journal has it, without a line feed.
+#[tactic(auto, using(crate::proofs::Floats::set_no_float))]
+pub fn set_text(alloc: Global, set: &ExportSet) -> Result<Text, Memory>
+    ensures { IfOk result (λ t. t ≡ set_text set.now) }
+{
+    let form = set_form(alloc, set)?;
+    json_text(alloc, &form)
+}
+
+fn set_form(alloc: Global, set: &ExportSet) -> Result<Json, Memory>
+    ensures { IfOk result (λ j. json_view j ≡ set_data set.now) }
+{
+    Ok(Json::Array(export_forms(alloc, set.items.as_slice())?))
 }
 
 fn export_forms(alloc: Global, exports: &[Exported]) -> Result<Vec<Json>, Memory>

@@ -17,7 +17,7 @@ pub use agent_docs::{
 pub use catalog_texts::{catalog_text, catalogs_are_told_apart, write_catalog};
 pub use fault_names::FAULT_NAMES;
 pub use fault_texts::{fault_text, write_fault};
-pub use journals::write_journal;
+pub use journals::{set_text, write_journal};
 pub use log_texts::log_text;
 pub use replies::write_reply;
 pub use site_texts::site_text;

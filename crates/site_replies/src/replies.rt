@@ -48,6 +48,13 @@ impl<L: Language> Replies<L> {
         self.items.as_slice()
     }
 
+    /// Takes the replies out.
+    pub fn into_vec(self) -> Vec<Reply<L>>
+        ensures { result.items ≡ self }
+    {
+        self.items
+    }
+
     /// Appends a reply. Where there is no memory, the list stays as it was.
     pub fn push(&mut self, item: Reply<L>) -> Result<(), Memory>
         ensures { self.new ≡ (if is_ok result then self.old ++ item ∷ [] else self.old) }

@@ -10,6 +10,8 @@ use Rattle.pp_values.specs.declared.fault.What.TheVariants.{Failed, LookupMissin
 use Rattle.pp_values.specs.declared.place.TheConstants.{MAIN_MANIFEST}
 use Rattle.res_core.specs.declared.catalog.Catalog.{Catalog}
 use Rattle.res_core.specs.declared.held.Held.{Held}
+use Rattle.history_audit.specs.declared.verdict.Part.TheVariants as part
+use Rattle.history_audit.specs.declared.verdict.Verdict.TheVariants as v
 use Rattle.site_bundle.specs.SiteView.{SiteView}
 use Rattle.site_core.specs.declared.reply.ReplyOf.TheVariants as r
 use Rattle.serde_json.proofs.OnLiterals.{serde_json_on_literals}
@@ -19,6 +21,7 @@ use Rattle.site_docs.specs.LogText.{log_text}
 use Rattle.compile_core.specs.Puppet.{puppet}
 use Rattle.command_outputs.specs.Checks.{count_line, fault_lines, faults_among, read_as}
 use Rattle.command_outputs.specs.Demo.{demo_name, demo_ip, demo_facts, demo_nodes, demo_site, demo_request, once_each, demo_requests, held_in_all, summary_lines, summary_text, served_in_all}
+use Rattle.command_outputs.specs.Journals.{verdict_output, migrated_output}
 use Rattle.command_outputs.specs.Lines.{line}
 use Rattle.command_outputs.specs.Nodes.{unknown, faulty, catalog_made, node_meaning}
 use Rattle.command_outputs.specs.Outputs.{checked_by, checked_output, compiled_output, node_output, output_meant, output_of, value_output}
@@ -157,6 +160,17 @@ refusals : (output_of (served_and (r.Refused 2 (codes "bad"))) (codes "x") ≡ a
     × (output_of (served_and r.Memory) (codes "x") ≡ a.Short (codes "x"))
     × (output_of (r.UnknownNode 1 ∷ served_and r.Memory) (codes "x") ≡ a.Short (codes "x"))
 refusals = (refl, refl, refl, refl, refl, refl, refl, refl, refl)
+
+-- ---- journals
+
+-- a history that isn't legal is a refusal
+verdicts : (verdict_output (v.Legal 6) ≡ a.Done (codes "legal 6\n"))
+    × (verdict_output (v.Broken 2 part.Set) ≡ a.Refused (codes "entry 2 set\n"))
+    × (output_status (verdict_output (v.Legal 6)) ≡ 0)
+    × (output_status (verdict_output (v.Broken 0 part.Call)) ≡ 1)
+    × (output_status (migrated_output []) ≡ 0)
+unfolding digits
+verdicts = (refl, refl, refl, refl, refl)
 
 -- ---- the demo
 

@@ -6,12 +6,13 @@ use Rattle.res_core.specs.declared.catalog.Catalog.{Catalog}
 use Rattle.res_core.specs.Asked as requests
 use Rattle.site_core.specs.declared.history.TheConstants.{MOST_ENTRIES}
 use Rattle.site_core.specs.Asked.{all_asks}
-use Rattle.site_core.specs.Events.{opens}
+use Rattle.site_core.specs.Events.{Event, opens}
 use Rattle.site_bundle.specs.SiteView.{SiteView}
 use Rattle.site_bundle.specs.declared.bundle.Bundle.{Bundle}
 use Rattle.site_sequence.specs.Sequence.{Outcome, outcome_of}
 use Rattle.compile_core.specs.Puppet.{puppet, listed}
 use Rattle.command_outputs.specs.Demo.{demo_site, demo_requests, summary_text}
+use Rattle.command_outputs.specs.Journals.{audited_output, migrated_output}
 use Rattle.command_outputs.specs.Outputs.{manifest_output, checked_output, compiled_output, looked_up_output, output_of, run_text}
 use Rattle.command_outputs.specs.declared.output.Output.{Output}
 use Rattle.command_outputs.specs.declared.output.Output.TheVariants as a
@@ -63,3 +64,11 @@ summary_status nodes None = 16
 abbrev pub demo_status : ℕ → ℕ
 demo_status nodes = summary_status nodes
     (outcome_of puppet listed MOST_ENTRIES (opens (demo_site nodes) ∷ []) (all_asks (demo_requests nodes)))
+
+-- `audit`: 0 where the history is legal, 1 where it isn't
+abbrev pub audit_status : List (Event SiteView) → ℕ
+audit_status history = output_status (audited_output history)
+
+-- `migrate`: 0
+abbrev pub migrate_status : List (Event SiteView) → ℕ
+migrate_status history = output_status (migrated_output history)

@@ -1,6 +1,7 @@
 //! What each command gives for its input: the texts that are to be written, and by them the status.
 #![tactic(auto)]
 
+mod audit;
 mod batch;
 mod check;
 mod compile;
@@ -10,12 +11,14 @@ pub mod demo_site;
 mod lines;
 mod lookup;
 mod manifest;
+mod migrate;
 mod node_catalog;
 pub mod node_stop;
 pub mod output;
 mod replies;
 mod sequence;
 
+pub use audit::audit_output;
 pub use batch::batch_output;
 pub use check::check_output;
 pub use compile::{compile_output, refuse_node};
@@ -23,6 +26,7 @@ pub use demo::demo_output;
 pub use lines::line;
 pub use lookup::lookup_output;
 pub use manifest::manifest_output;
+pub use migrate::migrate_output;
 pub use node_catalog::compile_node;
 pub use node_stop::NodeStop;
 pub use output::Output;

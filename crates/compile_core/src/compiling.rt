@@ -3,6 +3,7 @@ ghost use Rattle.compile_core.specs.Meaning as spec;
 ghost use Rattle.eval_world.specs.Outcomes.{Gives, nothing};
 ghost use Rattle.pp_values.specs.Answers.{Answers};
 ghost use Rattle.pp_values.specs.Views.{view};
+ghost use Rattle.world_laws.specs.Extends.{IsPlaced};
 
 use catalog_finish::finish;
 use class_eval::Evaluator;
@@ -67,6 +68,8 @@ fn complete(
     node: &Text,
     sets: &Version,
 ) -> Result<(Catalog, ExportSet), Stop>
+    // Each scope was opened after its dynamic parent, as rounds ask it.
+    requires { IsPlaced evaluator.world }
     ensures { Answers result (spec.ended node.now (spec.evaluated evaluator.entry.world.environment
         evaluator.entry.node node.now sets.now evaluator.entry.world)) }
 {
@@ -80,6 +83,7 @@ fn evaluate(
     node: &Text,
     sets: &Version,
 ) -> Result<(), Stop>
+    requires { IsPlaced evaluator.old.world }
     ensures { Gives nothing (spec.evaluated evaluator.old.world.environment evaluator.old.node node.now sets.now
         evaluator.old.world) result evaluator.new.world }
 {

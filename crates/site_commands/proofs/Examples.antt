@@ -9,7 +9,7 @@ use Rattle.site_serve.specs.declared.conn_end.ConnEnd.TheVariants as c
 use Rattle.site_service.specs.declared.service_stop.ServiceStop.TheVariants as s
 use Rattle.site_words.specs.Asked as a
 use Rattle.site_commands.specs.Applying.{ending_by}
-use Rattle.site_commands.specs.Inputs.{bundle, folder, reading_of, stop_text, stop_ending, whole_of}
+use Rattle.site_commands.specs.Inputs.{bundle, folder, journal, reading_of, line_behind, stop_text, stop_ending, whole_of}
 use Rattle.site_commands.specs.Serving.{connection_line, end_lines, service_ending}
 use Rattle.site_commands.specs.declared.ending.Ending.TheVariants as e
 use Rattle.site_commands.specs.declared.input.InputStop.TheVariants as i
@@ -28,6 +28,21 @@ tree_told = refl
 
 tree_ends : stop_ending (i.Refused (b.TreeFault (codes "d/data/"))) ≡ e.TreeFault
 tree_ends = refl
+
+from_journal : reading_of a.migrate ≡ journal
+from_journal = refl
+
+bad_line_told : stop_text (whole_of a.audit) (i.BadLine (codes "3")) ≡ codes "bad line 3"
+bad_line_told = refl
+
+too_many_told : stop_text (whole_of a.audit) i.TooManyEntries ≡ codes "B3 journal"
+too_many_told = refl
+
+no_journal_ends : stop_ending (i.BadLine (codes "3")) ≡ e.BadInput
+no_journal_ends = refl
+
+third_line : line_behind (codes "a\nb\nc") ≡ 3
+third_line = refl
 
 changed_alone : ending_by true false ≡ e.Changed
 changed_alone = refl

@@ -19,7 +19,7 @@ use Rattle.site_commands.proofs.Served.{served_net, served_sinks}
 use Rattle.site_commands.specs.Applying.{ending_by, AppliesCatalog, AppliesMeant}
 use Rattle.site_commands.proofs.Decoding.{ending_of, ending-is}
 use Rattle.site_commands.specs.Endings.{Ends, HasEnded, HasStopped, HasWorked, Works}
-use Rattle.site_commands.specs.Inputs.{Reading, nothing, manifest, bundle, folder, Input, site, reading_of, HasStoppedBy, stop_ending}
+use Rattle.site_commands.specs.Inputs.{Reading, nothing, manifest, bundle, folder, journal, Input, site, reading_of, HasStoppedBy, stop_ending}
 use Rattle.site_commands.specs.Work.{Delivers}
 use Rattle.site_commands.specs.World.{World}
 use Rattle.site_commands.specs.declared.ending.Ending.{Ending}
@@ -39,6 +39,8 @@ read_rose (i.Refused (b.BadShape path)) from s s' f f' is did = cc
 read_rose (i.Refused (b.TooLarge path)) from s s' f f' is did = cc
 read_rose (i.Refused (b.TreeFault path)) from s s' f f' is did = cc
 read_rose (i.Refused b.Memory) from s s' f f' is did = cc
+read_rose (i.BadLine number) from s s' f f' is did = cc
+read_rose i.TooManyEntries from s s' f f' is did = cc
 
 -- ---- the tree
 
@@ -54,7 +56,10 @@ tree_rose (i.Refused (b.TreeFault path)) nothing s s' f f' is did = absurd did
 tree_rose (i.Refused (b.TreeFault path)) manifest s s' f f' is did = absurd did
 tree_rose (i.Refused (b.TreeFault path)) bundle s s' f f' is did = absurd did.0.refuses
 tree_rose (i.Refused (b.TreeFault path)) (folder dir) s s' f f' is did = did.1.ends.1
+tree_rose (i.Refused (b.TreeFault path)) journal s s' f f' is did = absurd did.0.wrong
 tree_rose (i.Refused b.Memory) from s s' f f' is did = cc
+tree_rose (i.BadLine number) from s s' f f' is did = cc
+tree_rose i.TooManyEntries from s s' f f' is did = cc
 
 -- ---- out and err
 

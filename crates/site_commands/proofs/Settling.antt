@@ -21,8 +21,9 @@ use Rattle.site_commands.proofs.Told.{input-told, stop-told, IsRefusal}
 use Rattle.site_commands.proofs.Worked.{ending-delivers, ending-writes, output_ending}
 use Rattle.site_commands.specs.Applying.{ending_by, report_ending, TellsReport, HasRunLoaded, AppliesCatalog, AppliesMeant, Applies}
 use Rattle.site_commands.specs.Endings.{Ends, HasEnded, HasStopped, HasWorked, IsComplaint, Works}
-use Rattle.site_commands.specs.Inputs.{Input, none, bytes, site, reading_of}
-use Rattle.site_commands.specs.Settled.{input_told, IsApplyStatus, IsReportStatus, HasCycle, IsWorkStatus, IsStatusFor, IsFaultStatus, IsSettled}
+use Rattle.site_commands.proofs.Journals.{IsOfJournal, had_said, left_said, stop_said}
+use Rattle.site_commands.specs.Inputs.{Input, none, bytes, site, history, reading_of, IsSaidBy, HasReadSaid}
+use Rattle.site_commands.specs.Settled.{input_told, IsApplyStatus, IsReportStatus, HasCycle, IsWorkStatus, IsStatusFor, IsSaidStatus, IsNoneSaid, IsFaultStatus, IsSettled}
 use Rattle.site_commands.specs.Status.{status_of}
 use Rattle.site_commands.specs.Work.{IsOutput, GivesOutput, HasDelivered}
 use Rattle.site_commands.specs.World.{World}
@@ -56,6 +57,8 @@ output_means a.sequence output (site said) is = status_of-run output said is
 output_means (a.lookup node key merge dir) output (site said) is = inl (ap output_status is)
 output_means (a.demo nodes) output none is = status_of-demo nodes output is
 output_means (a.batch workers) output (site said) is = status_of-shared workers output said is
+output_means a.audit output (history h) is = inl (ap output_status is)
+output_means a.migrate output (history h) is = inl (ap output_status is)
 output_means asked output input is = absurd is
 
 IsMeant : ℕ → Asked → Input → Type 0
@@ -210,12 +213,70 @@ ends_decided e.TreeFault asked before after other did = decided_fault 15 asked b
 ends_decided e.Memory asked before after other did = decided_fault 16 asked before (inr (inr (inr (inr refl))))
 ends_decided e.BadWords asked before after other did = absurd (other (complains asked before after did))
 
+-- ---- journals
+
+-- what the source tells decides the status, where it is to say a journal
+IsSaidDecided : ℕ → Asked → World → Type 0
+IsSaidDecided status asked before =
+    IfSome before.source.left (λ said. IsSaidStatus status asked said ⊎ IsFaultStatus status)
+
+said_fault : (status : ℕ) (asked : Asked) (before : World) → IsFaultStatus status → IsSaidDecided status asked before
+unfolding IsSaidDecided
+said_fault status asked before fault =
+    IfSome-all before.source.left (λ said. IsSaidStatus status asked said ⊎ IsFaultStatus status) (λ said. inr fault)
+
+said_meant : (status : ℕ) (asked : Asked) (input : Input) (said : List ℕ) → IsSaidBy (reading_of asked) input said →
+    IsMeant status asked input → IsSaidStatus status asked said ⊎ IsFaultStatus status
+unfolding IsMeant
+said_meant status asked input said is (inl means) = inl (inl (input, (is, means)))
+said_meant status asked input said is (inr fault) = inr fault
+
+said_worked : (ending : Ending) (asked : Asked) (before after : World) → IsOfJournal (reading_of asked) →
+    HasWorked ending asked before after → IsSaidDecided (status_of ending) asked before
+unfolding IsSaidDecided
+said_worked ending asked before after of did =
+    let had : HasReadSaid (reading_of asked) did.input before.source after.source =
+    had_said (reading_of asked) did.input before.source after.source before.folder after.folder of did.read in
+    left_said before.source.left after.source.left had.bytes
+    (λ said. IsSaidStatus (status_of ending) asked said ⊎ IsFaultStatus (status_of ending)) had.read.read.left had.read.ended
+    (said_meant (status_of ending) asked did.input had.bytes had.said
+    (work_status ending asked did.input before after did.work))
+
+said_stopped : (asked : Asked) (before after : World) → IsOfJournal (reading_of asked) →
+    HasStopped e.BadInput asked before after → IsSaidDecided 11 asked before
+unfolding IsSaidDecided
+said_stopped asked before after of did =
+    IfSome-map before.source.left (IsNoneSaid (reading_of asked)) (λ said. IsSaidStatus 11 asked said ⊎ IsFaultStatus 11)
+    (stop_said did.stop (reading_of asked) before.source after.source before.folder after.folder of did.is did.read)
+    (λ said none. inl (inr (none, refl)))
+
+ends_said : (ending : Ending) (asked : Asked) (before after : World) → IsOfJournal (reading_of asked) →
+    (IsComplaint asked → ⊥) → Ends ending asked before after → IsSaidDecided (status_of ending) asked before
+ends_said e.Done asked before after of other did = said_worked e.Done asked before after of did
+ends_said e.Refused asked before after of other did = said_worked e.Refused asked before after of did
+ends_said e.Changed asked before after of other did = said_worked e.Changed asked before after of did
+ends_said e.Failed asked before after of other did = said_worked e.Failed asked before after of did
+ends_said e.ChangedAndFailed asked before after of other did = said_worked e.ChangedAndFailed asked before after of did
+ends_said e.BadInput asked before after of other (inl did) = said_stopped asked before after of did
+ends_said e.BadInput asked before after of other (inr did) = said_worked e.BadInput asked before after of did
+ends_said e.ReadFault asked before after of other did = said_fault 12 asked before (inl refl)
+ends_said e.WriteFault asked before after of other did = said_fault 13 asked before (inr (inl refl))
+ends_said e.NetFault asked before after of other did = said_fault 14 asked before (inr (inr (inl refl)))
+ends_said e.TreeFault asked before after of other did = said_fault 15 asked before (inr (inr (inr (inl refl))))
+ends_said e.Memory asked before after of other did = said_fault 16 asked before (inr (inr (inr (inr refl))))
+ends_said e.BadWords asked before after of other did = absurd (other (complains asked before after did))
+
+-- ---- words and input
+
 settles : (status : ℕ) (asked : Asked) (before : World) → ((IsComplaint asked → ⊥) → IsDecided status asked before) →
+    (IsOfJournal (reading_of asked) → (IsComplaint asked → ⊥) → IsSaidDecided status asked before) →
     (IsComplaint asked → (status ≡ 10) ⊎ (status ≡ 16)) → IsSettled status asked before
-unfolding IsDecided
-settles status a.refused before decided faulty = faulty tt
-settles status (a.bad_word word) before decided faulty = faulty tt
-settles status asked before decided faulty = decided (λ complaint. complaint)
+unfolding IsDecided IsSaidDecided
+settles status a.refused before decided said faulty = faulty tt
+settles status (a.bad_word word) before decided said faulty = faulty tt
+settles status a.audit before decided said faulty = said tt (λ complaint. complaint)
+settles status a.migrate before decided said faulty = said tt (λ complaint. complaint)
+settles status asked before decided said faulty = decided (λ complaint. complaint)
 
 -- words and input decide the status, as far as they are told
 pub ended-settled : (status : ℕ) (asked : Asked) (before after : World) → HasEnded status asked before after →
@@ -224,4 +285,6 @@ ended-settled status asked before after ended =
     settles status asked before
     (λ other. subst (λ n. IsDecided n asked before) (sym ended.is)
     (ends_decided ended.ending asked before after other ended.ends))
+    (λ of other. subst (λ n. IsSaidDecided n asked before) (sym ended.is)
+    (ends_said ended.ending asked before after of other ended.ends))
     (ended-faulty status asked before after ended)

@@ -26,14 +26,14 @@ use Rattle.site_commands.specs.declared.input.InputStop.TheVariants as i
 -- ---- bytes
 
 -- all bytes that were left are the ones read
-read_is_left : (left' : Option (List ℕ)) (input bytes : List ℕ) → left' ≡ Some [] → Consumes (Some input) left' bytes →
+pub read_is_left : (left' : Option (List ℕ)) (input bytes : List ℕ) → left' ≡ Some [] → Consumes (Some input) left' bytes →
     bytes ≡ input
 read_is_left left' input bytes ended read =
     let whole : input ≡ bytes ++ [] = subst (λ l. Consumes (Some input) l bytes) ended read in
     sym (whole ∙ append-nil bytes)
 
 -- bytes that were read were left
-left_is_longer : (left' : Option (List ℕ)) (input bytes : List ℕ) → Consumes (Some input) left' bytes →
+pub left_is_longer : (left' : Option (List ℕ)) (input bytes : List ℕ) → Consumes (Some input) left' bytes →
     length bytes ≤ length input
 left_is_longer None input bytes read = absurd read
 left_is_longer (Some rest) input bytes read =
@@ -108,6 +108,7 @@ input-told read.bundle (read.site said) before after had =
     bundle_told before.source.left after.source.left had.0.bytes (Ok said) had.0.read.read.left had.0.read.ended had.0.is
 input-told (read.folder dir) (read.site said) before after had =
     folder_told before.folder.told (site_walk dir) said had.1.ends
+input-told read.journal input before after had = tt
 input-told from input before after had = absurd had
 
 -- ---- what was not had
@@ -157,6 +158,7 @@ stop-told (i.Unread r.TooLong) read.manifest before after is did =
 stop-told (i.Unread r.TooLong) read.bundle before after is did =
     bundle_long before.source.left after.source.left did.1.0.bytes did.1.0.read.left did.1.0.long
 stop-told (i.Unread r.TooLong) (read.folder dir) before after is did = absurd did.0
+stop-told (i.Unread r.TooLong) read.journal before after is did = tt
 stop-told (i.Refused why) read.nothing before after is did = absurd did
 stop-told (i.Refused why) read.manifest before after is did = absurd did
 stop-told (i.Refused b.NotJson) read.bundle before after is did =
@@ -178,3 +180,14 @@ stop-told (i.Refused (b.TooLarge path)) (read.folder dir) before after is did =
     folder_refused before.folder.told (site_walk dir) (too_large path) did.1.ends
 stop-told (i.Refused (b.TreeFault path)) (read.folder dir) before after is did = cc
 stop-told (i.Refused b.Memory) (read.folder dir) before after is did = cc
+stop-told (i.Refused why) read.journal before after is did = tt
+stop-told (i.BadLine number) read.nothing before after is did = absurd did
+stop-told (i.BadLine number) read.manifest before after is did = absurd did
+stop-told (i.BadLine number) read.bundle before after is did = absurd did
+stop-told (i.BadLine number) (read.folder dir) before after is did = absurd did
+stop-told (i.BadLine number) read.journal before after is did = tt
+stop-told i.TooManyEntries read.nothing before after is did = absurd did
+stop-told i.TooManyEntries read.manifest before after is did = absurd did
+stop-told i.TooManyEntries read.bundle before after is did = absurd did
+stop-told i.TooManyEntries (read.folder dir) before after is did = absurd did
+stop-told i.TooManyEntries read.journal before after is did = tt

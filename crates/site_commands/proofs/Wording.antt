@@ -33,6 +33,8 @@ complains (a.apply node dir) before after did = did
 complains (a.demo nodes) before after did = did
 complains (a.batch workers) before after did = did
 complains (a.serve port count dir) before after did = did
+complains a.audit before after did = did
+complains a.migrate before after did = did
 
 -- the status of faulty words comes for no others
 pub ended-complaint : (status : ℕ) (asked : Asked) (before after : World) → HasEnded status asked before after →
@@ -45,6 +47,8 @@ ended-complaint status asked before after ended is =
 unread : (stop : InputStop) (s s' : Stream) (f f' : Folder) → HasStoppedBy stop nothing s s' f f' → ⊥
 unread (i.Unread stop) s s' f f' did = did.0
 unread (i.Refused why) s s' f f' did = did
+unread (i.BadLine number) s s' f f' did = did
+unread i.TooManyEntries s s' f f' did = did
 
 refused_status : (ending : Ending) (before after : World) → Ends ending a.refused before after →
     (status_of ending ≡ 10) ⊎ (status_of ending ≡ 16)

@@ -138,6 +138,8 @@ stops (i.Refused (b.BadShape path)) asked before after did = inl did
 stops (i.Refused (b.TooLarge path)) asked before after did = inl did
 stops (i.Refused (b.TreeFault path)) asked before after did = did
 stops (i.Refused b.Memory) asked before after did = inr (inl did)
+stops (i.BadLine number) asked before after did = inl did
+stops i.TooManyEntries asked before after did = inl did
 
 -- where reading stopped, and that was said, the run ended so
 pub ends_stopped : (stop : InputStop) (ending : Ending) (asked : Asked) (before after : World) →

@@ -1,14 +1,22 @@
 -- What a command reads, what it has then, and what stands in the way.
-use Rattle.std.specs.Prelude.{◌≡◌, ℕ, List, ◌++◌, codes, Option, None, Some, Result, Ok, Err}
+use Rattle.std.specs.Prelude.{◌≡◌, ◌⊎◌, ℕ, ◌+◌, ◌≤◌, ◌<◌, Bool, nat_eq, List, ◌++◌, length, take, codes, decimal, Option, None, Some, Result, Ok, Err}
+use Rattle.std.specs.List.{count_by}
+use Rattle.std.specs.Str.{IsUtf8, IsValidUpTo}
+use Rattle.json_documents.specs.LinesOfText.{IsFirstBad}
+use Rattle.journal_reading.specs.Journals.{IsJournalText}
 use Rattle.pp_values.specs.declared.place.TheConstants.{MAIN_MANIFEST}
 use Rattle.site_bundle.specs.Bundles.{bundle_of}
 use Rattle.site_bundle.specs.FolderSites.{site_walk}
 use Rattle.site_bundle.specs.Refusals.{Refuses, stop_line}
+use Rattle.site_bundle.specs.SiteView.{SiteView}
 use Rattle.site_bundle.specs.Walks.{Goes}
 use Rattle.site_bundle.specs.declared.bundle.Bundle.{Bundle}
 use Rattle.site_bundle.specs.declared.bundle_stop.BundleStop.{BundleStop}
 use Rattle.site_bundle.specs.declared.bundle_stop.BundleStop.TheVariants as b
 use Rattle.site_bundle.specs.declared.limits.TheConstants.{MOST_BUNDLE_BYTES, MOST_FILE_BYTES}
+use Rattle.site_core.specs.Events.{Event}
+use Rattle.site_core.specs.declared.history.History.{History}
+use Rattle.site_core.specs.declared.history.TheConstants.{MOST_ENTRIES}
 use Rattle.site_io.specs.Folders.{Folder}
 use Rattle.site_io.specs.Stream.{Stream}
 use Rattle.site_io.specs.Transfer.{HasReadAll, StopsBy}
@@ -30,6 +38,8 @@ pub data Reading : Type 0 where
   bundle : Reading
   -- the site of the folder at this path
   folder : List ℕ → Reading
+  -- a journal, from the source
+  journal : Reading
 
 -- from the folder that is named, or else from the source
 abbrev pub site_from : Option (List ℕ) → Reading
@@ -46,6 +56,8 @@ reading_of (a.apply node dir) = site_from dir
 reading_of (a.demo nodes) = nothing
 reading_of (a.batch workers) = bundle
 reading_of (a.serve port count dir) = folder dir
+reading_of a.audit = journal
+reading_of a.migrate = journal
 reading_of a.refused = nothing
 reading_of (a.bad_word word) = nothing
 
@@ -57,6 +69,49 @@ pub data Input : Type 0 where
   bytes : List ℕ → Input
   -- what a bundle says, or a folder
   site : Bundle → Input
+  -- the entries of a journal
+  history : List (Event SiteView) → Input
+
+-- ---- journals
+
+-- the bytes are the journal of these entries, in either version
+pub record IsWritten (h : List (Event SiteView)) (said : List ℕ) : Type 0 where
+  pub text : IsUtf8 said
+  pub journal : IsJournalText h said
+
+-- and they are no more than a history may have
+abbrev pub IsJournal : List (Event SiteView) → List ℕ → Type 0
+IsJournal h said = IsWritten h said × (length h ≤ MOST_ENTRIES)
+
+abbrev pub IsTooLong : List (Event SiteView) → List ℕ → Type 0
+IsTooLong h said = IsWritten h said × (MOST_ENTRIES < length h)
+
+abbrev pub is_feed : ℕ → Bool
+is_feed b = nat_eq b 10
+
+-- the number of the line behind these bytes, counted from 1
+abbrev pub line_behind : List ℕ → ℕ
+line_behind said = count_by is_feed said + 1
+
+-- Line n is the first up to which a text begins as no journal does. Bytes that are no text are bad in the line of the first
+-- byte that is none.
+abbrev pub IsBadLine : ℕ → List ℕ → Type 0
+IsBadLine n said =
+    (IsUtf8 said × IsFirstBad (λ (h : History SiteView). IsJournalText h.entries) n said)
+    ⊎ ((m : ℕ) × (IsValidUpTo said m × (n ≡ line_behind (take m said))))
+
+-- what the bytes of a source say
+abbrev pub IsSaidBy : Reading → Input → List ℕ → Type 0
+IsSaidBy journal (history h) said = IsJournal h said
+IsSaidBy reading input said = ⊥
+
+-- the source was read to its end, and its bytes say so
+pub record HasReadSaid (reading : Reading) (input : Input) (before after : Stream) : Type 0 where
+  pub bytes : List ℕ
+  pub read : HasReadAll bytes MOST_BUNDLE_BYTES before after
+  pub said : IsSaidBy reading input bytes
+
+-- ---- bundles and folders
 
 -- the source was read to its end, and its bytes say this bundle
 pub record HasReadBundle (said : Bundle) (before after : Stream) : Type 0 where
@@ -75,6 +130,7 @@ HasInput nothing none s s' f f' = (s' ≡ s) × (f' ≡ f)
 HasInput manifest (bytes input) s s' f f' = HasReadAll input MOST_FILE_BYTES s s' × (f' ≡ f)
 HasInput bundle (site said) s s' f f' = HasReadBundle said s s' × (f' ≡ f)
 HasInput (folder dir) (site said) s s' f f' = (s' ≡ s) × ReadsFolder dir (Ok said) f f'
+HasInput journal input s s' f f' = HasReadSaid journal input s s' × (f' ≡ f)
 HasInput reading input s s' f f' = ⊥
 
 -- ---- what stands in the way
@@ -85,12 +141,14 @@ limit_of nothing = 0
 limit_of manifest = MOST_FILE_BYTES
 limit_of bundle = MOST_BUNDLE_BYTES
 limit_of (folder dir) = 0
+limit_of journal = MOST_BUNDLE_BYTES
 
 abbrev pub IsOfSource : Reading → Type 0
 IsOfSource nothing = ⊥
 IsOfSource manifest = Unit {0}
 IsOfSource bundle = Unit {0}
 IsOfSource (folder dir) = ⊥
+IsOfSource journal = Unit {0}
 
 -- the source was read to its end, and its bytes are no bundle, or memory was wanting to read them
 pub record HasReadNone (why : BundleStop) (before after : Stream) : Type 0 where
@@ -98,17 +156,33 @@ pub record HasReadNone (why : BundleStop) (before after : Stream) : Type 0 where
   pub read : HasReadAll bytes MOST_BUNDLE_BYTES before after
   pub refuses : Refuses why (bundle_of bytes)
 
+-- What is wrong with the bytes of a source that are to say a journal; or memory was wanting to read them, of which nothing is
+-- said.
+abbrev pub IsWrong : InputStop → Reading → List ℕ → Type 0
+IsWrong (i.Refused b.Memory) journal said = Unit {0}
+IsWrong (i.BadLine number) journal said = (n : ℕ) × ((number ≡ decimal n) × IsBadLine n said)
+IsWrong i.TooManyEntries journal said = (h : List (Event SiteView)) × IsTooLong h said
+IsWrong stop reading said = ⊥
+
+-- the source was read to its end, and this is wrong with its bytes
+pub record HasReadWrong (stop : InputStop) (reading : Reading) (before after : Stream) : Type 0 where
+  pub bytes : List ℕ
+  pub read : HasReadAll bytes MOST_BUNDLE_BYTES before after
+  pub wrong : IsWrong stop reading bytes
+
 -- reading stopped so; source and tree, before and after
 abbrev pub HasStoppedBy : InputStop → Reading → Stream → Stream → Folder → Folder → Type 0
 HasStoppedBy (i.Unread stop) reading s s' f f' = IsOfSource reading × (StopsBy stop (limit_of reading) s s' × (f' ≡ f))
-HasStoppedBy (i.Refused why) nothing s s' f f' = ⊥
-HasStoppedBy (i.Refused why) manifest s s' f f' = ⊥
 HasStoppedBy (i.Refused why) bundle s s' f f' = HasReadNone why s s' × (f' ≡ f)
 HasStoppedBy (i.Refused why) (folder dir) s s' f f' = (s' ≡ s) × ReadsFolder dir (Err why) f f'
+HasStoppedBy stop journal s s' f f' = HasReadWrong stop journal s s' × (f' ≡ f)
+HasStoppedBy stop reading s s' f f' = ⊥
 
 -- the path that names the whole of what a command reads from the source
 abbrev pub whole_of : Asked → List ℕ
 whole_of (a.manifest node) = MAIN_MANIFEST.now
+whole_of a.audit = codes "journal"
+whole_of a.migrate = codes "journal"
 whole_of asked = codes "bundle"
 
 -- the line that tells the stop, without a line feed; where the source has more than is read, it names the whole
@@ -117,6 +191,8 @@ stop_text whole (i.Unread r.Fault) = codes "read fault"
 stop_text whole (i.Unread r.TooLong) = codes "B3 " ++ whole
 stop_text whole (i.Unread r.Memory) = codes "memory"
 stop_text whole (i.Refused why) = stop_line why
+stop_text whole (i.BadLine number) = codes "bad line " ++ number
+stop_text whole i.TooManyEntries = codes "B3 " ++ whole
 
 -- how a run ends by it
 abbrev pub refused_ending : BundleStop → Ending
@@ -131,9 +207,22 @@ stop_ending (i.Unread r.Fault) = e.ReadFault
 stop_ending (i.Unread r.TooLong) = e.BadInput
 stop_ending (i.Unread r.Memory) = e.Memory
 stop_ending (i.Refused why) = refused_ending why
+stop_ending (i.BadLine number) = e.BadInput
+stop_ending i.TooManyEntries = e.BadInput
 
 -- what is made of the bytes of a source
 abbrev pub ReadsBundle : Result Bundle InputStop → List ℕ → Type 0
 ReadsBundle (Ok said) input = bundle_of input ≡ Ok said
-ReadsBundle (Err (i.Unread stop)) input = ⊥
 ReadsBundle (Err (i.Refused why)) input = Refuses why (bundle_of input)
+ReadsBundle (Err stop) input = ⊥
+
+-- this line of a journal is told, unless memory is wanting
+abbrev pub TellsLine : InputStop → ℕ → Type 0
+TellsLine (i.Refused b.Memory) n = Unit {0}
+TellsLine (i.BadLine number) n = number ≡ decimal n
+TellsLine stop n = ⊥
+
+-- what is made of the bytes of a source that are to say a journal
+abbrev pub ReadsJournal : Result (History SiteView) InputStop → List ℕ → Type 0
+ReadsJournal (Ok said) input = IsJournal said.entries input
+ReadsJournal (Err stop) input = IsWrong stop journal input

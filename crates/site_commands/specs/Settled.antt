@@ -1,20 +1,22 @@
 -- Which status a run has, as far as words and input decide it.
-use Rattle.std.specs.Prelude.{◌≡◌, ◌⊎◌, ℕ, if◌then◌else◌, nat_le, List, length, Option, Some, option_map, Result, Ok, Err, IfSome}
+use Rattle.std.specs.Prelude.{◌≡◌, ◌⊎◌, ℕ, ◌<◌, if◌then◌else◌, nat_le, List, length, Option, None, Some, option_map, Result, Ok, Err, IfSome}
 use Rattle.agent_transaction.specs.Catalogs.{IsCycleTold}
 use Rattle.command_outputs.specs.Nodes.{NodeRefusal, node_meaning}
-use Rattle.command_outputs.specs.Statuses.{manifest_status, check_status, compile_status, sequence_status, lookup_status, demo_status, IsBatchStatus}
+use Rattle.command_outputs.specs.Statuses.{manifest_status, check_status, compile_status, sequence_status, lookup_status, demo_status, audit_status, migrate_status, IsBatchStatus}
 use Rattle.pp_values.specs.declared.place.TheConstants.{MAIN_MANIFEST}
 use Rattle.pp_values.specs.declared.reference.Reference.{Reference}
 use Rattle.res_core.specs.declared.catalog.Catalog.{Catalog}
 use Rattle.site_bundle.specs.Bundles.{bundle_of}
 use Rattle.site_bundle.specs.FolderSites.{site_walk}
 use Rattle.site_bundle.specs.Refusals.{Refusal, too_large}
+use Rattle.site_bundle.specs.SiteView.{SiteView}
 use Rattle.site_bundle.specs.Walks.{end_over}
 use Rattle.site_bundle.specs.declared.bundle.Bundle.{Bundle}
-use Rattle.site_bundle.specs.declared.limits.TheConstants.{MOST_FILE_BYTES}
+use Rattle.site_bundle.specs.declared.limits.TheConstants.{MOST_BUNDLE_BYTES, MOST_FILE_BYTES}
+use Rattle.site_core.specs.Events.{Event}
 use Rattle.site_words.specs.Asked as a
 use Rattle.site_words.specs.Asked.{Asked}
-use Rattle.site_commands.specs.Inputs.{Reading, nothing, manifest, bundle, folder, Input, none, bytes, site, reading_of}
+use Rattle.site_commands.specs.Inputs.{Reading, nothing, manifest, bundle, folder, journal, Input, none, bytes, site, history, reading_of, IsSaidBy, IsTooLong, IsWritten}
 use Rattle.site_commands.specs.World.{World}
 
 -- ---- the input that is told
@@ -27,12 +29,13 @@ abbrev pub site_or : Result Bundle Refusal → Result Input Refusal
 site_or (Ok said) = Ok (site said)
 site_or (Err refusal) = Err refusal
 
--- what the input is, or why there is none, where source or tree tell what they have
+-- what the input is, or why there is none, where source or tree tell what they have; journals are told apart from these
 abbrev pub input_told : Reading → World → Option (Result Input Refusal)
 input_told nothing before = Some (Ok none)
 input_told manifest before = option_map manifest_of before.source.left
 input_told bundle before = option_map (λ input. site_or (bundle_of input)) before.source.left
 input_told (folder dir) before = option_map (λ files. site_or (end_over files (site_walk dir))) before.folder.told
+input_told journal before = None
 
 -- ---- the status by the input
 
@@ -58,12 +61,30 @@ IsWorkStatus status (a.apply node dir) (site said) = IsApplyStatus status (node_
 IsWorkStatus status (a.demo nodes) none = status ≡ demo_status nodes
 IsWorkStatus status (a.batch workers) (site said) = IsBatchStatus status
 IsWorkStatus status (a.serve port count dir) (site said) = status ≡ 0
+IsWorkStatus status a.audit (history h) = status ≡ audit_status h
+IsWorkStatus status a.migrate (history h) = status ≡ migrate_status h
 IsWorkStatus status asked input = ⊥
 
 -- 11 where the input is none of its kind
 abbrev pub IsStatusFor : ℕ → Asked → Result Input Refusal → Type 0
 IsStatusFor status asked (Ok input) = IsWorkStatus status asked input
 IsStatusFor status asked (Err refusal) = status ≡ 11
+
+-- the bytes are too many, or no journal, or one of too many entries
+abbrev pub IsNoJournal : List ℕ → Type 0
+IsNoJournal said =
+    (MOST_BUNDLE_BYTES < length said)
+    ⊎ (((h : List (Event SiteView)) → IsWritten h said → ⊥) ⊎ ((h : List (Event SiteView)) × IsTooLong h said))
+
+abbrev pub IsNoneSaid : Reading → List ℕ → Type 0
+IsNoneSaid journal said = IsNoJournal said
+IsNoneSaid reading said = ⊥
+
+-- The status by the bytes of a source that are to say a journal: that of the work on what they say, or 11 where they are none.
+abbrev pub IsSaidStatus : ℕ → Asked → List ℕ → Type 0
+IsSaidStatus status asked said =
+    ((input : Input) × (IsSaidBy (reading_of asked) input said × IsWorkStatus status asked input))
+    ⊎ (IsNoneSaid (reading_of asked) said × (status ≡ 11))
 
 -- reading or writing failed, or memory was wanting
 abbrev pub IsFaultStatus : ℕ → Type 0
@@ -73,5 +94,9 @@ IsFaultStatus status = (status ≡ 12) ⊎ ((status ≡ 13) ⊎ ((status ≡ 14)
 abbrev pub IsSettled : ℕ → Asked → World → Type 0
 IsSettled status a.refused before = (status ≡ 10) ⊎ (status ≡ 16)
 IsSettled status (a.bad_word word) before = (status ≡ 10) ⊎ (status ≡ 16)
+IsSettled status a.audit before =
+    IfSome before.source.left (λ said. IsSaidStatus status a.audit said ⊎ IsFaultStatus status)
+IsSettled status a.migrate before =
+    IfSome before.source.left (λ said. IsSaidStatus status a.migrate said ⊎ IsFaultStatus status)
 IsSettled status asked before =
     IfSome (input_told (reading_of asked) before) (λ input. IsStatusFor status asked input ⊎ IsFaultStatus status)

@@ -1,5 +1,6 @@
 -- What is written of an output, and what each ending of it means.
 use Rattle.std.specs.Prelude.{◌≡◌, ◌⊎◌, ℕ, List, [], ◌∷◌, Result, Ok, Err, codes}
+use Rattle.command_outputs.specs.Journals.{audited_output, migrated_output}
 use Rattle.command_outputs.specs.Lines.{line}
 use Rattle.command_outputs.specs.Outputs.{manifest_output, checked_output, compiled_output, looked_up_output, HasRun, HasShared, HasDemonstrated}
 use Rattle.command_outputs.specs.declared.output.Output.{Output}
@@ -8,7 +9,7 @@ use Rattle.pp_values.specs.declared.memory.Memory.{Memory}
 use Rattle.site_io.specs.Stream.{Stream, HasWritten}
 use Rattle.site_words.specs.Asked as a
 use Rattle.site_words.specs.Asked.{Asked}
-use Rattle.site_commands.specs.Inputs.{Input, none, bytes, site}
+use Rattle.site_commands.specs.Inputs.{Input, none, bytes, site, history}
 use Rattle.site_commands.specs.World.{Says, FailsToSay}
 use Rattle.site_commands.specs.declared.ending.Ending.{Ending}
 use Rattle.site_commands.specs.declared.ending.Ending.TheVariants as e
@@ -22,6 +23,8 @@ IsOutput a.sequence output (site said) = HasRun output said
 IsOutput (a.lookup node key merge dir) output (site said) = output ≡ looked_up_output said.site node key merge
 IsOutput (a.demo nodes) output none = HasDemonstrated nodes output
 IsOutput (a.batch workers) output (site said) = HasShared workers output said
+IsOutput a.audit output (history h) = output ≡ audited_output h
+IsOutput a.migrate output (history h) = output ≡ migrated_output h
 IsOutput asked output input = ⊥
 
 -- an error line alone

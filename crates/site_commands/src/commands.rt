@@ -10,9 +10,10 @@ use crate::delivering::deliver;
 use crate::ending::Ending;
 use crate::giving_up::{give_up, refuse};
 use crate::input::{take_bundle, take_manifest, take_source};
+use crate::journal_input::take_journal;
 use command_outputs::{
-    Output, batch_output, check_output, compile_output, demo_output, lookup_output,
-    manifest_output, sequence_output,
+    Output, audit_output, batch_output, check_output, compile_output, demo_output, lookup_output,
+    manifest_output, migrate_output, sequence_output,
 };
 use hiera_merge::Merge;
 use pp_values::{MAIN_MANIFEST, Memory};
@@ -23,6 +24,9 @@ use std::thread::Threads;
 
 /// What is told where a bundle has more bytes than are read.
 pub const BUNDLE: &str = "bundle";
+
+/// The same of a journal.
+pub const JOURNAL: &str = "journal";
 
 pub fn run_manifest<S: Source, K: Sink, E: Sink>(
     alloc: Global,
@@ -146,6 +150,38 @@ pub fn run_batch<S: Source, K: Sink, E: Sink, G: Gate + Sync, R: Threads + Wait 
     match take_source(alloc, source) {
         Ok(bundle) => write_made(batch_output(rt, alloc, bundle, workers, gate), out, err),
         Err(stop) => give_up(&stop, BUNDLE, err),
+    }
+}
+
+pub fn run_audit<S: Source, K: Sink, E: Sink>(
+    alloc: Global,
+    source: &mut S,
+    out: &mut K,
+    err: &mut E,
+) -> Ending
+    ensures { (n : _) (f : _) (m : _) → Ends result asked.audit
+        (world (S.stream source.old) (K.stream out.old) (E.stream err.old) n f m)
+        (world (S.stream source.new) (K.stream out.new) (E.stream err.new) n f m) }
+{
+    match take_journal(alloc, source) {
+        Ok(history) => write_made(audit_output(alloc, &history), out, err),
+        Err(stop) => give_up(&stop, JOURNAL, err),
+    }
+}
+
+pub fn run_migrate<S: Source, K: Sink, E: Sink>(
+    alloc: Global,
+    source: &mut S,
+    out: &mut K,
+    err: &mut E,
+) -> Ending
+    ensures { (n : _) (f : _) (m : _) → Ends result asked.migrate
+        (world (S.stream source.old) (K.stream out.old) (E.stream err.old) n f m)
+        (world (S.stream source.new) (K.stream out.new) (E.stream err.new) n f m) }
+{
+    match take_journal(alloc, source) {
+        Ok(history) => write_made(migrate_output(alloc, &history), out, err),
+        Err(stop) => give_up(&stop, JOURNAL, err),
     }
 }
 

@@ -21,6 +21,10 @@ pub fn give_up<E: Sink>(stop: &InputStop, whole: &str, err: &mut E) -> Ending
         InputStop::Unread(ReadStop::TooLong) => refuse_word(err, Ending::BadInput, "B3 ", whole),
         InputStop::Unread(ReadStop::Memory) => refuse(err, Ending::Memory, "memory\n"),
         InputStop::Refused(why) => give_bundle_up(why, err),
+        InputStop::BadLine(number) => {
+            refuse_word(err, Ending::BadInput, "bad line ", number.as_str())
+        }
+        InputStop::TooManyEntries => refuse_word(err, Ending::BadInput, "B3 ", whole),
     }
 }
 

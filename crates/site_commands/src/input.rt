@@ -18,6 +18,12 @@ pub enum InputStop {
 
     /// What was read is not what the command reads, or the tree of files failed, or memory was wanting.
     Refused(BundleStop),
+
+    /// The line with this number, in decimal digits, is the first one that is not as in a journal.
+    BadLine(Text),
+
+    /// The journal has more entries than a history may have.
+    TooManyEntries,
 }
 
 /// Reads a manifest from the source.

@@ -8,6 +8,7 @@ mod end_lines;
 pub mod ending;
 mod giving_up;
 pub mod input;
+mod journal_input;
 pub mod program;
 mod running;
 mod say;

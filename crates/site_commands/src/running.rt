@@ -6,7 +6,8 @@ ghost use Rattle.site_commands.specs.World.{world};
 
 use crate::applying::run_apply;
 use crate::commands::{
-    run_batch, run_check, run_compile, run_demo, run_lookup, run_manifest, run_sequence,
+    run_audit, run_batch, run_check, run_compile, run_demo, run_lookup, run_manifest, run_migrate,
+    run_sequence,
 };
 use crate::ending::Ending;
 use crate::serving::run_serve;
@@ -47,6 +48,8 @@ pub fn run_plain<S: Source, K: Sink, E: Sink, T: Tree, M: Machine>(
             run_apply(alloc, node, dir, source, out, err, tree, machine)
         }
         Command::Demo { nodes } => run_demo(alloc, nodes, out, err),
+        Command::Audit => run_audit(alloc, source, out, err),
+        Command::Migrate => run_migrate(alloc, source, out, err),
         Command::Batch { .. } | Command::Serve { .. } => unreachable!(),
     }
 }
@@ -90,6 +93,8 @@ where
         | Command::Sequence
         | Command::Lookup { .. }
         | Command::Apply { .. }
-        | Command::Demo { .. } => unreachable!(),
+        | Command::Demo { .. }
+        | Command::Audit
+        | Command::Migrate => unreachable!(),
     }
 }

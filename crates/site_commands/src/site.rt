@@ -25,9 +25,10 @@ use std::thread::Threads;
 /// | 0 | the command did its work, and no row below holds | of `manifest`, `compile` and `apply` the log |
 /// | 1 | the node has no catalog, the data have no value, or the site does not list the node | why |
 /// | 1 | `check` found a fault, or a reply of `sequence` or `batch` is a refusal | none |
+/// | 1 | `audit` found a history that is not legal | none |
 /// | 2, 4, 6 | `apply`: something changed, failed, both | the log |
 /// | 10 | the words are faulty | what `clap` says, or `bad word WORD` |
-/// | 11 | the input is not what the command reads | `B1`, `B2 PATH` or `B3 PATH` |
+/// | 11 | the input is not what the command reads | `B1`, `B2 PATH`, `B3 PATH`, or `bad line N` of a journal |
 /// | 12 | the input could not be read | `read fault` |
 /// | 13 | the output, the log or a fault's line could not be written | a front of it, or none |
 /// | 14 | the listener failed | `net fault` |
@@ -177,7 +178,9 @@ where
         | Command::Sequence
         | Command::Lookup { .. }
         | Command::Apply { .. }
-        | Command::Demo { .. } => {
+        | Command::Demo { .. }
+        | Command::Audit
+        | Command::Migrate => {
             plain_command(alloc, command, source, out, err, net, tree, machine, gate)
         }
     }

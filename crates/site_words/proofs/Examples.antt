@@ -6,8 +6,8 @@ use Rattle.clap.specs.Faults.{fault_of}
 use Rattle.clap.specs.declared.error.kind.ErrorKind.TheVariants as kind
 use Rattle.clap.proofs.OnLiterals.{clap_on_literals}
 use Rattle.hiera_merge.specs.declared.merge.Merge.TheVariants as by
-use Rattle.site_words.specs.Asked.{asked_of, manifest, check, compile, sequence, lookup, apply, demo, batch, serve, refused, bad_word}
-use Rattle.site_words.specs.CommandLine.{reading_line, bundle_line, command_line}
+use Rattle.site_words.specs.Asked.{asked_of, manifest, check, compile, sequence, lookup, apply, demo, batch, serve, audit, migrate, refused, bad_word}
+use Rattle.site_words.specs.CommandLine.{reading_line, bundle_line, served_line, command_line}
 
 -- a line of one, two or more words
 abbrev one : Text → List Text
@@ -32,8 +32,10 @@ commands : (asked_of (two (codes "manifest") (codes "web-1.example_0")) ≡ mani
     × (asked_of (two (codes "demo") (codes "4096")) ≡ demo 4096)
     × (asked_of (one (codes "batch")) ≡ batch 1)
     × (asked_of (codes "serve" ∷ codes "8080" ∷ codes "3" ∷ codes "--dir" ∷ codes "d" ∷ []) ≡ serve 8080 3 (codes "d"))
-unfolding reading_line bundle_line command_line clap_on_literals
-commands = (refl, refl, refl, refl, refl, refl, refl, refl, refl)
+    × (asked_of (one (codes "audit")) ≡ audit)
+    × (asked_of (one (codes "migrate")) ≡ migrate)
+unfolding reading_line bundle_line served_line command_line clap_on_literals
+commands = (refl, refl, refl, refl, refl, refl, refl, refl, refl, refl, refl)
 
 -- options stand anywhere behind the command, as two words or as one
 options : (asked_of (lookup_with (codes "--merge" ∷ codes "deep" ∷ [])) ≡ lookup (codes "n") (codes "k") (Some by.Deep) None)
@@ -45,7 +47,7 @@ options : (asked_of (lookup_with (codes "--merge" ∷ codes "deep" ∷ [])) ≡ 
     × (asked_of (two (codes "check") (codes "--dir=-x")) ≡ check (Some (codes "-x")))
     × (asked_of (two (codes "check") (codes "--dir=")) ≡ check (Some []))
     × (asked_of (two (codes "batch") (codes "--workers=64")) ≡ batch 64)
-unfolding reading_line bundle_line command_line clap_on_literals
+unfolding reading_line bundle_line served_line command_line clap_on_literals
 options = (refl, refl, refl, refl, refl, refl, refl)
 
 -- behind `--` every word is positional, and `-` is one everywhere
@@ -56,7 +58,7 @@ positional_words : (asked_of (codes "lookup" ∷ codes "--" ∷ codes "n" ∷ co
     ≡ lookup (codes "-n") (codes "-k") (Some by.Hash) None)
     × (asked_of (two (codes "manifest") (codes "--")) ≡ refused)
     × (asked_of (codes "check" ∷ codes "--" ∷ codes "--dir" ∷ codes "d" ∷ []) ≡ refused)
-unfolding reading_line bundle_line command_line clap_on_literals
+unfolding reading_line bundle_line served_line command_line clap_on_literals
 positional_words = (refl, refl, refl, refl, refl)
 
 -- what `clap` refuses
@@ -77,8 +79,32 @@ refusals : (fault_of command_line [] ≡ kind.MissingSubcommand ∷ [])
     × (asked_of (two (codes "check") (codes "--dir")) ≡ refused)
     × (fault_of command_line (three (codes "serve") (codes "80") (codes "1")) ≡ kind.MissingRequiredArgument ∷ [])
     × (asked_of (three (codes "--dir") (codes "d") (codes "check")) ≡ refused)
-unfolding reading_line bundle_line command_line clap_on_literals
-refusals = (refl, refl, refl, refl, refl, refl, refl, refl, refl, refl, refl, refl, refl, refl, refl, refl, refl)
+    × (fault_of command_line (two (codes "sequence") (codes "--workers=2")) ≡ kind.UnknownArgument ∷ [])
+    × (fault_of command_line (two (codes "audit") (codes "--workers=2")) ≡ kind.UnknownArgument ∷ [])
+    × (fault_of command_line (two (codes "migrate") (codes "--dir=d")) ≡ kind.UnknownArgument ∷ [])
+unfolding reading_line bundle_line served_line command_line clap_on_literals
+refusals = (
+  refl,
+  refl,
+  refl,
+  refl,
+  refl,
+  refl,
+  refl,
+  refl,
+  refl,
+  refl,
+  refl,
+  refl,
+  refl,
+  refl,
+  refl,
+  refl,
+  refl,
+  refl,
+  refl,
+  refl,
+)
 
 -- the first word that breaks its rule: positional words in order, then the values of options
 bad_words : (asked_of (two (codes "manifest") (codes "Web")) ≡ bad_word (codes "Web"))
@@ -96,5 +122,5 @@ bad_words : (asked_of (two (codes "manifest") (codes "Web")) ≡ bad_word (codes
     × (asked_of (two (codes "batch") (codes "--workers=+4")) ≡ bad_word (codes "+4"))
     × (asked_of (codes "serve" ∷ codes "65536" ∷ codes "0" ∷ codes "--dir=d" ∷ []) ≡ bad_word (codes "65536"))
     × (asked_of (codes "serve" ∷ codes "65535" ∷ codes "1025" ∷ codes "--dir=d" ∷ []) ≡ bad_word (codes "1025"))
-unfolding reading_line bundle_line command_line clap_on_literals
+unfolding reading_line bundle_line served_line command_line clap_on_literals
 bad_words = (refl, refl, refl, refl, refl, refl, refl, refl, refl, refl, refl, refl, refl, refl, refl)

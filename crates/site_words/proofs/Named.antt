@@ -7,7 +7,7 @@ use Rattle.clap.specs.Walk.{Held, Names, Row, Text, finished, nothing_held, sett
 use Rattle.clap.specs.Takes.{is_given}
 use Rattle.clap.specs.Simple.{Shape, argument_words, built, names_of, subcommand_of}
 use Rattle.clap.specs.Faults.{check_fault, defaults_fault, entered_fault, fault_of, level_fault, settle_fault, walk_fault}
-use Rattle.site_words.specs.CommandLine.{reading_line, bundle_line, command_line}
+use Rattle.site_words.specs.CommandLine.{reading_line, bundle_line, served_line, command_line}
 
 later : (first rest : Kinds) → or_else first rest ≡ [] → rest ≡ []
 later [] rest none = none
@@ -37,7 +37,7 @@ level_named s names h words false below required none =
     (later below settles (later (walk_fault s names (walk_from h) words) (or_else below settles) none)))))
 
 pub a_command_is_named : (words : List Text) → fault_of command_line words ≡ [] → is_some (subcommand_of command_line words) ≡ true
-unfolding reading_line bundle_line command_line
+unfolding reading_line bundle_line served_line command_line
 a_command_is_named words none =
     let line = built command_line in
     let behind = argument_words command_line words in

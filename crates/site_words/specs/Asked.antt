@@ -27,6 +27,10 @@ pub data Asked : Type 0 where
   batch : ℕ → Asked
   -- on this port, so many connections, over the site of this folder
   serve : ℕ → ℕ → Text → Asked
+  -- whether a journal is that of a legal history
+  audit : Asked
+  -- a journal, in the version that is written today
+  migrate : Asked
   -- the words are those of no command
   refused : Asked
   -- this word is the first that breaks the rule of its place: positional words in their order, and then options
@@ -88,6 +92,8 @@ asked_under name rows =
     else if bytes_eq name (codes "demo") then demo_in rows
     else if bytes_eq name (codes "batch") then batch_in rows
     else if bytes_eq name (codes "serve") then serve_in rows
+    else if bytes_eq name (codes "audit") then Ok audit
+    else if bytes_eq name (codes "migrate") then Ok migrate
     else Err name
 
 -- `clap` refuses words that name no command (`a_command_is_named`)

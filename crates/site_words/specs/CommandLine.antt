@@ -45,6 +45,12 @@ batch_line = with_rule (new_app (codes "batch")) (optional WORKERS.now)
 abbrev pub serve_line : App
 serve_line = with_rule (with_rule (with_rule (new_app (codes "serve")) (positional PORT.now)) (positional COUNT.now)) (needed DIR.now)
 
+abbrev pub audit_line : App
+audit_line = new_app (codes "audit")
+
+abbrev pub migrate_line : App
+migrate_line = new_app (codes "migrate")
+
 -- the words come without the program's name, and the first of them names a command
 abbrev pub bare_line : App
 bare_line = record (new_app (codes "site")) {
@@ -61,5 +67,8 @@ reading_line = with_three bare_line manifest_line check_line compile_line
 unfoldable pub bundle_line : App
 bundle_line = with_three reading_line sequence_line lookup_line apply_line
 
+unfoldable pub served_line : App
+served_line = with_three bundle_line demo_line batch_line serve_line
+
 unfoldable pub command_line : App
-command_line = with_three bundle_line demo_line batch_line serve_line
+command_line = with_subcommand (with_subcommand served_line audit_line.top) migrate_line.top

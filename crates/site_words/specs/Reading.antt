@@ -32,6 +32,8 @@ asked_by (c.Apply node dir) = a.apply node.now (option_map (λ d. d.now) dir)
 asked_by (c.Demo nodes) = a.demo nodes
 asked_by (c.Batch workers) = a.batch workers
 asked_by (c.Serve port count dir) = a.serve port count dir.now
+asked_by c.Audit = a.audit
+asked_by c.Migrate = a.migrate
 
 -- an answer of the code, where a value says something
 abbrev pub saying : {A B : Type 0} → (A → B) → Result A BadWord → Said B

@@ -52,4 +52,10 @@ pub enum Command<'a> {
         count: u32,
         dir: &'a str,
     },
+
+    /// Whether the journal that comes in is that of a legal history.
+    Audit,
+
+    /// The journal that comes in, in the version that is written today.
+    Migrate,
 }

@@ -13,6 +13,15 @@ use std::alloc::{AllocError, Global};
 pub fn command_line<'a>(alloc: Global) -> Result<Command<'a>, AllocError>
     ensures { IfOk result (λ c. app_of c ≡ spec.command_line) }
 {
+    served_line(alloc)?
+        .subcommand(audit_line(alloc)?)?
+        .subcommand(migrate_line(alloc)?)
+}
+
+#[tactic(auto, unfolding(crate::specs::CommandLine::served_line))]
+fn served_line<'a>(alloc: Global) -> Result<Command<'a>, AllocError>
+    ensures { IfOk result (λ c. app_of c ≡ spec.served_line) }
+{
     bundle_line(alloc)?
         .subcommand(demo_line(alloc)?)?
         .subcommand(batch_line(alloc)?)?
@@ -120,6 +129,20 @@ fn serve_line<'a>(alloc: Global) -> Result<Command<'a>, AllocError>
         .arg(positional(alloc, PORT))?
         .arg(positional(alloc, COUNT))?
         .arg(needed(alloc, DIR))
+}
+
+fn audit_line<'a>(alloc: Global) -> Result<Command<'a>, AllocError>
+    ensures line { IfOk result (λ c. app_of c ≡ spec.audit_line) }
+    ensures local { IfOk result (λ c. (out-Command c).has_globals ≡ false) }
+{
+    Ok(Command::new(alloc, "audit"))
+}
+
+fn migrate_line<'a>(alloc: Global) -> Result<Command<'a>, AllocError>
+    ensures line { IfOk result (λ c. app_of c ≡ spec.migrate_line) }
+    ensures local { IfOk result (λ c. (out-Command c).has_globals ≡ false) }
+{
+    Ok(Command::new(alloc, "migrate"))
 }
 
 fn positional<'a>(alloc: Global, id: &'a str) -> Arg<'a>

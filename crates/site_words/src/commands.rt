@@ -38,6 +38,8 @@ fn command_under<'a>(name: &'a str, words: &ArgMatches<'a>) -> Result<Command<'a
         "demo" => demo(words),
         "batch" => batch(words),
         "serve" => serve(words),
+        "audit" => Ok(Command::Audit),
+        "migrate" => Ok(Command::Migrate),
         _ => Err(BadWord { word: name }),
     }
 }

@@ -1,6 +1,8 @@
-//! The tests of what runs whatever the language: streams, the lock, jobs, histories, requests in turn, shared sites and batches.
+//! The tests of what runs whatever the language: streams, the lock, jobs, histories, audits, requests in turn, shared sites, batches and searches for a fixed point.
 #![tactic(auto)]
 
+#[cfg(test)]
+mod audits;
 #[cfg(test)]
 mod batches;
 #[cfg(test)]
@@ -11,6 +13,8 @@ mod jobs;
 mod locks;
 #[cfg(test)]
 mod sequences;
+#[cfg(test)]
+mod settles;
 #[cfg(test)]
 mod shared;
 #[cfg(test)]

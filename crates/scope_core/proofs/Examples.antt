@@ -246,5 +246,27 @@ others_stay = refl
 instances_stay : left 4 all ≡ all
 instances_stay = refl
 
-numbers_are_not_used_again : length (entered k.Lambda 5 (left 6 all)).scopes ≡ 8
-numbers_are_not_used_again = refl
+-- the last scope goes, and the next one has its number and none of its names
+last_goes : length (left 6 all).scopes ≡ 6
+last_goes = refl
+
+number_is_given_again : length (entered k.Lambda 5 (left 6 all)).scopes ≡ 7
+number_is_given_again = refl
+
+new_one_has_no_names : read 6 x at (entered k.Lambda 5 (left 6 all)) ≡ Ok (int (pos 3))
+unfolding read found last_cut seen_from
+new_one_has_no_names = refl
+
+-- one that others stand behind stays, without names
+one_between_stays : length (left 5 all).scopes ≡ 7
+one_between_stays = refl
+
+one_between_has_no_names : read 5 y at (left 5 all) ≡ Err (fault at (what.UnknownVariable y))
+unfolding read found last_cut seen_from
+one_between_has_no_names = refl
+
+-- a class that is entered in a lambda's call stays behind it
+class_stays : read 7 x at (left 6 (with_name 7 x (int (pos 8)) (entered (k.Class (codes "c")) 0 all)))
+    ≡ Ok (int (pos 8))
+unfolding read found last_cut seen_from
+class_stays = refl

@@ -1,6 +1,6 @@
 -- Scopes: their names, and which are read after which.
-use Rattle.std.specs.Prelude.{ℕ, zero, suc, Bool, true, false, ◌&&◌, ◌||◌, if◌then◌else◌}
-use Rattle.std.specs.Prelude.{List, [], ◌∷◌, ◌++◌, length, map, Option, None, Some, Result, Ok, Err}
+use Rattle.std.specs.Prelude.{ℕ, zero, suc, ◌-◌, ◌==◌, Bool, true, false, ◌&&◌, ◌||◌, if◌then◌else◌}
+use Rattle.std.specs.Prelude.{List, [], ◌∷◌, ◌++◌, length, take, map, Option, None, Some, Result, Ok, Err}
 use Rattle.std.specs.Prelude.{slice_get, slice_set, is_some, codes, option_and_then, refl}
 use Rattle.std.specs.Char.{to_ascii_lowercase}
 use Rattle.std.specs.Coded.{Coded, code_by, coded×, coded_ℕ, coded_list}
@@ -90,9 +90,25 @@ abbrev pub scopes_after : ℕ → Option Scope → List Scope → List Scope
 scopes_after n None scopes = scopes
 scopes_after n (Some s) scopes = slice_set scopes n (ended s.owner s)
 
+abbrev pub is_ended : Owner → Bool
+is_ended o.Ended = true
+is_ended owner = false
+
+abbrev pub has_ended : Option Scope → Bool
+has_ended None = false
+has_ended (Some s) = is_ended s.owner
+
+-- the scope of this number has ended, and none stands behind it
+abbrev pub is_last_ended : ℕ → List Scope → Bool
+is_last_ended n scopes = has_ended (slice_get scopes n) && (n == length scopes - 1)
+
+-- Then it goes, and the next one has its number: no scope that stands was entered while it stood.
+abbrev pub without_ended : ℕ → List Scope → List Scope
+without_ended n scopes = if is_last_ended n scopes then take n scopes else scopes
+
 -- other scopes stay
 abbrev pub left : ℕ → Scopes → Scopes
-left n s = record s { scopes = scopes_after n (slice_get s.scopes n) s.scopes }
+left n s = record s { scopes = without_ended n (scopes_after n (slice_get s.scopes n) s.scopes) }
 
 -- ---- reading
 

@@ -116,12 +116,15 @@ impl Scopes {
         Ok(())
     }
 
-    /// Ends the scope of a lambda's call. Other scopes stay for the compile.
+    /// Ends the scope of a lambda's call. Where no other stands behind it, it gives its room back, and the next scope
+    /// has its number. Other scopes stay for the compile.
     #[inline(always)]
     pub fn leave(&mut self, scope: ScopeId)
         ensures { self.new ≡ spec.left scope.number self.old }
     {
-        end_scope(&mut self.scopes, &mut self.room, scope.number as usize);
+        let place = scope.number as usize;
+        end_scope(&mut self.scopes, &mut self.room, place);
+        drop_ended(&mut self.scopes, place);
     }
 
     /// Sets a name in one scope. A name may be set once there; `facts` and `trusted` nowhere once top scope has them.
@@ -335,6 +338,33 @@ fn end_scope(scopes: &mut Vec<Scope>, room: &mut Option<Box<ScopeNames>>, place:
 {
     if let Some(scope) = scopes.get_mut(place) {
         scope.end(room);
+    }
+}
+
+/// Lets the scope at this place go where it has ended and none stands behind it.
+#[inline(always)]
+fn drop_ended(scopes: &mut Vec<Scope>, place: usize)
+    ensures { scopes.new.items ≡ spec.without_ended place scopes.old.items }
+{
+    if is_last_ended(scopes, place) {
+        scopes.truncate(place);
+    }
+}
+
+#[inline(always)]
+fn is_last_ended(scopes: &[Scope], place: usize) -> bool
+    ensures { result ≡ spec.is_last_ended place scopes.now }
+{
+    has_ended(scopes, place) && place == scopes.len().saturating_sub(1)
+}
+
+#[inline(always)]
+fn has_ended(scopes: &[Scope], place: usize) -> bool
+    ensures { result ≡ spec.has_ended (slice_get scopes.now place) }
+{
+    match scopes.get(place) {
+        Some(scope) => matches!(scope.owner(), Owner::Ended),
+        None => false,
     }
 }
 

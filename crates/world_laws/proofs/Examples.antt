@@ -45,10 +45,10 @@ not_lost f = f
 
 -- ---- worlds
 
--- a lambda's scope alone
+-- a lambda's scope and that of a class behind it
 called : Environment → World
 called e = record (empty e) {
-  scopes = record { scopes = scope o.Lambda (x true ∷ []) ∷ []; node = 0; classes = [] };
+  scopes = record { scopes = scope o.Lambda (x true ∷ []) ∷ scope o.Class [] ∷ []; node = 0; classes = [] };
 }
 
 -- the end of a lambda's scope is no growth by itself

@@ -1,5 +1,6 @@
 -- Lists that go on, and scopes that are kept.
-use Rattle.std.proofs.Common.{◌≡◌, ℕ, zero, suc, ◌≤◌, List, [], ◌∷◌, ◌++◌, length}
+use Rattle.std.proofs.Common.{◌≡◌, ℕ, zero, suc, ◌≤◌, Bool, true, false, if◌then◌else◌}
+use Rattle.std.proofs.Common.{List, [], ◌∷◌, ◌++◌, length, take}
 use Rattle.std.proofs.Common.{Option, None, Some, refl, sym, ap, ◌∙◌, arith}
 use Rattle.std.proofs.lemmas.List.{append-nil, append_assoc}
 use Rattle.std.specs.Cmp.Lexicographic.{nat_list_cmp_total}
@@ -7,7 +8,7 @@ use Rattle.std.specs.Prelude.{slice_get, option_and_then}
 use Rattle.pp_values.specs.Datum.{Datum}
 use Rattle.pp_values.specs.Rising.{text_cmp}
 use Rattle.scope_core.specs.Names.{Name, value_of, with_value}
-use Rattle.scope_core.specs.Scopes.{Scope, scopes_after, set_in}
+use Rattle.scope_core.specs.Scopes.{Scope, is_last_ended, scopes_after, set_in, without_ended}
 use Rattle.world_laws.specs.Extends.{GoesOn, IsKept, AreKept}
 use Rattle.world_laws.proofs.Entries.{found_still as entry_still}
 
@@ -63,16 +64,36 @@ unfolding AreKept
 kept_before [] more = tt
 kept_before (s ∷ ss) more = (kept s, kept_before ss more)
 
--- what becomes of a scope that is not among them
-pub kept_beside : (n : ℕ) (o : Option Scope) (ss ts : List Scope) → length ss ≤ n → AreKept ss ts →
+-- a scope ends that is not among them, and stays
+kept_where : (n : ℕ) (o : Option Scope) (ss ts : List Scope) → length ss ≤ n → AreKept ss ts →
     AreKept ss (scopes_after n o ts)
 unfolding AreKept
-kept_beside n None ss ts past f = f
-kept_beside n (Some s) [] ts past f = tt
-kept_beside n (Some s) (x ∷ xs) [] past f = absurd f
-kept_beside zero (Some s) (x ∷ xs) (t ∷ ts) past f = absurd (omega (arith, past))
-kept_beside (suc n) (Some s) (x ∷ xs) (t ∷ ts) past f =
-    let less : length xs ≤ n = omega arith in (f.0, kept_beside n (Some s) xs ts less f.1)
+kept_where n None ss ts past f = f
+kept_where n (Some s) [] ts past f = tt
+kept_where n (Some s) (x ∷ xs) [] past f = absurd f
+kept_where zero (Some s) (x ∷ xs) (t ∷ ts) past f = absurd (omega (arith, past))
+kept_where (suc n) (Some s) (x ∷ xs) (t ∷ ts) past f =
+    let less : length xs ≤ n = omega arith in (f.0, kept_where n (Some s) xs ts less f.1)
+
+-- so many are left that they are among them
+kept_front : (n : ℕ) (ss ts : List Scope) → length ss ≤ n → AreKept ss ts → AreKept ss (take n ts)
+unfolding AreKept
+kept_front n [] ts past f = tt
+kept_front n (s ∷ ss) [] past f = absurd f
+kept_front zero (s ∷ ss) (t ∷ ts) past f = absurd (omega (arith, past))
+kept_front (suc n) (s ∷ ss) (t ∷ ts) past f =
+    let less : length ss ≤ n = omega arith in (f.0, kept_front n ss ts less f.1)
+
+kept_by : (b : Bool) (n : ℕ) (ss ts : List Scope) → length ss ≤ n → AreKept ss ts →
+    AreKept ss (if b then take n ts else ts)
+kept_by true n ss ts past f = kept_front n ss ts past f
+kept_by false n ss ts past f = f
+
+-- what becomes of a scope that is not among them
+pub kept_beside : (n : ℕ) (o : Option Scope) (ss ts : List Scope) → length ss ≤ n → AreKept ss ts →
+    AreKept ss (without_ended n (scopes_after n o ts))
+kept_beside n o ss ts past f =
+    kept_by (is_last_ended n (scopes_after n o ts)) n ss (scopes_after n o ts) past (kept_where n o ss ts past f)
 
 -- ---- a name that is set
 

@@ -1,5 +1,6 @@
 //! The names of one scope.
-ghost use Rattle.std.specs.Prelude.{◌≡◌, ◌+◌, ◌≤◌, ◌++◌, ◌∷◌, [], None, is_ok, if◌then◌else◌, option_map, length, slice_get, take, OnOk};
+ghost use Rattle.std.specs.Prelude.{◌≡◌, ◌+◌, ◌≤◌, ◌++◌, ◌∷◌, [], None, is_ok, if◌then◌else◌, option_map, length};
+ghost use Rattle.std.specs.Prelude.{slice_get, take, OnOk};
 ghost use Rattle.std.specs.Ordering.{is_eq};
 ghost use Rattle.pp_values.specs.Rising.{text_cmp};
 ghost use Rattle.pp_values.specs.Views.{view};
@@ -13,7 +14,7 @@ use std::alloc::Global;
 use std::marker::Model;
 
 /// How many names lie in a list and are compared one by one. What is set behind them goes into an ordered map.
-const FEW: usize = 8;
+const LISTED_NAMES: usize = 8;
 
 /// Values by name, in the byte order of the names.
 ///
@@ -70,7 +71,7 @@ impl ScopeNames {
     pub fn value_of(&self, name: &[u8]) -> Option<&Value>
         ensures { option_map (λ v. view v.now) result ≡ value_of name.now self.now }
     {
-        let found = found(&self.first[..self.count], name);
+        let found = find_listed(&self.first[..self.count], name);
         if found.is_some() {
             return found;
         }
@@ -84,7 +85,7 @@ impl ScopeNames {
         requires { value_of name.now self.old ≡ None }
         ensures { self.new ≡ (if is_ok result then with_value name.now value self.old else self.old) }
     {
-        if self.count < FEW {
+        if self.count < LISTED_NAMES {
             put_last(alloc, &mut self.first, self.count, name, value)?;
             self.count += 1;
             return Ok(());
@@ -127,7 +128,7 @@ fn is_name(text: &Text, name: &[u8]) -> bool
 }
 
 #[inline(always)]
-fn found<'a>(names: &'a [(Text, Binding)], name: &[u8]) -> Option<&'a Value>
+fn find_listed<'a>(names: &'a [(Text, Binding)], name: &[u8]) -> Option<&'a Value>
     ensures { option_map (λ v. view v.now) result ≡ value_of name.now names.now }
 {
     for (other, value) in names {

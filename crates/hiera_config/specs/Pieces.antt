@@ -1,5 +1,6 @@
 -- The pieces of a text of the data: letters, and what stands between `%{` and `}`.
-use Rattle.std.specs.Prelude.{ℕ, zero, suc, if◌then◌else◌, List, [], ◌∷◌, ◌++◌, length, Option, None, Some, option_and_then, is_some, codes}
+use Rattle.std.specs.Prelude.{ℕ, zero, suc, if◌then◌else◌, List, [], ◌∷◌, ◌++◌, length, Option, None, Some}
+use Rattle.std.specs.Prelude.{option_and_then, is_some, codes}
 use Rattle.hiera_config.specs.declared.interpolation.Piece.{Piece}
 use Rattle.hiera_config.specs.declared.interpolation.Piece.TheVariants as piece
 use Rattle.hiera_config.specs.Cuts.{Cut, cut_at, after_prefix, before_suffix, trimmed}

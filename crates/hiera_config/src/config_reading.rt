@@ -6,7 +6,9 @@ ghost use Rattle.serde_json.specs.View.{view as json_view};
 ghost use Rattle.pp_values.specs.Answers.{Answers};
 ghost use Rattle.pp_values.specs.Faults.{fault};
 ghost use Rattle.pp_values.specs.declared.fault.What.TheVariants as what;
-ghost use Rattle.hiera_config.specs.Config.{config_of, config_read, config_with, config_or_fault, is_module, default_folder, folder_in, is_version, has_only, config_names, config_from, IsBadData};
+ghost use Rattle.hiera_config.specs.Config.{config_of, config_read, config_with, config_or_fault, is_module};
+ghost use Rattle.hiera_config.specs.Config.{default_folder, folder_in, is_version, has_only, config_names, config_from};
+ghost use Rattle.hiera_config.specs.Config.{IsBadData};
 ghost use Rattle.json_values.specs.FromData.{both};
 
 use crate::config::{Config, Layer, Levels};

@@ -1,6 +1,7 @@
 //! Texts that are cut at a mark, and their blanks.
 ghost use Rattle.std.specs.Prelude.{◌≡◌, ◌<◌, length, option_map};
-ghost use Rattle.hiera_config.specs.Cuts.{cut_at, after_prefix, before_suffix, trimmed, trimmed_start, trimmed_end, without_first_blank, without_last_blank};
+ghost use Rattle.hiera_config.specs.Cuts.{cut_at, after_prefix, before_suffix, trimmed, trimmed_start, trimmed_end};
+ghost use Rattle.hiera_config.specs.Cuts.{without_first_blank, without_last_blank};
 
 /// What stands before the first such mark, and what behind it.
 pub fn cut_at<'a>(text: &'a str, mark: &str) -> Option<(&'a str, &'a str)>

@@ -6,7 +6,7 @@ use pp_values::{Memory, Text};
 use std::alloc::Global;
 
 /// How long a path mostly is at most.
-pub const USUAL: usize = 64;
+pub const PATH_ROOM: usize = 64;
 
 /// The path of a folder's configuration, written by way of `room`.
 pub fn config_path(alloc: Global, folder: &str, room: &mut String) -> Result<Text, Memory>

@@ -5,11 +5,12 @@ ghost use Rattle.serde_json.specs.View.{view as json_view};
 ghost use Rattle.hiera_config.specs.Documents.{text_at, strict};
 ghost use Rattle.hiera_config.specs.Flags.{mark_of};
 ghost use Rattle.hiera_config.specs.Planning.{Skips};
-ghost use Rattle.hiera_config.specs.Sound.{SkipsAll, SoundLayers, LacksConfig, IsHighest, or_else, first_in, value_in_slot, value_in_text, value_in_data};
+ghost use Rattle.hiera_config.specs.Sound.{SkipsAll, SoundLayers, LacksConfig, IsHighest, or_else, first_in};
+ghost use Rattle.hiera_config.specs.Sound.{value_in_slot, value_in_text, value_in_data};
 ghost use Rattle.hiera_config.specs.Sources as spec;
 
 use crate::flags::mark_of;
-use crate::folders::{USUAL, config_path, module_folder};
+use crate::folders::{PATH_ROOM, config_path, module_folder};
 use crate::plan::FixedFile;
 use crate::site_data::SiteData;
 use json_values::{DataStop, Numbers, from_data};
@@ -62,7 +63,7 @@ fn is_without_config(alloc: Global, files: &SiteData, name: &str) -> bool
 fn module_config(alloc: Global, name: &str) -> Result<Text, Memory>
     ensures { IfOk result (λ t. t ≡ spec.config_path (spec.module_folder name.now)) }
 {
-    let mut room = String::with_capacity(alloc, USUAL)?;
+    let mut room = String::with_capacity(alloc, PATH_ROOM)?;
     let folder = module_folder(alloc, name, &mut room)?;
     config_path(alloc, folder.as_str(), &mut room)
 }

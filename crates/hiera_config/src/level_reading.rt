@@ -5,7 +5,9 @@ ghost use Rattle.std.specs.Str.{bytes_eq};
 ghost use Rattle.serde_json.specs.Find.{get, as_object, as_array, as_str};
 ghost use Rattle.serde_json.specs.View.{view as json_view, items_view, members_view};
 ghost use Rattle.json_values.specs.FromData.{both};
-ghost use Rattle.hiera_config.specs.Config.{are_among, has_only, texts_from, texts_in, text_or, is_text, has_json_data, templates, one_template, mapped, paths_by, paths_in, name_in, level_of, level_names, level_parts, level_in, levels_from, levels_in, applied};
+ghost use Rattle.hiera_config.specs.Config.{are_among, has_only, texts_from, texts_in, text_or, is_text, has_json_data};
+ghost use Rattle.hiera_config.specs.Config.{templates, one_template, mapped, paths_by, paths_in, name_in, level_of};
+ghost use Rattle.hiera_config.specs.Config.{level_names, level_parts, level_in, levels_from, levels_in, applied};
 
 use crate::config::{Level, LevelPaths, Levels};
 use crate::template::{Template, Templates};

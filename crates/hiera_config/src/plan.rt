@@ -127,7 +127,7 @@ fn fixed_path(alloc: Global, folder: &str, level: &Level) -> Result<Option<Text>
     ensures { IfOk result (λ o. IfSome o (λ p. PathIs folder.now level.now p)) }
 {
     match (level.folder.plain(), sole_template(&level.paths)) {
-        (Some(inner), Some(template)) => Ok(Some(joined(alloc, folder, inner, template)?)),
+        (Some(inner), Some(template)) => Ok(Some(join_path(alloc, folder, inner, template)?)),
         _ => Ok(None),
     }
 }
@@ -146,7 +146,7 @@ fn sole_template(paths: &LevelPaths) -> Option<&str>
     }
 }
 
-fn joined(alloc: Global, folder: &str, inner: &str, template: &str) -> Result<Text, Memory>
+fn join_path(alloc: Global, folder: &str, inner: &str, template: &str) -> Result<Text, Memory>
     ensures { IfOk result (λ t. t ≡ joined_path folder.now inner.now template.now) }
 {
     let mut path = String::from_str(alloc, folder)?;
@@ -189,12 +189,12 @@ fn flags_at(alloc: Global, file: Option<&DataFile>) -> Result<Option<Vec<bool>>,
     ensures { IfOk result (λ o. option_map (λ v. v.items) o ≡ option_map (λ f. f.now.flags.items) file.entry) }
 {
     match file {
-        Some(file) => Ok(Some(copied(alloc, file.flags.as_slice())?)),
+        Some(file) => Ok(Some(copy_flags(alloc, file.flags.as_slice())?)),
         None => Ok(None),
     }
 }
 
-fn copied(alloc: Global, flags: &[bool]) -> Result<Vec<bool>, Memory>
+fn copy_flags(alloc: Global, flags: &[bool]) -> Result<Vec<bool>, Memory>
     ensures { IfOk result (λ v. v.items ≡ flags.now) }
 {
     let mut copy = Vec::new(alloc);

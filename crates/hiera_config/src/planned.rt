@@ -4,7 +4,8 @@ ghost use Rattle.hiera_config.specs.Documents.{text_at};
 ghost use Rattle.hiera_config.specs.Flags.{mark_of};
 ghost use Rattle.hiera_config.specs.Found.{source_views};
 ghost use Rattle.hiera_config.specs.Planning.{Skips};
-ghost use Rattle.hiera_config.specs.Sound.{SkipsAll, SoundLayers, AreSources, source_if, had_in_slot, had_in, value_in_text};
+ghost use Rattle.hiera_config.specs.Sound.{SkipsAll, SoundLayers, AreSources, source_if, had_in_slot, had_in};
+ghost use Rattle.hiera_config.specs.Sound.{value_in_text};
 
 use crate::flags::mark_of;
 use crate::highest::{lacks_config, value_in_file};

@@ -13,7 +13,7 @@ ghost use Rattle.hiera_config.specs.Variables.{variable as variable_of, mapped_v
 
 use crate::config::{Config, Level, LevelPaths};
 use crate::flags::{mark_of, may_have};
-use crate::folders::{USUAL, config_path, module_folder};
+use crate::folders::{PATH_ROOM, config_path, module_folder};
 use crate::mapping::mapped_values;
 use crate::names::Names;
 use crate::paths::write_path;
@@ -86,7 +86,7 @@ pub fn sources(
         return Ok(found);
     }
     let mut found = Vec::new(alloc);
-    let mut path = String::with_capacity(alloc, USUAL)?;
+    let mut path = String::with_capacity(alloc, PATH_ROOM)?;
     let global = Search {
         files,
         folder: "global/",

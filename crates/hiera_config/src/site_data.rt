@@ -1,10 +1,12 @@
 //! The files of a site's data.
-ghost use Rattle.std.specs.Prelude.{◌≡◌, ◌&&◌, [], true, is_ok, if◌then◌else◌, IfOk, IfSome, option_map, option_and_then};
+ghost use Rattle.std.specs.Prelude.{◌≡◌, ◌&&◌, [], true, is_ok, if◌then◌else◌, IfOk, IfSome, option_map};
+ghost use Rattle.std.specs.Prelude.{option_and_then};
 ghost use Rattle.std.specs.FinMap.{find, put};
 ghost use Rattle.pp_values.specs.Rising.{text_cmp};
 ghost use Rattle.hiera_config.specs.Config.{config_of};
 ghost use Rattle.hiera_config.specs.Documents.{is_of_module, put_in};
-ghost use Rattle.hiera_config.specs.Keeping.{filed, IsKept, AreSimple, lacks_options, are_none, lacks_defaults, simple_file};
+ghost use Rattle.hiera_config.specs.Keeping.{filed, IsKept, AreSimple, lacks_options, are_none, lacks_defaults};
+ghost use Rattle.hiera_config.specs.Keeping.{simple_file};
 ghost use Rattle.hiera_config.specs.Planning.{PlannedAt};
 ghost use Rattle.hiera_config.specs.Sound.{SoundLayers};
 ghost use Rattle.hiera_config.specs.Sources.{global_folder};
@@ -145,8 +147,8 @@ impl SiteData {
         self.environment.as_slice()
     }
 
-    /// The plans of the global layer and of the environment, where each of their levels has a file in them, and no key's
-    /// value is faulty in any.
+    /// The plans of the global layer and of the environment, where each of their levels has a file in them, and no
+    /// key's value is faulty in any.
     pub fn sound_plans(&self) -> Option<(&[Option<FixedFile>], &[Option<FixedFile>])>
         ensures { IfSome result (λ p. SoundLayers self.now p.0.now p.1.now) }
     {

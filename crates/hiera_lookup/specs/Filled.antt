@@ -2,7 +2,8 @@
 use Rattle.std.specs.Prelude.{ℕ, if◌then◌else◌, List, [], ◌∷◌, Option, Some, None}
 use Rattle.std.specs.List.{flat_map}
 use Rattle.std.specs.Str.{bytes_eq}
-use Rattle.pp_values.specs.Datum.{Datum, int, text, list, hash, Data, no_data, datum, Entries, no_entries, entry, Pair, entries_of}
+use Rattle.pp_values.specs.Datum.{Datum, int, text, list, hash, Data, no_data, datum, Entries, no_entries, entry, Pair}
+use Rattle.pp_values.specs.Datum.{entries_of}
 use Rattle.pp_values.specs.Keys.{with_pair}
 use Rattle.pp_values.specs.TextOf.{text_of}
 use Rattle.hiera_config.specs.declared.interpolation.Piece.{Piece}

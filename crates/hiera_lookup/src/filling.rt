@@ -5,7 +5,8 @@ ghost use Rattle.pp_values.specs.Datum.{data_of, entries_of};
 ghost use Rattle.pp_values.specs.Keys.{is_key};
 ghost use Rattle.pp_values.specs.Views.{view, views, pair_views};
 ghost use Rattle.hiera_config.specs.Pieces.{pieces};
-ghost use Rattle.hiera_lookup.specs.Filled.{answer_to, said, piece_text, text_filled, or_empty, as_key, filled, list_filled, pairs_filled};
+ghost use Rattle.hiera_lookup.specs.Filled.{answer_to, said, piece_text, text_filled, or_empty, as_key, filled};
+ghost use Rattle.hiera_lookup.specs.Filled.{list_filled, pairs_filled};
 ghost use Rattle.hiera_lookup.specs.World.{seen};
 
 use crate::answer::{Answers, answer_to};

@@ -1,5 +1,6 @@
 //! What the sources have for a key.
-ghost use Rattle.std.specs.Prelude.{◌≡◌, ◌<◌, ◌∷◌, IfOk, IfSome, Some, length, map, option_map, option_and_then, slice_get, vec_len};
+ghost use Rattle.std.specs.Prelude.{◌≡◌, ◌<◌, ◌∷◌, IfOk, IfSome, Some, length, map, option_map, option_and_then};
+ghost use Rattle.std.specs.Prelude.{slice_get, vec_len};
 ghost use Rattle.pp_values.specs.Views.{view, views};
 ghost use Rattle.hiera_config.specs.Meant.{MeetsBy};
 ghost use Rattle.hiera_config.specs.Found.{source_views};
@@ -18,7 +19,7 @@ use std::alloc::Global;
 
 /// The values of the key's root in the layers, those of the module too where one is given, merged, and dug by the
 /// key's steps.
-pub fn found(
+pub fn find_value(
     alloc: Global,
     world: &World<'_>,
     of_module: Option<&str>,
@@ -139,7 +140,7 @@ fn part(alloc: Global, value: Value, steps: &[&str]) -> Result<Option<Value>, Me
     if steps.is_empty() {
         return Ok(Some(value));
     }
-    copied(alloc, dig(&value, steps))
+    copy_option(alloc, dig(&value, steps))
 }
 
 fn part_if(alloc: Global, value: Option<Value>, steps: &[&str]) -> Result<Option<Value>, Memory>
@@ -152,7 +153,7 @@ fn part_if(alloc: Global, value: Option<Value>, steps: &[&str]) -> Result<Option
     }
 }
 
-fn copied(alloc: Global, value: Option<&Value>) -> Result<Option<Value>, Memory>
+fn copy_option(alloc: Global, value: Option<&Value>) -> Result<Option<Value>, Memory>
     ensures { IfOk result (λ o. option_map view o ≡ option_map (λ v. view v.now) value.entry) }
 {
     match value {

@@ -11,7 +11,7 @@ use crate::answer::{Answer, Answers};
 use crate::asking::{Ask, add_asks};
 use crate::busy::{is_busy, with_key};
 use crate::filling::fill;
-use crate::finding::{found, root_of};
+use crate::finding::{find_value, root_of};
 use crate::literals::is_literal;
 use crate::looked::Looked;
 use crate::option_reading::{OPTIONS, option_in};
@@ -65,7 +65,7 @@ fn look_within(
         return interpolated(alloc, world, busy, value, left);
     }
     let merge = merge_for(alloc, world, busy, of_module, key, merge, left)?;
-    let value = found(alloc, world, of_module, key, merge)?;
+    let value = find_value(alloc, world, of_module, key, merge)?;
     interpolated(alloc, world, busy, value, left)
 }
 
@@ -241,7 +241,7 @@ fn found_first(
     if merge.is_some() || !lacks_options(alloc, world, busy, key, left) {
         return None;
     }
-    match found(alloc, world, of_module, key, Merge::First) {
+    match find_value(alloc, world, of_module, key, Merge::First) {
         Ok(value) => Some(value),
         Err(_) => None,
     }

@@ -9,7 +9,8 @@ ghost use Rattle.hiera_config.specs.Found.{source_views};
 ghost use Rattle.hiera_merge.specs.Merges.{pairs_in};
 ghost use Rattle.hiera_lookup.specs.Filled.{answer_to, filled, as_key};
 ghost use Rattle.hiera_lookup.specs.Looked.{looked_view};
-ghost use Rattle.hiera_lookup.specs.Options.{option_in, of_options, bad_options, highest_path, has_options, options_key};
+ghost use Rattle.hiera_lookup.specs.Options.{option_in, of_options, bad_options, highest_path, has_options};
+ghost use Rattle.hiera_lookup.specs.Options.{options_key};
 ghost use Rattle.hiera_lookup.specs.World.{seen};
 
 use crate::answer::Answers;

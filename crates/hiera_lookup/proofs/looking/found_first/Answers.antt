@@ -10,4 +10,4 @@ returns-in-Ok c =
     (option_map (λ t. t.now) c.args.of_module) c.args.key.now c.args.merge (option_map view c.in-Ok.value)
     (c.lacks_options.ensures c.if-not-lacks_options.false)
     (none_of _ (sym c.is_some.ensures ∙ c.if-is_some.false))
-    (c.found.ensures.ok _ c.in-Ok.is)
+    (c.find_value.ensures.ok _ c.in-Ok.is)

@@ -4,7 +4,7 @@ use Rattle.hiera_config.proofs.Meets.{after_ok, after_err, gives}
 use Rattle.hiera_merge.specs.Digging.{root, steps, dug}
 use Rattle.hiera_lookup.specs.Found.{found, root_of, steps_of}
 use Rattle.hiera_lookup.proofs.Sources.{found_highest}
-use Rattle.hiera_lookup.proofs.finding.found.Goals as goal
+use Rattle.hiera_lookup.proofs.finding.find_value.Goals as goal
 
 pub returns-in_err-sources : goal.returns-in_err-sources
 unfolding found

@@ -13,5 +13,6 @@ use Rattle.eval_world.specs.declared.world.World.{World}
 pub record Nests (inner : Inner) (left : ℕ) (pre : MutBor World → Goal → Here → ℕ → Type 0)
     (post : MutBor World → Goal → Here → ℕ → Result Datum Stop → MutBor World → Type 0) : Type 0 where
   pub callable : (old : MutBor World) (goal : Goal) (here : Here) → pre old goal here left
-  pub gives : (old new : MutBor World) (goal : Goal) (here : Here) (r : Result Datum Stop) → post old goal here left r new
+  pub gives : (old new : MutBor World) (goal : Goal) (here : Here) (r : Result Datum Stop) →
+      post old goal here left r new
       → Gives same (asked inner goal here old.now) r new.now

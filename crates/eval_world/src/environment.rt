@@ -6,8 +6,8 @@ use pp_values::Text;
 use std::collections::BTreeMap;
 use std::marker::Model;
 
-/// What an evaluation reads: the main manifest, all manifests of the site by their paths, and the site's data. They stay
-/// as they are.
+/// What an evaluation reads: the main manifest, all manifests of the site by their paths, and the site's data. They
+/// stay as they are.
 ///
 /// A contract sees trees, faults and texts, and not where they lie.
 #[derive(Drop)]

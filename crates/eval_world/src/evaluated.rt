@@ -44,7 +44,10 @@ impl Evaluated {
     {
         match value {
             Value::Int(number) => Ok(Evaluated::new(Value::Int(*number))),
-            Value::List(items) => Ok(Evaluated::new(Value::List(copied(alloc, items.as_slice())?))),
+            Value::List(items) => Ok(Evaluated::new(Value::List(copy_members(
+                alloc,
+                items.as_slice(),
+            )?))),
             _ => Ok(Evaluated::new(copy(alloc, value)?)),
         }
     }
@@ -66,7 +69,7 @@ impl Evaluated {
 }
 
 /// A list of the same values, whose memory is taken once.
-fn copied(alloc: Global, values: &[Value]) -> Result<Values, Memory>
+fn copy_members(alloc: Global, values: &[Value]) -> Result<Values, Memory>
     ensures { IfOk result (λ l. l ≡ views values.now) }
 {
     let mut items = Vec::with_capacity(alloc, values.len())?;

@@ -1,7 +1,8 @@
 use std::alloc::Global;
 use std::marker::Model;
 
-/// Where a compile has its memory from. A contract sees nothing of it, so that what a compile means does not depend on it.
+/// Where a compile has its memory from. A contract sees nothing of it, so that what a compile means does not depend on
+/// it.
 #[derive(Drop)]
 pub struct Heap {
     alloc: Global,

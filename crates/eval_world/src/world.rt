@@ -138,8 +138,8 @@ impl<'a> World<'a> {
         }
     }
 
-    /// Sets a variable. F3 is placed at this line, and a place is made only for it. Whatever the error, memory included,
-    /// all stays as it was.
+    /// Sets a variable. F3 is placed at this line, and a place is made only for it. Whatever the error, memory
+    /// included, all stays as it was.
     #[inline(always)]
     #[tactic(auto, using(crate::proofs::Elsewhere::set_here, crate::proofs::Elsewhere::refused_here))]
     pub fn assign(
@@ -163,7 +163,8 @@ impl<'a> World<'a> {
     #[cold]
     #[inline(never)]
     fn reassigned(&self, here: Here, name: &Text, line: u32) -> Result<Stop, Memory>
-        ensures { IfOk result (λ s. s ≡ stop.Fault (fault (spec.place_at self.now here line) (what.Reassigned name.now))) }
+        ensures { IfOk result
+            (λ s. s ≡ stop.Fault (fault (spec.place_at self.now here line) (what.Reassigned name.now))) }
     {
         let name = name.copy(self.heap.alloc())?;
         Ok(Stop::Fault(self.fault(here, line, What::Reassigned(name))?))

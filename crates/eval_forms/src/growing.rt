@@ -9,7 +9,7 @@ use std::alloc::Global;
 use std::marker::Model;
 
 /// Up to how many pairs are gone over for each key that is put in. Of more the keys have a table.
-const FEW: usize = 16;
+const PAIRS_WITHOUT_TABLE: usize = 16;
 
 /// The pairs of a hash that are put in one by one. A contract sees what each key and value says.
 pub struct Growing {
@@ -48,7 +48,7 @@ impl Growing {
     pub fn for_count(alloc: Global, count: usize) -> Growing
         ensures { result ≡ [] }
     {
-        if count <= FEW {
+        if count <= PAIRS_WITHOUT_TABLE {
             return few(Pairs::new(alloc));
         }
         many(KeyedPairs::new(alloc))

@@ -1,5 +1,6 @@
 //! The pairs of a large hash, whose keys are found without going over all.
-ghost use Rattle.std.specs.Prelude.{◌≡◌, ◌<◌, ◌∷◌, ◌++◌, [], IfOk, OnOk, IsTrue, None, Some, if◌then◌else◌, length, vec_len};
+ghost use Rattle.std.specs.Prelude.{◌≡◌, ◌<◌, ◌∷◌, ◌++◌, [], IfOk, OnOk, IsTrue, None, Some, if◌then◌else◌, length};
+ghost use Rattle.std.specs.Prelude.{vec_len};
 ghost use Rattle.pp_values.specs.Datum.{Datum};
 ghost use Rattle.pp_values.specs.Keys.{is_key, same_key, with_pair};
 ghost use Rattle.pp_values.specs.Places.{place_of, with_value};

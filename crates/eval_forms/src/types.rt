@@ -7,8 +7,8 @@ use expr_eval::type_value;
 use pp_types::is_type_name;
 use pp_values::{Stop, Text, What};
 
-/// `Integer` or `Ntp::Server`: the type without arguments. Where a tree has a name here that no text of the grammar has,
-/// that is F1.
+/// `Integer` or `Ntp::Server`: the type without arguments. Where a tree has a name here that no text of the grammar
+/// has, that is F1.
 #[tactic(auto, unfolding(crate::specs::Types::type_rule))]
 pub fn type_of(world: &World<'_>, name: &Text, line: u32, here: Here) -> Result<Evaluated, Stop>
     ensures { Gives same (spec.type_rule name.now line here world.now) result world.now }

@@ -21,8 +21,8 @@ pub fn param_count(lambda: &Lambda) -> Result<u32, Memory>
     }
 }
 
-/// One call of a lambda with these arguments, which move into its parameters, in a scope of its own. The lambda belongs to
-/// the call that begins at this line.
+/// One call of a lambda with these arguments, which move into its parameters, in a scope of its own. The lambda belongs
+/// to the call that begins at this line.
 #[tactic(auto, unfolding(crate::specs::Lambdas::lambda_rule))]
 pub fn call_lambda<
     F: Fn(&mut World<'_>, Goal<'_>, Here, u32) -> Result<Evaluated, Stop>,

@@ -25,14 +25,19 @@ pub fn look_up(
     ensures { Gives same (spec.lookup_rule function.now arguments.now line here world.now) result world.now }
 {
     match request_of(world.heap.alloc(), arguments.as_slice())? {
-        Some(request) => found(world, &request, line, here),
+        Some(request) => find_value(world, &request, line, here),
         None => Err(Stop::Fault(wrong(world, function, line, here)?)),
     }
 }
 
 /// The value of the first key that has one, or what stands in for it, tested against the type that is asked for.
 #[tactic(auto, unfolding(crate::specs::LookUps::found_rule))]
-fn found(world: &World<'_>, request: &Request<'_>, line: u32, here: Here) -> Result<Evaluated, Stop>
+fn find_value(
+    world: &World<'_>,
+    request: &Request<'_>,
+    line: u32,
+    here: Here,
+) -> Result<Evaluated, Stop>
     ensures { Gives same (spec.found_rule (spec.request_seen request.now) line here world.now) result world.now }
 {
     let at = world.place(here, line)?;

@@ -99,15 +99,15 @@ fn no_title(alloc: Global, at: &Place) -> Result<Fault, Memory>
 }
 
 /// How many lines are compared with one another. Of more the names are kept in a set.
-const FEW: usize = 16;
+const COMPARED_LINES: usize = 16;
 
-/// Whether a few lines are known to pass their tests, whatever resource they are for: so that nothing has to be made that
-/// only a fault tells.
+/// Whether a few lines are known to pass their tests, whatever resource they are for: so that nothing has to be made
+/// that only a fault tells.
 #[tactic(auto, using(crate::proofs::GoodLines::all_taken))]
 pub fn are_taken(known: &KnownNames, lines: &[Line]) -> bool
     ensures { IsTrue result → good.AreTaken known.now (lines_of lines.now) }
 {
-    lines.len() <= FEW && are_known(known, lines) && are_apart(lines)
+    lines.len() <= COMPARED_LINES && are_known(known, lines) && are_apart(lines)
 }
 
 #[tactic(auto, unfolding(crate::specs::GoodLines::are_known))]

@@ -28,11 +28,11 @@ pub fn declare(
 {
     let owner = world.owners.get(here.owner);
     let item = item_of(world.heap.alloc(), owner, &world.book, named, body)?;
-    put(world, item, mode_of(form))
+    put_item(world, item, mode_of(form))
 }
 
 #[tactic(auto, using(crate::proofs::Containers::numbered))]
-fn put(world: &mut World<'_>, item: Declared, mode: Mode) -> Result<u32, Stop>
+fn put_item(world: &mut World<'_>, item: Declared, mode: Mode) -> Result<u32, Stop>
     requires { IsTrue (is_contained item.container world.old.book) }
     ensures number { Gives same (put item mode world.old) result world.new }
     ensures within { IfOk result (λ n. n < length world.new.book) }

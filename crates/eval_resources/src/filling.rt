@@ -32,7 +32,7 @@ fn filled_with(
     let names = names_of(alloc, own.as_slice())?;
     let (front, back) = parted(defaults, before);
     let filled = with_all_unwritten(alloc, Lines::new(alloc), &names, front)?;
-    let filled = joined(filled, own)?;
+    let filled = join_lines(filled, own)?;
     with_all_unwritten(alloc, filled, &names, back)
 }
 
@@ -48,7 +48,7 @@ fn parted(defaults: &[Lines], count: usize) -> (&[Lines], &[Lines])
     (defaults, &[])
 }
 
-fn joined(mut done: Lines, more: Lines) -> Result<Lines, Memory>
+fn join_lines(mut done: Lines, more: Lines) -> Result<Lines, Memory>
     ensures { IfOk result (λ ls. ls ≡ done ++ more) }
 {
     done.append(more)?;

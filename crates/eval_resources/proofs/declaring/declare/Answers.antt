@@ -9,6 +9,7 @@ unfolding declare_rule
 returns-clause-number c =
     let w = c.args.world.now in
     let body = c.args.body.now in
-    subst (λ d. Gives same (put d (mode_of c.args.form) w) c.put.result c.put.new.world)
+    subst (λ d. Gives same (put d (mode_of c.args.form) w) c.put_item.result c.put_item.new.world)
     (c.in_ok-item.ensures ∙ ap (λ o. item_of o w.book c.args.named body) c.get-owner.ensures)
-    (subst (λ m. Gives same (put c.in_ok-item.item m w) c.put.result c.put.new.world) c.mode_of.ensures c.put.ensures.number)
+    (subst (λ m. Gives same (put c.in_ok-item.item m w) c.put_item.result c.put_item.new.world) c.mode_of.ensures
+    c.put_item.ensures.number)

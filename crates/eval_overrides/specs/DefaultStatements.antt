@@ -38,7 +38,7 @@ abbrev pub kind_put : Inner → Option (List ℕ) → Defaults Expr → Here →
 kind_put inner None d here = fault here d.at what.Syntax
 kind_put inner (Some kind) d here = lines_put inner kind d.attributes here
 
--- The kind is that of the name in lower case, without a leading `::`, whether or not there is one. No text of the grammar
--- has a name here that is none of a kind.
+-- The kind is that of the name in lower case, without a leading `::`, whether or not there is one. No text of the
+-- grammar has a name here that is none of a kind.
 unfoldable pub defaults_rule : Inner → Defaults Expr → Here → Step (Unit {0})
 defaults_rule inner d here = kind_put inner (kind_of (normal d.kind)) d here

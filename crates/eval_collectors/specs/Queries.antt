@@ -10,7 +10,8 @@ use Rattle.pp_tree.specs.declared.collector.Test.TheOpen.{Test-F}
 use Rattle.pp_tree.specs.declared.expr.Expr.{Expr}
 use Rattle.pp_values.specs.Datum.{Datum}
 use Rattle.pp_values.specs.declared.fault.What.TheVariants as what
-use Rattle.res_core.specs.Criteria.{Criterion, by_title, by_tag, by_attribute, negation, conjunction, disjunction, criteria_of}
+use Rattle.res_core.specs.Criteria.{Criterion, by_title, by_tag, by_attribute, negation, conjunction, disjunction}
+use Rattle.res_core.specs.Criteria.{criteria_of}
 use Rattle.eval_world.specs.Inner.{Inner}
 use Rattle.eval_world.specs.Outcomes.{Step, ◌>>=◌, pure}
 use Rattle.eval_world.specs.Worlds.{fault}

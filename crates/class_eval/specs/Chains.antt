@@ -1,5 +1,5 @@
--- Chains with arrows: `A['x'] -> b { 'y': } ~> C <| |>`. Each arrow is a relation between what stands on its left and what
--- stands on its right.
+-- Chains with arrows: `A['x'] -> b { 'y': } ~> C <| |>`. Each arrow is a relation between what stands on its left and
+-- what stands on its right.
 use Rattle.std.specs.Prelude.{ℕ, Bool, true, false, ◌-◌, List, [], ◌∷◌, ◌++◌, length, Option, None, Some, Ok, codes}
 use Rattle.pp_funcs.specs.Lists.{flat}
 use Rattle.pp_tree.specs.Layers.{OperandLayer}
@@ -57,8 +57,8 @@ relates_nothing p = do
   p
   pure None
 
--- Resources and collectors stand for what they declare and take. Overrides and default statements stand in no chain of the
--- grammar, and relate nothing.
+-- Resources and collectors stand for what they declare and take. Overrides and default statements stand in no chain of
+-- the grammar, and relate nothing.
 abbrev pub related_by : Inner → OperandLayer → ℕ → Here → Step (Option (List Operand))
 related_by inner (Operand-F.Expr e) line here = do
   v ← inner.value e here
@@ -122,8 +122,8 @@ relate_by (Some left) a (Some right) line here = do
   put_relation a left right line here
   pure right
 
--- The relations in order. The first operand that can't be related is refused, with the arrow before it; the chain's first
--- one with the arrow after it.
+-- The relations in order. The first operand that can't be related is refused, with the arrow before it; the chain's
+-- first one with the arrow after it.
 unfoldable pub relate_from : Option (List Operand) → List End → ℕ → Here → Step (Unit {0})
 relate_from left [] line here = pure tt
 relate_from left (e ∷ es) line here = do

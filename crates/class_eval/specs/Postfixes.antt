@@ -27,7 +27,9 @@ use Rattle.eval_world.specs.declared.here.Here.{Here}
 
 -- one level of a postfix, as `out-Postfix` opens it
 abbrev pub PostfixLayer : Type 0
-PostfixLayer = Postfix-F Test Form Postfix Operand Statement Collector Conjunction Query Case CaseOption Elsif If Unless Call Expr Lambda
+PostfixLayer =
+    Postfix-F Test Form Postfix Operand Statement Collector Conjunction Query Case CaseOption Elsif If Unless Call Expr
+    Lambda
 
 abbrev pub postfix_by : Inner → Datum → PostfixLayer → ℕ → Here → Step Datum
 postfix_by inner v (Postfix-F.Access args) line here = accessed_rule inner v args line here

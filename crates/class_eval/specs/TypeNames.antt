@@ -14,7 +14,8 @@ use Rattle.eval_world.specs.Outcomes.{Step, ◌>>=◌, ◌>>◌, pure, answered}
 use Rattle.eval_world.specs.Worlds.{place_at}
 use Rattle.eval_world.specs.declared.here.Here.{Here}
 
--- F5 at a kind that is neither native nor a define of the site. A module file that is asked for it and has a fault gives that.
+-- F5 at a kind that is neither native nor a define of the site. A module file that is asked for it and has a fault
+-- gives that.
 abbrev pub kind_there : Environment → List ℕ → Place → Result (Unit {0}) Fault
 kind_there m name at = and_then (kind_checked m (normal name) at) (λ _. Ok tt)
 

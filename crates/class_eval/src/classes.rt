@@ -5,7 +5,7 @@ ghost use Rattle.class_eval.specs.Meaning.{within};
 ghost use Rattle.eval_world.specs.Outcomes.{Gives, nothing, same};
 ghost use Rattle.pp_values.specs.Answers.{Answers};
 
-use crate::knot::{Whole, evaluate};
+use crate::knot::{AllForms, evaluate};
 use eval_classes::{
     class_found, class_reference, declare_class, declare_once, normal_name, param_names,
 };
@@ -46,7 +46,7 @@ fn declare<'a>(
 ) -> Result<(), Stop>
     ensures { Gives nothing (spec.class_given (within left) class.now given at.now here world.old) result world.new }
 {
-    let forms: Forms<_, Whole> = Forms {
+    let forms: Forms<_, AllForms> = Forms {
         left,
         inner: evaluate,
         meaning: PhantomData,

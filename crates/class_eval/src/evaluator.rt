@@ -14,7 +14,7 @@ ghost use Rattle.eval_world.specs.Outcomes.{Gives, nothing, same};
 ghost use Rattle.eval_world.specs.Worlds.{place_at, top};
 
 use crate::classes::class_at;
-use crate::knot::{Whole, evaluate};
+use crate::knot::{AllForms, evaluate};
 use crate::nodes::{has_nodes, node_of};
 use crate::running::run;
 use crate::starting::start_world;
@@ -159,7 +159,7 @@ impl<'a> Evaluator<'a> {
         ensures node { self.new.node ≡ self.old.node }
         ensures looks { self.new.looks ≡ self.old.looks }
     {
-        let forms: Forms<_, Whole> = Forms {
+        let forms: Forms<_, AllForms> = Forms {
             left: levels_left(depth),
             inner: evaluate,
             meaning: PhantomData,
@@ -167,9 +167,9 @@ impl<'a> Evaluator<'a> {
         run_instance(&forms, &mut self.world, number)
     }
 
-    /// Has one collector take one local declaration, which is marked then, and to which the collector's block is applied
-    /// where it was not before: true exactly where the mark makes it live, or the block is applied now. It is counted,
-    /// whatever the answer. Both are given by their numbers.
+    /// Has one collector take one local declaration, which is marked then, and to which the collector's block is
+    /// applied where it was not before: true exactly where the mark makes it live, or the block is applied now. It is
+    /// counted, whatever the answer. Both are given by their numbers.
     pub fn local_match(&mut self, collector: u32, number: u32) -> Result<bool, Stop>
         ensures world { Gives same (matching.local_match collector number self.old.world) result self.new.world }
         ensures node { self.new.node ≡ self.old.node }
@@ -179,9 +179,9 @@ impl<'a> Evaluator<'a> {
         local_match(&mut self.world, collector, number)
     }
 
-    /// Has one collector import the resource that a node exports at this place of its set, unless it was imported before,
-    /// and apply its block to it where it was not applied before: true exactly where the resource is declared here, or
-    /// the block is applied now. The collector is given by its number.
+    /// Has one collector import the resource that a node exports at this place of its set, unless it was imported
+    /// before, and apply its block to it where it was not applied before: true exactly where the resource is declared
+    /// here, or the block is applied now. The collector is given by its number.
     pub fn import_match(
         &mut self,
         collector: u32,
@@ -218,8 +218,8 @@ impl<'a> Evaluator<'a> {
         needed_tag(&self.world, collector)
     }
 
-    /// The one reference that a collector asks for, where it comes from the function `realize`. The collector is given by
-    /// its number.
+    /// The one reference that a collector asks for, where it comes from the function `realize`. The collector is given
+    /// by its number.
     pub fn realized(&self, collector: u32) -> Option<&Reference>
         ensures { option_copied result ≡ matching.realized self.now.world collector }
     {

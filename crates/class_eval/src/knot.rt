@@ -22,9 +22,9 @@ use std::marker::PhantomData;
 
 /// Names what all forms together mean.
 #[derive(Clone, Copy)]
-pub struct Whole;
+pub struct AllForms;
 
-impl Meaning for Whole {
+impl Meaning for AllForms {
     ghost use Rattle.class_eval.specs.Meaning.{within};
     ghost use Rattle.class_eval.specs.LeafLaw.{leaves};
 
@@ -118,7 +118,7 @@ pub fn evaluate(
     if left == 0 {
         return too_deep(world, goal, here);
     }
-    let forms: Forms<_, Whole> = Forms {
+    let forms: Forms<_, AllForms> = Forms {
         left: left - 1,
         inner: evaluate,
         meaning: PhantomData,

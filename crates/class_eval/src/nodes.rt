@@ -88,14 +88,14 @@ fn first_named<'a>(
 ) -> Result<Option<&'a Node>, Memory>
     ensures { IfOk result (λ n. option_copied n ≡ spec.first_named definitions.now first.now) }
 {
-    let name = DefinitionName::Node(copied(alloc, first)?);
+    let name = DefinitionName::Node(copy_name(alloc, first)?);
     match definitions.get(&name) {
         Some(definition) => Ok(node_in(definition)),
         None => Ok(None),
     }
 }
 
-fn copied(alloc: Global, name: &Option<Text>) -> Result<Option<Text>, Memory>
+fn copy_name(alloc: Global, name: &Option<Text>) -> Result<Option<Text>, Memory>
     ensures { IfOk result (λ n. n ≡ name.now) }
 {
     match name {

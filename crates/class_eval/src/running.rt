@@ -6,7 +6,7 @@ ghost use Rattle.eval_forms.specs.Operators.{assigned_rule};
 ghost use Rattle.eval_world.specs.Nests.{Nests};
 ghost use Rattle.eval_world.specs.Outcomes.{Gives, nothing};
 
-use crate::knot::{Whole, evaluate, form};
+use crate::knot::{AllForms, evaluate, form};
 use crate::statements::{stated, statement};
 use eval_world::{Evaluated, Forms, Goal, Here, Meaning, World};
 use pp_tree::expr::{Expr, Form};
@@ -34,7 +34,7 @@ fn run_one(world: &mut World<'_>, next: &Statement, here: Here, left: u32) -> Re
     if let Some(expr) = stated(next) {
         return run_expr(world, expr, here, left);
     }
-    let forms: Forms<_, Whole> = Forms {
+    let forms: Forms<_, AllForms> = Forms {
         left,
         inner: evaluate,
         meaning: PhantomData,
@@ -51,7 +51,7 @@ fn run_expr(world: &mut World<'_>, expr: &Expr, here: Here, left: u32) -> Result
         drop(evaluate(world, Goal::Value(expr), here, left)?);
         return Ok(());
     }
-    let forms: Forms<_, Whole> = Forms {
+    let forms: Forms<_, AllForms> = Forms {
         left: left - 1,
         inner: evaluate,
         meaning: PhantomData,
@@ -71,7 +71,7 @@ fn run_form<F: Fn(&mut World<'_>, Goal<'_>, Here, u32) -> Result<Evaluated, Stop
     ensures { Gives nothing (spec.run (value_rule (M.within forms.now.left) expr.now here) world.old) result world.new }
 {
     match expr.form.get() {
-        Form::Assign(name, value) => set(forms, world, name.get(), value, expr.at, here),
+        Form::Assign(name, value) => run_assignment(forms, world, name.get(), value, expr.at, here),
         _ => {
             drop(form(forms, world, expr, here)?);
             Ok(())
@@ -80,7 +80,10 @@ fn run_form<F: Fn(&mut World<'_>, Goal<'_>, Here, u32) -> Result<Evaluated, Stop
 }
 
 #[tactic(auto, unfolding(eval_forms::specs::Operators::assigned_rule), using(crate::proofs::Runs::run_assigned, crate::proofs::Runs::run_unset))]
-fn set<F: Fn(&mut World<'_>, Goal<'_>, Here, u32) -> Result<Evaluated, Stop>, M: Meaning>(
+fn run_assignment<
+    F: Fn(&mut World<'_>, Goal<'_>, Here, u32) -> Result<Evaluated, Stop>,
+    M: Meaning,
+>(
     forms: &Forms<F, M>,
     world: &mut World<'_>,
     name: &Text,

@@ -13,8 +13,8 @@ use res_core::{Attributes, Declared, KnownNames, Resource, Tags, tags_of};
 use scope_core::Scopes;
 use std::alloc::Global;
 
-/// Top scope before evaluation, of a node with these facts: the variables that data are looked up with where no manifest
-/// asks for them.
+/// Top scope before evaluation, of a node with these facts: the variables that data are looked up with where no
+/// manifest asks for them.
 pub fn top_scopes(alloc: Global, node: &Text, facts: &Value) -> Result<Scopes, Memory>
     ensures { IfOk result (λ s. s ≡ with_top_names node.now (view facts.now) top_alone) }
 {

@@ -56,12 +56,12 @@ pub fn stated(statement: &Statement) -> Option<&Expr>
     ensures { IfSome result (λ e. IsStatement e.now (out-Statement statement.now)) }
 {
     match statement {
-        Statement::Chain(chain) => alone(chain),
+        Statement::Chain(chain) => only_operand(chain),
         Statement::Words(_) => None,
     }
 }
 
-fn alone(chain: &Chain) -> Option<&Expr>
+fn only_operand(chain: &Chain) -> Option<&Expr>
     ensures { IfSome result (λ e. IsChain e.now chain.now.links chain.now.first) }
 {
     match chain.links.as_slice() {

@@ -148,27 +148,27 @@ fn trusted(alloc: Global, node: &Text) -> Result<Value, Memory>
     ensures { IfOk result (λ v. view v ≡ spec.trusted node.now) }
 {
     let mut pairs = Pairs::new(alloc);
-    put(
+    put_pair(
         alloc,
         &mut pairs,
         "certname",
         Value::Text(node.copy(alloc)?),
     )?;
-    put(alloc, &mut pairs, "hostname", host_of(alloc, node)?)?;
-    put(alloc, &mut pairs, "domain", domain_of(alloc, node)?)?;
-    put(
+    put_pair(alloc, &mut pairs, "hostname", host_of(alloc, node)?)?;
+    put_pair(alloc, &mut pairs, "domain", domain_of(alloc, node)?)?;
+    put_pair(
         alloc,
         &mut pairs,
         "authenticated",
         Value::Text(Text::from_str(alloc, "remote")?),
     )?;
-    put(
+    put_pair(
         alloc,
         &mut pairs,
         "extensions",
         Value::Hash(Pairs::new(alloc)),
     )?;
-    put(
+    put_pair(
         alloc,
         &mut pairs,
         "external",
@@ -177,7 +177,7 @@ fn trusted(alloc: Global, node: &Text) -> Result<Value, Memory>
     Ok(Value::Hash(pairs))
 }
 
-fn put(alloc: Global, pairs: &mut Pairs, key: &str, value: Value) -> Result<(), Memory>
+fn put_pair(alloc: Global, pairs: &mut Pairs, key: &str, value: Value) -> Result<(), Memory>
     ensures { OnOk result (pairs.new ≡ with_pair (d.text key.now) (view value) pairs.old) }
 {
     pairs.put(Value::Text(Text::from_str(alloc, key)?), value)

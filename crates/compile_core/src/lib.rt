@@ -1,5 +1,5 @@
-//! What a site means for a node: the catalog and what the node exports, or the first fault. And what its data have for a
-//! key.
+//! What a site means for a node: the catalog and what the node exports, or the first fault. And what its data have for
+//! a key.
 #![tactic(auto)]
 
 mod compiling;

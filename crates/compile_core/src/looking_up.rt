@@ -18,8 +18,8 @@ use std::alloc::Global;
 /// The value that the site's data have for a key, with the variables of the node's top scope, by the merge, or else by
 /// the one that `lookup_options` gives for the key.
 ///
-/// A node that the site does not list has no facts. Manifests are not asked: a faulty one does no harm. A fault stands at
-/// line 1 of `lookup`.
+/// A node that the site does not list has no facts. Manifests are not asked: a faulty one does no harm. A fault stands
+/// at line 1 of `lookup`.
 #[tactic(auto, unfolding(crate::specs::LookUp::look_up))]
 pub fn look_up(
     alloc: Global,
@@ -32,7 +32,7 @@ pub fn look_up(
 {
     let scopes = node_scopes(alloc, site, node)?;
     let at = lookup_place(alloc)?;
-    found(alloc, data_of(site), &scopes, key, merge, &at)
+    value_of_key(alloc, data_of(site), &scopes, key, merge, &at)
 }
 
 /// Top scope as it is for the node before evaluation.
@@ -57,7 +57,7 @@ fn lookup_place(alloc: Global) -> Result<Place, Memory>
 
 /// The value that the data have for a key, with the variables of top scope; a fault stands at the place.
 #[tactic(auto, using(crate::proofs::Finding::has, crate::proofs::Finding::lacks, crate::proofs::Finding::refused))]
-fn found(
+fn value_of_key(
     alloc: Global,
     site_data: &SiteData,
     scopes: &Scopes,

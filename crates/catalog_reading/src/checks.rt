@@ -4,7 +4,8 @@ ghost use Rattle.std.specs.BTreeSet.{insert_key};
 ghost use Rattle.std.specs.List.{list_all};
 ghost use Rattle.std.specs.Ordering.{nat_cmp};
 ghost use Rattle.pp_values.specs.Rising.{has_text, is_rising, precedes, text_cmp};
-ghost use Rattle.res_core.specs.Catalogs.{are_apart, are_containers, edge_cmp, has_form, is_before, is_between, is_ordered, reference_of};
+ghost use Rattle.res_core.specs.Catalogs.{are_apart, are_containers, edge_cmp, has_form, is_before, is_between};
+ghost use Rattle.res_core.specs.Catalogs.{is_ordered, reference_of};
 ghost use Rattle.catalog_reading.specs.CatalogReading.{are_contained, is_whole, name_of};
 
 use pp_values::{Memory, Text};

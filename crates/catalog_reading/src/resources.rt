@@ -4,7 +4,9 @@ ghost use Rattle.serde_json.specs.Find.{as_str};
 ghost use Rattle.serde_json.specs.View.{items_view, members_view, view};
 ghost use Rattle.pp_values.specs.Views.{view as value_view};
 ghost use Rattle.json_values.specs.Forms.{value_of};
-ghost use Rattle.catalog_reading.specs.CatalogParts.{each_said, list_said, said_at, kind_in, kind_said, settings_said, attributes_said, if_rising, tags_said, name_said, resource_said, held_said};
+ghost use Rattle.catalog_reading.specs.CatalogParts.{each_said, list_said, said_at, kind_in, kind_said, settings_said};
+ghost use Rattle.catalog_reading.specs.CatalogParts.{attributes_said, if_rising, tags_said, name_said, resource_said};
+ghost use Rattle.catalog_reading.specs.CatalogParts.{held_said};
 
 use crate::checks::are_rising;
 use crate::numbers::inside_at;

@@ -1,5 +1,7 @@
 -- How the lines of a journal are read: one after another, each by a comparison with the line that would be written.
-use Rattle.std.specs.Prelude.{◌≡◌, ⊤, ℕ, ◌+◌, ◌^◌, ◌<◌, ◌==◌, nat_lt, Bool, true, false, not, ◌&&◌, ◌||◌, if◌then◌else◌, codes, List, [], ◌∷◌, ◌++◌, Option, Some, None, option_map, option_and_then, Result, Ok, Err}
+use Rattle.std.specs.Prelude.{◌≡◌, ⊤, ℕ, ◌+◌, ◌^◌, ◌<◌, ◌==◌, nat_lt, Bool, true, false, not, ◌&&◌, ◌||◌, if◌then◌else◌}
+use Rattle.std.specs.Prelude.{codes, List, [], ◌∷◌, ◌++◌, Option, Some, None, option_map, option_and_then, Result, Ok}
+use Rattle.std.specs.Prelude.{Err}
 use Rattle.std.specs.Str.{bytes_eq}
 use Rattle.serde_json.specs.Data.{Data}
 use Rattle.serde_json.specs.Find.{get, as_number, as_u64}
@@ -87,7 +89,8 @@ abbrev pub if_opening : List ℕ → Bool → SiteView → Option (Bool × SiteV
 if_opening line first s = if bytes_eq (compact_text (opening_data first s)) line then Some (first, s) else None
 
 abbrev pub opening_said : List ℕ → Data → Option (Bool × SiteView)
-opening_said line d = option_and_then (if_opening line (says_first d)) (option_and_then site_said (get (codes "site") d))
+opening_said line d =
+    option_and_then (if_opening line (says_first d)) (option_and_then site_said (get (codes "site") d))
 
 abbrev pub opening_in : List ℕ → Option (Bool × SiteView)
 opening_in line = option_and_then (opening_said line) (read line)
@@ -135,7 +138,8 @@ abbrev pub journal_read : List ℕ → Result (List (Event SiteView)) ℕ
 journal_read text = entries_from nothing 0 text
 
 -- exactly what is meant, where a value shows entries, unless memory ran out
-abbrev pub Gives : {A : Type 0} → (A → List (Event SiteView)) → Result A DocStop → Result (List (Event SiteView)) ℕ → Type 0
+abbrev pub Gives : {A : Type 0} → (A → List (Event SiteView)) → Result A DocStop → Result (List (Event SiteView)) ℕ →
+    Type 0
 Gives shown (Ok a) meant = meant ≡ Ok (shown a)
 Gives shown (Err (stop.Bad n)) meant = meant ≡ Err n
 Gives shown (Err stop.Memory) meant = ⊤

@@ -5,7 +5,9 @@ ghost use Rattle.pp_values.specs.Views.{view};
 ghost use Rattle.serde_json.specs.View.{view as json_view};
 ghost use Rattle.site_core.specs.EntryViews.{event_of};
 ghost use Rattle.agent_docs.specs.ReportReading.{report_in as report_of_line};
-ghost use Rattle.journal_reading.specs.EntryReading.{number_at, maker_said, work_said, named_said, publication_said, removal_said, deployment_said, within, filing_in, filing_said, said_as, entry_said};
+ghost use Rattle.journal_reading.specs.EntryReading.{number_at, maker_said, work_said, named_said, publication_said};
+ghost use Rattle.journal_reading.specs.EntryReading.{removal_said, deployment_said, within, filing_in, filing_said};
+ghost use Rattle.journal_reading.specs.EntryReading.{said_as, entry_said};
 
 use crate::cuts::{after_prefix, before_suffix};
 use crate::entry_lines::unfiled_line;

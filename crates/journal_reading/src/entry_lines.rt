@@ -9,7 +9,13 @@ ghost use Rattle.site_core.specs.EntryViews.{event_of};
 ghost use Rattle.agent_docs.specs.ReportText.{report_data};
 ghost use Rattle.site_docs.specs.FaultText.{place_text as text_of_place};
 ghost use Rattle.site_docs.specs.SiteText.{site_data, site_text as text_of_site};
-ghost use Rattle.site_docs.specs.JournalText.{export_object as object_of_export, export_data, opening_object as object_of_opening, publication_object as object_of_publication, deactivation_object as object_of_deactivation, deployment_object as object_of_deployment, filing_object as object_of_filing, count_object as object_of_count, entry_data};
+ghost use Rattle.site_docs.specs.JournalText.{export_object as object_of_export, export_data};
+ghost use Rattle.site_docs.specs.JournalText.{opening_object as object_of_opening};
+ghost use Rattle.site_docs.specs.JournalText.{publication_object as object_of_publication};
+ghost use Rattle.site_docs.specs.JournalText.{deactivation_object as object_of_deactivation};
+ghost use Rattle.site_docs.specs.JournalText.{deployment_object as object_of_deployment};
+ghost use Rattle.site_docs.specs.JournalText.{filing_object as object_of_filing, count_object as object_of_count};
+ghost use Rattle.site_docs.specs.JournalText.{entry_data};
 ghost use Rattle.journal_reading.specs.JournalLines.{opening_data};
 
 use agent_docs::report_form;

@@ -5,7 +5,9 @@ ghost use Rattle.pp_values.specs.Settings.{setting_names};
 ghost use Rattle.res_core.specs.AttributeViews.{settings};
 ghost use Rattle.serde_json.specs.View.{view as json_view, items_view, members_view};
 ghost use Rattle.agent_docs.specs.ReportReading.{text_at, texts_said};
-ghost use Rattle.journal_reading.specs.EntryReading.{with_digit, digits_from, place_said, settings_said, attributes_said, tags_said, kind_said, name_said, lists_said, resource_said, export_said, exports_said};
+ghost use Rattle.journal_reading.specs.EntryReading.{with_digit, digits_from, place_said, settings_said};
+ghost use Rattle.journal_reading.specs.EntryReading.{attributes_said, tags_said, kind_said, name_said, lists_said};
+ghost use Rattle.journal_reading.specs.EntryReading.{resource_said, export_said, exports_said};
 
 use crate::cuts::cut_last;
 use json_values::{FormStop, from_form};

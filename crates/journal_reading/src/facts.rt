@@ -1,4 +1,5 @@
-//! Facts: a hash whose keys are texts that rise in byte order, at every level, with no reference and no data type within.
+//! Facts: a hash whose keys are texts that rise in byte order, at every level, with no reference and no data type
+//! within.
 ghost use Rattle.std.specs.Prelude.{◌≡◌, option_map, IfOk};
 ghost use Rattle.pp_values.specs.Datum.{data_of, entries_of};
 ghost use Rattle.pp_values.specs.Facts.{is_next_above, is_fact, are_members, are_pairs, are_facts};

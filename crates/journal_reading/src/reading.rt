@@ -5,7 +5,10 @@ ghost use Rattle.site_core.specs.EntryViews.{event_of};
 ghost use Rattle.json_documents.specs.LineDocuments.{result_map};
 ghost use Rattle.json_documents.specs.LinesOfText.{ReadsDocument};
 ghost use Rattle.journal_reading.specs.Journals.{IsJournalText};
-ghost use Rattle.journal_reading.specs.JournalLines.{entries as so_many, all as finished, may_stand, says_first, if_opening, opening_said, opening_in, is_written, if_written, entry_written, entry_in, is_last, entries_from, journal_read, Gives};
+ghost use Rattle.journal_reading.specs.JournalLines.{entries as so_many, all as finished, may_stand, says_first};
+ghost use Rattle.journal_reading.specs.JournalLines.{if_opening, opening_said, opening_in, is_written, if_written};
+ghost use Rattle.journal_reading.specs.JournalLines.{entry_written, entry_in, is_last, entries_from, journal_read};
+ghost use Rattle.journal_reading.specs.JournalLines.{Gives};
 
 use crate::entries::entry_said;
 use crate::entry_lines::{count_line, entry_line, opening_line};
@@ -83,7 +86,8 @@ fn one_more(count: u32) -> Result<u32, Memory>
 /// The history of these entries, where nothing stands behind the last line.
 fn whole(entries: Entries<Site>, count: u32, after: &str) -> Result<History<Site>, DocStop>
     requires { count + 2 < 4_294_967_296 }
-    ensures { Gives (λ h. h.entries) result (result_map (λ es. entries ++ es) (entries_from finished (count + 1) after.now)) }
+    ensures { Gives (λ h. h.entries) result
+        (result_map (λ es. entries ++ es) (entries_from finished (count + 1) after.now)) }
 {
     if after.is_empty() {
         Ok(History { entries })

@@ -6,7 +6,8 @@ ghost use Rattle.pp_values.specs.Settings.{setting_names};
 ghost use Rattle.serde_json.specs.View.{view as json_view, members_view};
 ghost use Rattle.site_bundle.specs.Given.{has_main, are_short};
 ghost use Rattle.journal_reading.specs.Journals.{paths_of};
-ghost use Rattle.journal_reading.specs.SiteReading.{texts_said, are_files, files_said, listed_said, nodes_said, site_said};
+ghost use Rattle.journal_reading.specs.SiteReading.{texts_said, are_files, files_said, listed_said, nodes_said};
+ghost use Rattle.journal_reading.specs.SiteReading.{site_said};
 
 use crate::facts::facts_said;
 use pp_values::{FactPairs, MAIN_MANIFEST, Memory, Text, TextPairs, Value};

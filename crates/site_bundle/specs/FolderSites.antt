@@ -1,5 +1,6 @@
 -- The site in a folder: which files are read for it, in which order, and what they give.
-use Rattle.std.specs.Prelude.{ℕ, zero, suc, if◌then◌else◌, nat_eq, codes, List, [], ◌∷◌, ◌++◌, ◌-◌, length, map, take, Option, None, Some, Result, Ok}
+use Rattle.std.specs.Prelude.{ℕ, zero, suc, if◌then◌else◌, nat_eq, codes, List, [], ◌∷◌, ◌++◌, ◌-◌, length, map, take}
+use Rattle.std.specs.Prelude.{Option, None, Some, Result, Ok}
 use Rattle.std.specs.List.{ends_with}
 use Rattle.std.specs.Option.{unwrap_or}
 use Rattle.pp_values.specs.declared.place.TheConstants.{MAIN_MANIFEST}
@@ -10,7 +11,8 @@ use Rattle.site_bundle.specs.declared.limits.TheConstants.{MOST_LEVELS}
 use Rattle.site_bundle.specs.Bundles.{site_with}
 use Rattle.site_bundle.specs.Refusals.{Refusal, too_large, result_and_then}
 use Rattle.site_bundle.specs.Gathering.{nothing_gathered, Keep, site_file, facts_file, machine_file, gather, with_main}
-use Rattle.site_bundle.specs.Walks.{Answer, bytes, missing, longer, Walk, done, refused, listing, reading, walk_then, in_turn, walk_of}
+use Rattle.site_bundle.specs.Walks.{Answer, bytes, missing, longer, Walk, done, refused, listing, reading, walk_then}
+use Rattle.site_bundle.specs.Walks.{in_turn, walk_of}
 
 -- ---- one call
 

@@ -1,5 +1,6 @@
 -- What is kept of each file that is read of a folder.
-use Rattle.std.specs.Prelude.{ℕ, ◌+◌, ◌-◌, Bool, ◌&&◌, if◌then◌else◌, nat_eq, nat_le, nat_lt, codes, List, [], length, take, Option, Some, None, option_and_then, Result, Ok, Err}
+use Rattle.std.specs.Prelude.{ℕ, ◌+◌, ◌-◌, Bool, ◌&&◌, if◌then◌else◌, nat_eq, nat_le, nat_lt, codes, List, [], length}
+use Rattle.std.specs.Prelude.{take, Option, Some, None, option_and_then, Result, Ok, Err}
 use Rattle.std.specs.FinMap.{put}
 use Rattle.std.specs.List.{ends_with}
 use Rattle.std.specs.Option.{ok_or}

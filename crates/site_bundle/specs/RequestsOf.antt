@@ -1,5 +1,6 @@
 -- The requests of a bundle.
-use Rattle.std.specs.Prelude.{ℕ, suc, ◌^◌, if◌then◌else◌, nat_lt, nat_le, codes, List, [], ◌∷◌, ◌++◌, length, Option, Some, None, option_and_then, Result, Ok, Err}
+use Rattle.std.specs.Prelude.{ℕ, suc, ◌^◌, if◌then◌else◌, nat_lt, nat_le, codes, List, [], ◌∷◌, ◌++◌, length, Option}
+use Rattle.std.specs.Prelude.{Some, None, option_and_then, Result, Ok, Err}
 use Rattle.std.specs.Option.{ok_or}
 use Rattle.pp_values.specs.Datum.{Datum}
 use Rattle.serde_json.specs.Data.{Data, Items, no_items, item}

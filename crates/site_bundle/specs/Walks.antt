@@ -1,5 +1,6 @@
 -- A walk over a tree of files: the calls that it makes, one after another, and what becomes of each answer.
-use Rattle.std.specs.Prelude.{◌≡◌, ◌⊎◌, ℕ, ◌≤◌, if◌then◌else◌, nat_le, List, [], ◌∷◌, length, Option, None, Some, Result, Ok, Err, IsTrue, IfSome}
+use Rattle.std.specs.Prelude.{◌≡◌, ◌⊎◌, ℕ, ◌≤◌, if◌then◌else◌, nat_le, List, [], ◌∷◌, length, Option, None, Some}
+use Rattle.std.specs.Prelude.{Result, Ok, Err, IsTrue, IfSome}
 use Rattle.std.specs.Option.{unwrap_or}
 use Rattle.pp_values.specs.Rising.{is_rising}
 use Rattle.site_io.specs.Folders.{Folder, Held, IsSameFolder, names_at, bytes_at}
@@ -69,8 +70,8 @@ pub record IsReading (told : Option (List Held)) (path : List ℕ) (answer : Ans
   pub short : IsShort answer
   pub tells : IfSome told (λ files. answer ≡ answer_of (bytes_at path files))
 
--- The walk comes to this end over a tree: each of its calls fails or gets an answer. A tree that tells its files answers
--- what it tells; whatever another one answers, the walk goes on with it.
+-- The walk comes to this end over a tree: each of its calls fails or gets an answer. A tree that tells its files
+-- answers what it tells; whatever another one answers, the walk goes on with it.
 unfoldable pub EndsIn : {A : Type 0} → Option (List Held) → Walk A → End A → Type 0
 EndsIn told (done x) end = end ≡ found x
 EndsIn told (refused why) end = end ≡ refusal why
@@ -97,9 +98,10 @@ EndsAs shown (Err (stop.TreeFault path)) walk before after =
     EndsIn before.told walk (fault path) × Rose before.faults after.faults
 EndsAs shown (Err stop.Memory) walk before after = Unit {0}
 
--- It went this walk, and its answer is what the walk came to, unless memory ran out: then it may have stopped anywhere. A
--- fault is told only where the tree's count rose.
-pub record Goes {A B : Type 0} (shown : A → B) (result : Result A BundleStop) (walk : Walk B) (before after : Folder) : Type 0 where
+-- It went this walk, and its answer is what the walk came to, unless memory ran out: then it may have stopped anywhere.
+-- A fault is told only where the tree's count rose.
+pub record Goes {A B : Type 0} (shown : A → B) (result : Result A BundleStop) (walk : Walk B)
+    (before after : Folder) : Type 0 where
   pub same : IsSameFolder before after
   pub ends : EndsAs shown result walk before after
 

@@ -6,7 +6,8 @@ ghost use Rattle.pp_values.specs.declared.place.TheConstants.{MAIN_MANIFEST as M
 ghost use Rattle.serde_json.specs.View.{view, members_view};
 ghost use Rattle.site_bundle.specs.Keeping.{no_files};
 ghost use Rattle.site_bundle.specs.Refusals.{Reads, ReadsAs};
-ghost use Rattle.site_bundle.specs.Files.{short_text, content_of, with_file, with_files, lacks_main, is_passed, files_of};
+ghost use Rattle.site_bundle.specs.Files.{short_text, content_of, with_file, with_files, lacks_main, is_passed};
+ghost use Rattle.site_bundle.specs.Files.{files_of};
 
 use crate::bundle_stop::BundleStop;
 use crate::kept_files::KeptFiles;

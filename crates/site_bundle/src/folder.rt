@@ -65,7 +65,8 @@ fn read_main<T: Tree>(
     front: &str,
     gathered: &mut Gathered,
 ) -> Result<(), BundleStop>
-    ensures { Goes (λ done. gathered.new) result (main_walk front.now gathered.old) (T.folder tree.old) (T.folder tree.new) }
+    ensures { Goes (λ done. gathered.new) result (main_walk front.now gathered.old) (T.folder tree.old)
+        (T.folder tree.new) }
 {
     read_site_file(alloc, tree, front, MAIN_MANIFEST, gathered)?;
     with_main(alloc, gathered)

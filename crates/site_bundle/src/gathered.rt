@@ -3,7 +3,8 @@ ghost use Rattle.std.specs.Prelude.{◌≡◌, ◌≤◌, IfOk, Some, length, op
 ghost use Rattle.pp_values.specs.Views.{view as value_view};
 ghost use Rattle.serde_json.specs.View.{view as json_view};
 ghost use Rattle.site_bundle.specs.declared.limits.TheConstants.{MOST_FILE_BYTES as MOST};
-ghost use Rattle.site_bundle.specs.Gathering.{nothing_gathered, count_file, site_file, facts_file, facts_in, json_in, machine_file, machine_in, if_good, gather};
+ghost use Rattle.site_bundle.specs.Gathering.{nothing_gathered, count_file, site_file, facts_file, facts_in, json_in};
+ghost use Rattle.site_bundle.specs.Gathering.{machine_file, machine_in, if_good, gather};
 ghost use Rattle.site_bundle.specs.Machines.{machine_said};
 ghost use Rattle.site_bundle.specs.Refusals.{ReadsAs};
 

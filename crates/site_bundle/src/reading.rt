@@ -5,7 +5,8 @@ ghost use Rattle.site_bundle.specs.declared.limits.TheConstants.{MOST_REQUESTS};
 ghost use Rattle.site_bundle.specs.Documents.{json_of};
 ghost use Rattle.site_bundle.specs.Refusals.{Reads, ReadsAs};
 ghost use Rattle.res_core.specs.AskedFacts.{give_facts};
-ghost use Rattle.site_bundle.specs.Bundles.{is_bundle, site_in, members_of, bundle_in, bundle_of, site_said, list_or, request_list};
+ghost use Rattle.site_bundle.specs.Bundles.{is_bundle, site_in, members_of, bundle_in, bundle_of, site_said, list_or};
+ghost use Rattle.site_bundle.specs.Bundles.{request_list};
 
 use crate::bundle::Bundle;
 use crate::bundle_stop::BundleStop;

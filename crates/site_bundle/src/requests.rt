@@ -5,7 +5,8 @@ ghost use Rattle.serde_json.specs.View.{view, items_view};
 ghost use Rattle.res_core.specs.RequestViews.{asked, wanted};
 ghost use Rattle.pp_values.specs.Views.{view as value_view};
 ghost use Rattle.site_bundle.specs.Refusals.{Reads, ReadsAs};
-ghost use Rattle.site_bundle.specs.RequestsOf.{name_in, count_in, facts_asked, seen_asked, name_asked, wanted_in, asked_in, asked_from, asked_among, all_asked_in, requests_of};
+ghost use Rattle.site_bundle.specs.RequestsOf.{name_in, count_in, facts_asked, seen_asked, name_asked, wanted_in};
+ghost use Rattle.site_bundle.specs.RequestsOf.{asked_in, asked_from, asked_among, all_asked_in, requests_of};
 ghost use Rattle.res_core.specs.AskedFacts.{give_facts};
 
 use crate::bundle_stop::BundleStop;

@@ -1,5 +1,6 @@
 //! The manifests of a site, each with what was read of it.
-ghost use Rattle.std.specs.Prelude.{◌≡◌, ◌+◌, ◌^◌, ◌<◌, [], length, is_ok, if◌then◌else◌, IsTrue, IfOk, IfSome, option_map};
+ghost use Rattle.std.specs.Prelude.{◌≡◌, ◌+◌, ◌^◌, ◌<◌, [], length, is_ok, if◌then◌else◌, IsTrue, IfOk, IfSome};
+ghost use Rattle.std.specs.Prelude.{option_map};
 ghost use Rattle.std.specs.FinMap.{find, put};
 ghost use Rattle.pp_parser.specs.Manifest.{file_of};
 ghost use Rattle.pp_values.specs.Rising.{text_cmp};

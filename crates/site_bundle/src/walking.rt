@@ -1,7 +1,8 @@
 //! The calls of a tree by which a folder is read.
 ghost use Rattle.std.specs.Prelude.{◌≡◌, ◌≤◌, ◌++◌, IfOk, IfSome, length, map, option_map};
 ghost use Rattle.site_bundle.specs.declared.limits.TheConstants.{MOST_FILE_BYTES as MOST};
-ghost use Rattle.site_bundle.specs.FolderSites.{names_walk, content_walk, file_walk, entry_walk, folder_walk, node_of, facts_walk, nodes_walk};
+ghost use Rattle.site_bundle.specs.FolderSites.{names_walk, content_walk, file_walk, entry_walk, folder_walk, node_of};
+ghost use Rattle.site_bundle.specs.FolderSites.{facts_walk, nodes_walk};
 ghost use Rattle.site_bundle.specs.Gathering.{site_file, facts_file, machine_file};
 ghost use Rattle.site_bundle.specs.Walks.{Goes, in_turn};
 

@@ -2,7 +2,14 @@
 use Rattle.std.specs.Prelude.{ℕ, ◌==◌, if◌then◌else◌, List, [], ◌∷◌, ◌++◌, ◌-◌, map, slice_index_or, codes, decimal}
 use Rattle.pp_values.specs.declared.fault.Fault.{Fault}
 use Rattle.pp_values.specs.declared.fault.What.{What}
-use Rattle.pp_values.specs.declared.fault.What.TheVariants.{Syntax, UnknownVariable, Reassigned, UnknownClass, UnknownType, UnknownFunction, WrongArguments, TypeMismatch, MissingParameter, UnknownParameter, BadOperand, NumberRange, ZeroDivisor, Duplicate, AlreadySet, NoOverrideTarget, NoRelationTarget, Cycle, NoNode, LookupMissing, LookupLoop, MergeMismatch, BadData, BadInterpolation, Failed, ClassVirtual, RoundLimit, ResourceLimit, DepthLimit, SameNamevar}
+use Rattle.pp_values.specs.declared.fault.What.TheVariants.{Syntax, UnknownVariable, Reassigned, UnknownClass}
+use Rattle.pp_values.specs.declared.fault.What.TheVariants.{UnknownType, UnknownFunction, WrongArguments, TypeMismatch}
+use Rattle.pp_values.specs.declared.fault.What.TheVariants.{MissingParameter, UnknownParameter, BadOperand, NumberRange}
+use Rattle.pp_values.specs.declared.fault.What.TheVariants.{ZeroDivisor, Duplicate, AlreadySet, NoOverrideTarget}
+use Rattle.pp_values.specs.declared.fault.What.TheVariants.{NoRelationTarget, Cycle, NoNode, LookupMissing, LookupLoop}
+use Rattle.pp_values.specs.declared.fault.What.TheVariants.{MergeMismatch, BadData, BadInterpolation, Failed}
+use Rattle.pp_values.specs.declared.fault.What.TheVariants.{ClassVirtual, RoundLimit, ResourceLimit, DepthLimit}
+use Rattle.pp_values.specs.declared.fault.What.TheVariants.{SameNamevar}
 use Rattle.pp_values.specs.declared.fault.Subject.{Subject}
 use Rattle.pp_values.specs.declared.fault.Subject.TheVariants as subject
 use Rattle.pp_values.specs.declared.place.Place.{Place}

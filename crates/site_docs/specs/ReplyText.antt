@@ -4,7 +4,8 @@ use Rattle.serde_json.specs.Data.{Data, boolean, string, object, no_members, mem
 use Rattle.serde_json.specs.Written.{compact_text}
 use Rattle.res_core.specs.Asked.{Asked, compile, deactivate}
 use Rattle.site_core.specs.declared.reply.ReplyOf.{ReplyOf}
-use Rattle.site_core.specs.declared.reply.ReplyOf.TheVariants.{Served, Refused, HistoryFull, SeenAhead, UnknownNode, Deactivated, Deployed, Reported, Memory}
+use Rattle.site_core.specs.declared.reply.ReplyOf.TheVariants.{Served, Refused, HistoryFull, SeenAhead, UnknownNode}
+use Rattle.site_core.specs.declared.reply.ReplyOf.TheVariants.{Deactivated, Deployed, Reported, Memory}
 use Rattle.json_documents.specs.Tokens.{index_data}
 
 -- the node that is asked about
@@ -20,7 +21,11 @@ seen_of (deactivate node) = 0
 -- the catalog's text stands in it as it is
 unfoldable pub served_text : (reply entry k : ℕ) → List ℕ → List ℕ
 served_text reply entry k catalog =
-    codes "{\"catalog\":" ++ (catalog ++ (codes ",\"entry\":" ++ (decimal entry ++ (codes ",\"k\":" ++ (decimal k ++ (codes ",\"reply\":" ++ (decimal reply ++ codes "}")))))))
+    codes "{\"catalog\":"
+    ++ (catalog
+    ++ (codes ",\"entry\":"
+    ++ (decimal entry
+    ++ (codes ",\"k\":" ++ (decimal k ++ (codes ",\"reply\":" ++ (decimal reply ++ codes "}")))))))
 
 unfoldable pub refused_object : (reply k : ℕ) → List ℕ → Data
 refused_object reply k fault =

@@ -1,6 +1,8 @@
 ghost use Rattle.std.specs.Prelude.{◌≡◌, ◌∷◌, [], ◌++◌, map, codes, decimal, string_bytes, IfOk, OnOk};
 ghost use Rattle.pp_values.specs.Words.{reference_text};
-ghost use Rattle.site_docs.specs.FaultText.{fault_number as number_of, fault_name as name_of, place_text, subject_text, links, cycle_text, details, spaced, in_line, plain_line as plain_line_of, fault_text};
+ghost use Rattle.site_docs.specs.FaultText.{fault_number as number_of, fault_name as name_of, place_text, subject_text};
+ghost use Rattle.site_docs.specs.FaultText.{links, cycle_text, details, spaced, in_line, plain_line as plain_line_of};
+ghost use Rattle.site_docs.specs.FaultText.{fault_text};
 
 use crate::fault_names::FAULT_NAMES;
 use json_documents::ended;
@@ -45,7 +47,9 @@ fn plain_line(alloc: Global, fault: &Fault) -> Result<String, Memory>
 // `F14 manifests/site.pp:2 Duplicate`
 fn write_head(out: &mut String, fault: &Fault) -> Result<(), Memory>
     ensures { OnOk result (string_bytes out.new ≡ string_bytes out.old
-        ++ (codes "F" ++ (decimal (number_of fault.now.what) ++ (codes " " ++ (place_text fault.now.at ++ (codes " " ++ name_of fault.now.what)))))) }
+        ++ (codes "F"
+        ++ (decimal (number_of fault.now.what)
+        ++ (codes " " ++ (place_text fault.now.at ++ (codes " " ++ name_of fault.now.what)))))) }
 {
     let number = fault_number(fault.what.get());
     write!(out, "F{number} ")?;

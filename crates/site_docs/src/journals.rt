@@ -10,7 +10,13 @@ ghost use Rattle.json_documents.specs.Tokens.{line};
 ghost use Rattle.site_docs.specs.FaultText.{place_text as text_of_place};
 ghost use Rattle.agent_docs.specs.ReportText.{report_data};
 ghost use Rattle.site_docs.specs.SiteText.{site_data};
-ghost use Rattle.site_docs.specs.JournalText.{export_object as object_of_export, export_data, opening_object as object_of_opening, publication_object as object_of_publication, deactivation_object as object_of_deactivation, deployment_object as object_of_deployment, filing_object as object_of_filing, count_object as object_of_count, entry_data, entry_lines, journal_text, set_data, set_text};
+ghost use Rattle.site_docs.specs.JournalText.{export_object as object_of_export, export_data};
+ghost use Rattle.site_docs.specs.JournalText.{opening_object as object_of_opening};
+ghost use Rattle.site_docs.specs.JournalText.{publication_object as object_of_publication};
+ghost use Rattle.site_docs.specs.JournalText.{deactivation_object as object_of_deactivation};
+ghost use Rattle.site_docs.specs.JournalText.{deployment_object as object_of_deployment};
+ghost use Rattle.site_docs.specs.JournalText.{filing_object as object_of_filing, count_object as object_of_count};
+ghost use Rattle.site_docs.specs.JournalText.{entry_data, entry_lines, journal_text, set_data, set_text};
 
 use crate::fault_texts::write_place;
 use crate::resource_forms::attributes_form;

@@ -8,7 +8,8 @@ use res_core::log_line::LogLine;
 use res_core::log_lines::LogLines;
 use std::alloc::Global;
 
-/// The log as text: for each line, in the order in which they were written, one such as `notice: hello` with a line feed.
+/// The log as text: for each line, in the order in which they were written, one such as `notice: hello` with a line
+/// feed.
 pub fn log_text(alloc: Global, log: &LogLines) -> Result<Text, Memory>
     ensures { IfOk result (λ t. t ≡ log_text log.now) }
 {

@@ -3,7 +3,13 @@ ghost use Rattle.std.specs.Prelude.{◌≡◌, ◌∷◌, ◌++◌, [], false, I
 ghost use Rattle.serde_json.specs.View.{view as json_view};
 ghost use Rattle.serde_json.specs.Written.{compact_text, has_float};
 ghost use Rattle.res_core.specs.RequestViews.{asked};
-ghost use Rattle.site_docs.specs.ReplyText.{node_of, seen_of, served_text, refused_object as object_of_refused, full_object as object_of_full, ahead_object as object_of_ahead, unknown_object as object_of_unknown, deactivated_object as object_of_deactivated, deployed_object as object_of_deployed, reported_object as object_of_reported, memory_object as object_of_memory, reply_text, reply_line};
+ghost use Rattle.site_docs.specs.ReplyText.{node_of, seen_of, served_text, refused_object as object_of_refused};
+ghost use Rattle.site_docs.specs.ReplyText.{full_object as object_of_full, ahead_object as object_of_ahead};
+ghost use Rattle.site_docs.specs.ReplyText.{unknown_object as object_of_unknown};
+ghost use Rattle.site_docs.specs.ReplyText.{deactivated_object as object_of_deactivated};
+ghost use Rattle.site_docs.specs.ReplyText.{deployed_object as object_of_deployed};
+ghost use Rattle.site_docs.specs.ReplyText.{reported_object as object_of_reported, memory_object as object_of_memory};
+ghost use Rattle.site_docs.specs.ReplyText.{reply_text, reply_line};
 
 use json_documents::json_text;
 use pp_values::memory::Memory;

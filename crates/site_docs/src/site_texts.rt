@@ -5,7 +5,8 @@ ghost use Rattle.serde_json.specs.View.{view as json_view, members_view};
 ghost use Rattle.json_values.specs.ValueForm.{put_all};
 ghost use Rattle.hiera_config.specs.Keeping.{filed as data_filed};
 ghost use Rattle.site_bundle.specs.Listing.{filed, listed};
-ghost use Rattle.site_docs.specs.SiteText.{site_object as object_of_site, file_settings, file_members, site_data, site_text};
+ghost use Rattle.site_docs.specs.SiteText.{site_object as object_of_site, file_settings, file_members, site_data};
+ghost use Rattle.site_docs.specs.SiteText.{site_text};
 
 use hiera_config::site_data::DataFile;
 use json_documents::json_text;

@@ -17,8 +17,8 @@ or_else (Some a) other = Some a
 abbrev pub site_at : List ℕ → Option Endpoint
 site_at path = if pointwise nat_eq path (codes "/site") then Some at.Site else None
 
--- What the path names, as it was sent: nothing in it is decoded, and `?` with what follows belongs to it. It names nothing
--- where the name of a node is due and there is none.
+-- What the path names, as it was sent: nothing in it is decoded, and `?` with what follows belongs to it. It names
+-- nothing where the name of a node is due and there is none.
 abbrev pub endpoint_of : List ℕ → Option Endpoint
 endpoint_of path =
     or_else (option_map at.Catalog (node_behind (codes "/catalog/") path))

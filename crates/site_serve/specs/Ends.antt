@@ -1,5 +1,6 @@
 -- A connection from its first byte on, and how it ends.
-use Rattle.std.specs.Prelude.{◌≡◌, ℕ, ◌+◌, ◌<◌, ◌≤◌, ◌⊎◌, true, false, List, [], ◌∷◌, ◌++◌, length, Option, Some, Ok, Err}
+use Rattle.std.specs.Prelude.{◌≡◌, ℕ, ◌+◌, ◌<◌, ◌≤◌, ◌⊎◌, true, false, List, [], ◌∷◌, ◌++◌, length, Option, Some, Ok}
+use Rattle.std.specs.Prelude.{Err}
 use Rattle.std.specs.List.{AllZip}
 use Rattle.site_io.specs.Stream.{Stream, Rose, HasTraded}
 use Rattle.site_core.specs.Asked.{Asked}
@@ -101,8 +102,8 @@ module _ {S C F : Type 0} (d : Dialect S C F) (Replied : List (Asked S) → List
     pub replies : Replied (asked_in turns) (replies_in turns)
     pub due_is : due ≡ texts_of d turns
 
-  -- A front was written of what was due: the responses to all requests, or these and a refusal, where none of them ended the
-  -- connection.
+  -- A front was written of what was due: the responses to all requests, or these and a refusal, where none of them
+  -- ended the connection.
   pub record HasStopped (before after : Stream) : Type 0 where
     pub bytes : List ℕ
     pub rest : List ℕ
@@ -136,8 +137,8 @@ module _ {S C F : Type 0} (d : Dialect S C F) (Replied : List (Asked S) → List
   Ends end.WriteFault before after = HasStopped before after × Rose before.faults after.faults
   Ends end.Memory before after = HasStopped before after
 
--- With a pass that was p at first the site was asked these, one after another, and replied so. The entries that the pass's
--- own gained are those that the replies name.
+-- With a pass that was p at first the site was asked these, one after another, and replied so. The entries that the
+-- pass's own gained are those that the replies name.
 pub record HasReplied {S C F : Type 0} (meaning : Meaning S C F) (listed : Listed S) (p q : Known S)
     (asked : List (Asked S)) (replies : List (ReplyOf C F)) : Type 0 where
   pub later : IsLater p q

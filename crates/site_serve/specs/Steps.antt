@@ -1,5 +1,6 @@
 -- What routing, reading a request, answering it and writing the response do.
-use Rattle.std.specs.Prelude.{◌≡◌, ◌⊎◌, ⊤, ℕ, ◌+◌, Bool, true, codes, List, [], ◌∷◌, ◌++◌, length, Option, Some, None, option_map, Result, Ok, Err}
+use Rattle.std.specs.Prelude.{◌≡◌, ◌⊎◌, ⊤, ℕ, ◌+◌, Bool, true, codes, List, [], ◌∷◌, ◌++◌, length, Option, Some, None}
+use Rattle.std.specs.Prelude.{option_map, Result, Ok, Err}
 use Rattle.matchit.specs.Rows.{RowsOf, param_token}
 use Rattle.matchit.specs.Router.{RouteOf}
 use Rattle.matchit.specs.Seek.{first}
@@ -21,7 +22,8 @@ use Rattle.http_wire.specs.declared.response.HttpResponse.{HttpResponse}
 use Rattle.site_serve.specs.Endpoints.{node_behind, site_at}
 use Rattle.site_serve.specs.Requests.{Reading, IsSent}
 use Rattle.site_serve.specs.Replies.{says, seen_of, reply_response, refusal_text}
-use Rattle.site_serve.specs.Ends.{Turn, refused, replied, Dialect, IsTurn, turn_response, HasReplied, HasTalked, AllOpen}
+use Rattle.site_serve.specs.Ends.{Turn, refused, replied, Dialect, IsTurn, turn_response, HasReplied, HasTalked}
+use Rattle.site_serve.specs.Ends.{AllOpen}
 use Rattle.site_serve.specs.declared.ask_stop.AskStop.{AskStop}
 use Rattle.site_serve.specs.declared.ask_stop.AskStop.TheVariants as stop
 use Rattle.site_serve.specs.declared.call.Call.{Call}

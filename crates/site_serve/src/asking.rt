@@ -2,7 +2,9 @@
 ghost use Rattle.std.specs.Prelude.{◌≡◌, option_map, IfOk};
 ghost use Rattle.pp_values.specs.Views.{view};
 ghost use Rattle.res_core.specs.RequestViews.{wanted};
-ghost use Rattle.site_serve.specs.Requests.{seen_number, seen_asked, facts_said, facts_asked, wanted_by, ReportAsked, site_asked, compile_asked, FilingAsked, deployment_asked, AsksAt, AsksOf, Asks};
+ghost use Rattle.site_serve.specs.Requests.{seen_number, seen_asked, facts_said, facts_asked, wanted_by, ReportAsked};
+ghost use Rattle.site_serve.specs.Requests.{site_asked, compile_asked, FilingAsked, deployment_asked, AsksAt, AsksOf};
+ghost use Rattle.site_serve.specs.Requests.{Asks};
 ghost use Rattle.site_serve.specs.Steps.{asked, ReadsBy, ReadsAs, ReadsSent};
 
 use crate::ask_stop::AskStop;

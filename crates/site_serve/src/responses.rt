@@ -1,6 +1,7 @@
 //! Responses.
 ghost use Rattle.std.specs.Prelude.{◌≡◌, Some, IfOk, string_bytes};
-ghost use Rattle.site_serve.specs.Replies.{says, refusal_response, served_response, refused_response, full_response, ahead_response, names_entry, reply_response};
+ghost use Rattle.site_serve.specs.Replies.{says, refusal_response, served_response, refused_response, full_response};
+ghost use Rattle.site_serve.specs.Replies.{ahead_response, names_entry, reply_response};
 ghost use Rattle.site_serve.specs.Steps.{faulty_response};
 
 use crate::refusal::Refusal;

@@ -105,7 +105,8 @@ where
     requires room { count ≤ vec_capacity visits }
     requires no_ends { ends.items ≡ [] }
     requires ends_room { count ≤ vec_capacity ends }
-    ensures { HasServedAll L.meaning L.listed (dialect L.said_site L.catalog_form L.fault_form) pass.terms.limit pass.front
+    ensures { HasServedAll L.meaning L.listed (dialect L.said_site L.catalog_form L.fault_form) pass.terms.limit
+        pass.front
         count (N.net net.old) (N.net net.new) result.ends.items result.stop result.history.entries }
 {
     let door = Door {

@@ -1,5 +1,6 @@
 -- What an input gives, as the texts that are to be written.
-use Rattle.std.specs.Prelude.{◌≡◌, ℕ, ◌+◌, if◌then◌else◌, Bool, true, false, List, [], ◌∷◌, ◌++◌, Option, Result, Ok, Err, codes}
+use Rattle.std.specs.Prelude.{◌≡◌, ℕ, ◌+◌, if◌then◌else◌, Bool, true, false, List, [], ◌∷◌, ◌++◌, Option, Result, Ok}
+use Rattle.std.specs.Prelude.{Err, codes}
 use Rattle.std.specs.List.{list_any}
 use Rattle.std.specs.Str.{is_utf8}
 use Rattle.hiera_merge.specs.declared.merge.Merge.{Merge}
@@ -103,8 +104,8 @@ reply_lines n (asked ∷ more) (reply ∷ replies) = reply_line catalog_text fau
 abbrev pub run_text : List requests.Asked → List (ReplyOf Catalog Fault) → List (Event SiteView) → List ℕ
 run_text asked replies history = journal_text history ++ reply_lines 0 asked replies
 
--- `sequence`: the requests of a bundle were answered so, one after another, over a history that begins with its site: they are the
--- whole work of one author. The output is the text of this history and of these replies.
+-- `sequence`: the requests of a bundle were answered so, one after another, over a history that begins with its site:
+-- they are the whole work of one author. The output is the text of this history and of these replies.
 pub record HasRun (output : Output) (bundle : Bundle) : Type 0 where
   pub replies : List (ReplyOf Catalog Fault)
   pub history : List (Event SiteView)
@@ -113,8 +114,8 @@ pub record HasRun (output : Output) (bundle : Bundle) : Type 0 where
   pub whole : Whole puppet listed MOST_ENTRIES 1 bundle.site (all_asks bundle.requests) replies history
   pub is : output ≡ output_of replies (run_text bundle.requests replies history)
 
--- `batch`: workers shared out the requests of a bundle, and answered them so over one history that begins with its site. The output
--- is the text of this history and of these replies.
+-- `batch`: workers shared out the requests of a bundle, and answered them so over one history that begins with its
+-- site. The output is the text of this history and of these replies.
 pub record HasShared (workers : ℕ) (output : Output) (bundle : Bundle) : Type 0 where
   pub replies : List (ReplyOf Catalog Fault)
   pub history : List (Event SiteView)

@@ -77,8 +77,8 @@ fn compile_alone(
     let site = site_alone(alloc, manifest)?;
     let facts = Value::Hash(Pairs::new(alloc));
     let outcome = PuppetLanguage.compile(alloc, &site, &node, &facts, &Version::empty(alloc));
-    // The program ends when it has written this, and its memory goes back at once: taking a long manifest's tree apart before
-    // would be a fifth of the time that reading it takes.
+    // The program ends when it has written this, and its memory goes back at once: taking a long manifest's tree apart
+    // before would be a fifth of the time that reading it takes.
     forget(site);
     outcome
 }

@@ -1,5 +1,6 @@
 -- What becomes of a node's catalog that is applied to a machine.
-use Rattle.std.specs.Prelude.{◌≡◌, ◌⊎◌, ℕ, Bool, true, false, nat_lt, List, [], ◌++◌, Option, None, Some, option_map, Result, Ok, Err, codes}
+use Rattle.std.specs.Prelude.{◌≡◌, ◌⊎◌, ℕ, Bool, true, false, nat_lt, List, [], ◌++◌, Option, None, Some, option_map}
+use Rattle.std.specs.Prelude.{Result, Ok, Err, codes}
 use Rattle.std.specs.List.{count_by}
 use Rattle.agent_docs.specs.MachineText.{machine_text}
 use Rattle.agent_docs.specs.ReportText.{has_changed, has_failed, report_text}
@@ -53,13 +54,15 @@ TellsReport ending report document out out' err err' =
 -- ---- a catalog
 
 -- the catalog was applied to this report, of which was told
-pub record HasTold (ending : Ending) (catalog : Catalog) (loaded : Told) (out out' err err' : Stream) (after : Told) : Type 0 where
+pub record HasTold (ending : Ending) (catalog : Catalog) (loaded : Told) (out out' err err' : Stream)
+    (after : Told) : Type 0 where
   pub report : Report
   pub ran : IsRun catalog report loaded after
   pub told : TellsReport ending report (option_map (λ c. c.document) after.content) out out' err err'
 
--- The catalog was applied to a machine with its document loaded, and told of; or memory was wanting for the run or in it,
--- and only that was said. A catalog with a cycle, which no compile makes, would be refused before the machine's first call.
+-- The catalog was applied to a machine with its document loaded, and told of; or memory was wanting for the run or in
+-- it, and only that was said. A catalog with a cycle, which no compile makes, would be refused before the machine's
+-- first call.
 abbrev pub HasRunLoaded : Ending → Catalog → Told → Stream → Stream → Stream → Stream → Told → Type 0
 HasRunLoaded e.Memory catalog loaded out out' err err' after =
     (IsRunStop catalog stop.Memory loaded after × SaysOnly (line (codes "memory")) out out' err err')
@@ -70,7 +73,8 @@ HasRunLoaded e.Refused catalog loaded out out' err err' after =
 HasRunLoaded ending catalog loaded out out' err err' after = HasTold ending catalog loaded out out' err err' after
 
 -- the document was loaded, and then the catalog applied
-pub record RunsOn (ending : Ending) (catalog : Catalog) (document : MachineDoc) (out out' err err' : Stream) (m m' : Told) : Type 0 where
+pub record RunsOn (ending : Ending) (catalog : Catalog) (document : MachineDoc) (out out' err err' : Stream)
+    (m m' : Told) : Type 0 where
   pub loaded : Told
   pub loads : Loads document m loaded
   pub ran : HasRunLoaded ending catalog loaded out out' err err' m'
@@ -99,7 +103,8 @@ OrLacks Done e.Memory out out' err err' m m' =
 OrLacks Done ending out out' err err' m m' = Done ending
 
 -- where the node has no catalog, the line that tells why was written, or a front of it, and the machine was not called
-abbrev pub AppliesMeant : List ℕ → Result Catalog NodeRefusal → MachineDoc → Stream → Stream → Stream → Stream → Told → Told
+abbrev pub AppliesMeant : List ℕ → Result Catalog NodeRefusal → MachineDoc → Stream → Stream → Stream → Stream → Told →
+    Told
     → Ending → Type 0
 AppliesMeant node (Err refusal) document out out' err err' m m' ending =
     WritesOr ending e.Refused (node_refusal_line node refusal) err err' × ((out' ≡ out) × (m' ≡ m))
@@ -109,5 +114,6 @@ AppliesMeant node (Ok catalog) document out out' err err' m m' ending =
 -- the node of a bundle was applied so: its catalog, by the facts that the site lists and without exports
 abbrev pub Applies : Ending → List ℕ → Bundle → Stream → Stream → Stream → Stream → Told → Told → Type 0
 Applies ending node said out out' err err' m m' =
-    OrLacks (AppliesMeant node (node_meaning said.site node) said.machine out out' err err' m m') ending out out' err err'
+    OrLacks (AppliesMeant node (node_meaning said.site node) said.machine out out' err err' m m')
+    ending out out' err err'
     m m'

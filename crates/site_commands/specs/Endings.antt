@@ -7,7 +7,8 @@ use Rattle.site_words.specs.Asked.{Asked}
 use Rattle.site_words.specs.declared.word_stop.WordStop.{WordStop}
 use Rattle.site_words.specs.declared.word_stop.WordStop.TheVariants as w
 use Rattle.site_commands.specs.Applying.{Applies}
-use Rattle.site_commands.specs.Inputs.{Input, site, reading_of, HasInput, HasStoppedBy, whole_of, stop_text, stop_ending}
+use Rattle.site_commands.specs.Inputs.{Input, site, reading_of, HasInput, HasStoppedBy, whole_of, stop_text}
+use Rattle.site_commands.specs.Inputs.{stop_ending}
 use Rattle.site_commands.specs.Serving.{Serves}
 use Rattle.site_commands.specs.Status.{status_of}
 use Rattle.site_commands.specs.Work.{GivesOutput}
@@ -41,7 +42,8 @@ Complains asked before after = ⊥
 -- what is said of faulty words, and how the run ends
 abbrev pub Complained : Ending → WordStop → Stream → Stream → Type 0
 Complained ending (w.Refused text) err err' = (ending ≡ e.BadWords) × Says (string_bytes text) err err'
-Complained ending (w.BadWord word) err err' = (ending ≡ e.BadWords) × Says (line (codes "bad word " ++ word.now)) err err'
+Complained ending (w.BadWord word) err err' =
+    (ending ≡ e.BadWords) × Says (line (codes "bad word " ++ word.now)) err err'
 Complained ending w.Memory err err' = (ending ≡ e.Memory) × Says (line (codes "memory")) err err'
 
 -- it may wait
@@ -90,8 +92,8 @@ pub record HasWorked (ending : Ending) (asked : Asked) (before after : World) : 
 
 -- ---- a run
 
--- A run on words that ask for this ended so. Before a command's work the source or the tree may have failed, or the input
--- may be none of its kind; and memory may have been wanting for the words.
+-- A run on words that ask for this ended so. Before a command's work the source or the tree may have failed, or the
+-- input may be none of its kind; and memory may have been wanting for the words.
 abbrev pub Ends : Ending → Asked → World → World → Type 0
 Ends e.BadWords asked before after = Complains asked before after
 Ends e.ReadFault asked before after = HasStopped e.ReadFault asked before after

@@ -1,5 +1,6 @@
 -- What a command reads, what it has then, and what stands in the way.
-use Rattle.std.specs.Prelude.{◌≡◌, ◌⊎◌, ℕ, ◌+◌, ◌≤◌, ◌<◌, Bool, nat_eq, List, ◌++◌, length, take, codes, decimal, Option, None, Some, Result, Ok, Err}
+use Rattle.std.specs.Prelude.{◌≡◌, ◌⊎◌, ℕ, ◌+◌, ◌≤◌, ◌<◌, Bool, nat_eq, List, ◌++◌, length, take, codes, decimal}
+use Rattle.std.specs.Prelude.{Option, None, Some, Result, Ok, Err}
 use Rattle.std.specs.List.{count_by}
 use Rattle.std.specs.Str.{IsUtf8, IsValidUpTo}
 use Rattle.json_documents.specs.LinesOfText.{IsFirstBad}
@@ -93,8 +94,8 @@ is_feed b = nat_eq b 10
 abbrev pub line_behind : List ℕ → ℕ
 line_behind said = count_by is_feed said + 1
 
--- Line n is the first up to which a text begins as no journal does. Bytes that are no text are bad in the line of the first
--- byte that is none.
+-- Line n is the first up to which a text begins as no journal does. Bytes that are no text are bad in the line of the
+-- first byte that is none.
 abbrev pub IsBadLine : ℕ → List ℕ → Type 0
 IsBadLine n said =
     (IsUtf8 said × IsFirstBad (λ (h : History SiteView). IsJournalText h.entries) n said)
@@ -156,8 +157,8 @@ pub record HasReadNone (why : BundleStop) (before after : Stream) : Type 0 where
   pub read : HasReadAll bytes MOST_BUNDLE_BYTES before after
   pub refuses : Refuses why (bundle_of bytes)
 
--- What is wrong with the bytes of a source that are to say a journal; or memory was wanting to read them, of which nothing is
--- said.
+-- What is wrong with the bytes of a source that are to say a journal; or memory was wanting to read them, of which
+-- nothing is said.
 abbrev pub IsWrong : InputStop → Reading → List ℕ → Type 0
 IsWrong (i.Refused b.Memory) journal said = Unit {0}
 IsWrong (i.BadLine number) journal said = (n : ℕ) × ((number ≡ decimal n) × IsBadLine n said)

@@ -1,5 +1,6 @@
 -- What becomes of a site that is served to connections.
-use Rattle.std.specs.Prelude.{◌≡◌, ◌⊎◌, ℕ, ◌+◌, Bool, true, false, if◌then◌else◌, List, [], ◌∷◌, ◌++◌, codes, decimal, Option, None, Some}
+use Rattle.std.specs.Prelude.{◌≡◌, ◌⊎◌, ℕ, ◌+◌, Bool, true, false, if◌then◌else◌, List, [], ◌∷◌, ◌++◌, codes, decimal}
+use Rattle.std.specs.Prelude.{Option, None, Some}
 use Rattle.std.specs.List.{list_any}
 use Rattle.command_outputs.specs.Lines.{line}
 use Rattle.compile_core.specs.Puppet.{puppet, listed, said_site}
@@ -114,10 +115,12 @@ pub record HasServed (site : SiteView) (count : ℕ) (before after : Net) : Type
       after ends why history
 
 -- and the journal of that history was told, and a line for each connection that was not closed
-pub record ToldService (ending : Ending) (site : SiteView) (count : ℕ) (out out' err err' : Stream) (before after : Net) : Type 0 where
+pub record ToldService (ending : Ending) (site : SiteView) (count : ℕ) (out out' err err' : Stream)
+    (before after : Net) : Type 0 where
   pub served : HasServed site count before after
   pub told :
-      TellsService ending (service_ending served.ends served.why) (journal_text served.history) (end_lines 1 served.ends)
+      TellsService ending (service_ending served.ends served.why) (journal_text served.history)
+      (end_lines 1 served.ends)
       out out' err err'
 
 -- Memory may be wanting before the listener is called, or for what is told of the service.

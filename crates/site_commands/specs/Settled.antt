@@ -1,8 +1,10 @@
 -- Which status a run has, as far as words and input decide it.
-use Rattle.std.specs.Prelude.{◌≡◌, ◌⊎◌, ℕ, ◌<◌, if◌then◌else◌, nat_le, List, length, Option, None, Some, option_map, Result, Ok, Err, IfSome}
+use Rattle.std.specs.Prelude.{◌≡◌, ◌⊎◌, ℕ, ◌<◌, if◌then◌else◌, nat_le, List, length, Option, None, Some, option_map}
+use Rattle.std.specs.Prelude.{Result, Ok, Err, IfSome}
 use Rattle.agent_transaction.specs.Catalogs.{IsCycleTold}
 use Rattle.command_outputs.specs.Nodes.{NodeRefusal, node_meaning}
-use Rattle.command_outputs.specs.Statuses.{manifest_status, check_status, compile_status, sequence_status, lookup_status, demo_status, audit_status, migrate_status, IsBatchStatus}
+use Rattle.command_outputs.specs.Statuses.{manifest_status, check_status, compile_status, sequence_status}
+use Rattle.command_outputs.specs.Statuses.{lookup_status, demo_status, audit_status, migrate_status, IsBatchStatus}
 use Rattle.pp_values.specs.declared.place.TheConstants.{MAIN_MANIFEST}
 use Rattle.pp_values.specs.declared.reference.Reference.{Reference}
 use Rattle.res_core.specs.declared.catalog.Catalog.{Catalog}
@@ -16,14 +18,16 @@ use Rattle.site_bundle.specs.declared.limits.TheConstants.{MOST_BUNDLE_BYTES, MO
 use Rattle.site_core.specs.Events.{Event}
 use Rattle.site_words.specs.Asked as a
 use Rattle.site_words.specs.Asked.{Asked}
-use Rattle.site_commands.specs.Inputs.{Reading, nothing, manifest, bundle, folder, journal, Input, none, bytes, site, history, reading_of, IsSaidBy, IsTooLong, IsWritten}
+use Rattle.site_commands.specs.Inputs.{Reading, nothing, manifest, bundle, folder, journal, Input, none, bytes, site}
+use Rattle.site_commands.specs.Inputs.{history, reading_of, IsSaidBy, IsTooLong, IsWritten}
 use Rattle.site_commands.specs.World.{World}
 
 -- ---- the input that is told
 
 -- a manifest that is not too long
 abbrev pub manifest_of : List ℕ → Result Input Refusal
-manifest_of input = if nat_le (length input) MOST_FILE_BYTES then Ok (bytes input) else Err (too_large MAIN_MANIFEST.now)
+manifest_of input =
+    if nat_le (length input) MOST_FILE_BYTES then Ok (bytes input) else Err (too_large MAIN_MANIFEST.now)
 
 abbrev pub site_or : Result Bundle Refusal → Result Input Refusal
 site_or (Ok said) = Ok (site said)
@@ -45,8 +49,8 @@ IsReportStatus status = (status ≡ 0) ⊎ ((status ≡ 2) ⊎ ((status ≡ 4) �
 abbrev pub HasCycle : Catalog → Type 0
 HasCycle catalog = (cycle : List Reference) × IsCycleTold catalog.resources catalog.edges cycle
 
--- 1 where the node has no catalog; else 0, 2, 4 or 6, by what the report counts. A catalog with a cycle, which no compile
--- makes, would have 1.
+-- 1 where the node has no catalog; else 0, 2, 4 or 6, by what the report counts. A catalog with a cycle, which no
+-- compile makes, would have 1.
 abbrev pub IsApplyStatus : ℕ → Result Catalog NodeRefusal → Type 0
 IsApplyStatus status (Ok catalog) = IsReportStatus status ⊎ ((status ≡ 1) × HasCycle catalog)
 IsApplyStatus status (Err refusal) = status ≡ 1
@@ -80,7 +84,8 @@ abbrev pub IsNoneSaid : Reading → List ℕ → Type 0
 IsNoneSaid journal said = IsNoJournal said
 IsNoneSaid reading said = ⊥
 
--- The status by the bytes of a source that are to say a journal: that of the work on what they say, or 11 where they are none.
+-- The status by the bytes of a source that are to say a journal: that of the work on what they say, or 11 where they
+-- are none.
 abbrev pub IsSaidStatus : ℕ → Asked → List ℕ → Type 0
 IsSaidStatus status asked said =
     ((input : Input) × (IsSaidBy (reading_of asked) input said × IsWorkStatus status asked input))

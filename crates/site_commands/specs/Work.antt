@@ -2,7 +2,8 @@
 use Rattle.std.specs.Prelude.{◌≡◌, ◌⊎◌, ℕ, List, [], ◌∷◌, Result, Ok, Err, codes}
 use Rattle.command_outputs.specs.Journals.{audited_output, migrated_output}
 use Rattle.command_outputs.specs.Lines.{line}
-use Rattle.command_outputs.specs.Outputs.{manifest_output, checked_output, compiled_output, looked_up_output, HasRun, HasShared, HasDemonstrated}
+use Rattle.command_outputs.specs.Outputs.{manifest_output, checked_output, compiled_output, looked_up_output, HasRun}
+use Rattle.command_outputs.specs.Outputs.{HasShared, HasDemonstrated}
 use Rattle.command_outputs.specs.declared.output.Output.{Output}
 use Rattle.command_outputs.specs.declared.output.Output.TheVariants as o
 use Rattle.pp_values.specs.declared.memory.Memory.{Memory}
@@ -79,4 +80,5 @@ GivesOutput ending asked input out out' err err' = HasDelivered ending asked inp
 -- what was made for the output was written, or memory was wanting for it
 abbrev pub WritesMade : Ending → Result Output Memory → Stream → Stream → Stream → Stream → Type 0
 WritesMade ending (Ok output) out out' err err' = Delivers ending output out out' err err'
-WritesMade ending (Err memory) out out' err err' = (ending ≡ e.Memory) × SaysOnly (line (codes "memory")) out out' err err'
+WritesMade ending (Err memory) out out' err err' =
+    (ending ≡ e.Memory) × SaysOnly (line (codes "memory")) out out' err err'

@@ -73,7 +73,8 @@ fn apply_compiled<K: Sink, E: Sink, M: Machine>(
     err: &mut E,
     machine: &mut M,
 ) -> Ending
-    ensures { (meant : _) → CompilesNode compiled meant → OrLacks (AppliesMeant node.now meant document (K.stream out.old)
+    ensures { (meant : _) → CompilesNode compiled meant →
+        OrLacks (AppliesMeant node.now meant document (K.stream out.old)
         (K.stream out.new) (E.stream err.old) (E.stream err.new) (M.state machine.old) (M.state machine.new)) result
         (K.stream out.old) (K.stream out.new) (E.stream err.old) (E.stream err.new) (M.state machine.old)
         (M.state machine.new) }

@@ -151,14 +151,15 @@ pairs_turn hs i h is old new whole less here same put all =
     ∙ all
 
 references : (rows : List (Bor Row)) →
-    map (λ x. reference_of x.now.item) rows ≡ map (λ x. reference_of x.item) (map (λ r. r.now) rows)
+    map (λ x. reference_of x.now.declared) rows ≡ map (λ x. reference_of x.declared) (map (λ r. r.now) rows)
 references [] = refl
-references (r ∷ rows) = ap (λ xs. reference_of r.now.item ∷ xs) (references rows)
+references (r ∷ rows) = ap (λ xs. reference_of r.now.declared ∷ xs) (references rows)
 
 pub told_first : (rows : List (Bor Row)) (r : Bor Row) (at : Place) (refs : List Reference) (f : Fault) →
-    0 < length rows → r ≡ get_or rows 0 r → at ≡ r.now.item.at → refs ≡ map (λ x. reference_of x.now.item) rows →
+    0 < length rows → r ≡ get_or rows 0 r → at ≡ r.now.declared.at →
+    refs ≡ map (λ x. reference_of x.now.declared) rows →
     f ≡ fault at (Cycle refs) → cycle_told (map (λ x. x.now) rows) ≡ Err f
 told_first [] r at refs f some here place list is = absurd (omega arith)
 told_first (x ∷ rows) r at refs f some here place list is =
-    sym (ap Err (is ∙ ap₂ (λ p xs. fault p (Cycle xs)) (place ∙ ap (λ y. y.now.item.at) here)
+    sym (ap Err (is ∙ ap₂ (λ p xs. fault p (Cycle xs)) (place ∙ ap (λ y. y.now.declared.at) here)
     (list ∙ references (x ∷ rows))))

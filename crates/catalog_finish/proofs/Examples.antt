@@ -461,12 +461,12 @@ whole : finished untouched small (related [] []) (codes "node") ≡ Ok (
   record {
     node = codes "node";
     resources =
-        record { item = resource_with (class (codes "main") 0).item []; inside = [] }
+        record { item = resource_with (class (codes "main") 0).declared []; inside = [] }
         ∷ record {
-          item = resource_with (notify (codes "n") 2 [] mode.Plain).item ((codes "message", text (codes "default")) ∷ []);
+          item = resource_with (notify (codes "n") 2 [] mode.Plain).declared ((codes "message", text (codes "default")) ∷ []);
           inside = 0 ∷ [];
         }
-        ∷ record { item = resource_with (class (codes "b") 3).item []; inside = [] }
+        ∷ record { item = resource_with (class (codes "b") 3).declared []; inside = [] }
         ∷ [];
     edges = record { from = 2; to = 1; signal = false } ∷ [];
     log = [];

@@ -111,12 +111,12 @@ module _ (r : Row) (rows : List Row) (apart : AreApart (r ∷ rows)) where
   rest_apart = record { found = λ n d there. (later n d there).1 }
 
   others_differ : (n : ℕ) (d : Declared) → item_at rows n ≡ Some d →
-      same_reference (named.reference_of r.item) (named.reference_of d) ≡ false
+      same_reference (named.reference_of r.declared) (named.reference_of d) ≡ false
   others_differ n d there =
-      same_reference_equiv.symm (named.reference_of r.item) (named.reference_of d) ∙ (later n d there).0
+      same_reference_equiv.symm (named.reference_of r.declared) (named.reference_of d) ∙ (later n d there).0
 
 module _ (each : ℕ → Row → Held)
-    (called : (n : ℕ) (r : Row) → reference_of (each n r) ≡ named.reference_of r.item) where
+    (called : (n : ℕ) (r : Row) → reference_of (each n r) ≡ named.reference_of r.declared) where
   live_from : ℕ → List Row → List Held
   live_from n rows = of_live (λ m r. each m r ∷ []) n rows
 
@@ -131,7 +131,7 @@ module _ (each : ℕ → Row → Held)
       ++ of_live (λ m x. each m x ∷ []) (suc n) rows)) ≡ false) [
         | true ↦
             either_false (same_reference q (reference_of (each n r))) _
-            (ap (same_reference q) (called n r) ∙ differ zero r.item refl) rest
+            (ap (same_reference q) (called n r) ∙ differ zero r.declared refl) rest
         | false ↦ rest
       ]
 
@@ -192,7 +192,7 @@ module _ (each : ℕ → Row → Held) (rows : List Row) (pairs : List Containme
   made : List Held
   made = of_live (λ m r. each m r ∷ []) 0 rows
 
-  pub is_catalog : ((n : ℕ) (r : Row) → reference_of (each n r) ≡ named.reference_of r.item) →
+  pub is_catalog : ((n : ℕ) (r : Row) → reference_of (each n r) ≡ named.reference_of r.declared) →
       ((n : ℕ) (r : Row) → (each n r).inside ≡ inside (layout_of rows pairs) n r) → AreApart rows →
       list_all has_form (of_live (λ m r. each m r ∷ []) 0 rows) ≡ true →
       is_ordered edge_cmp (edges_of (length (of_live (λ m r. each m r ∷ []) 0 rows)) entries) ≡ true →
@@ -214,7 +214,7 @@ module _ (each : ℕ → Row → Held) (rows : List Row) (pairs : List Containme
 
   -- of resources and edges that are made so
   pub kept : (hs : List Held) (es : List Edge) →
-      ((n : ℕ) (r : Row) → reference_of (each n r) ≡ named.reference_of r.item) →
+      ((n : ℕ) (r : Row) → reference_of (each n r) ≡ named.reference_of r.declared) →
       ((n : ℕ) (r : Row) → (each n r).inside ≡ inside (layout_of rows pairs) n r) → AreApart rows →
       hs ≡ of_live (λ m r. each m r ∷ []) 0 rows → es ≡ edges_of (length hs) entries → list_all has_form hs ≡ true →
       is_ordered edge_cmp es ≡ true → IsCatalog hs es

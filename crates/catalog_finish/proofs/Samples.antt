@@ -43,7 +43,7 @@ imported = mode.Imported (codes "other") 0
 -- a declaration in line n, in this container, with these attributes
 abbrev pub row : List ℕ → List ℕ → ℕ → Option ℕ → List Setting → Mode → Row
 row kind title n container ss m = record {
-  item = record {
+  declared = record {
     item = record { kind = kind; title = title; attributes = ss; tags = title ∷ [] };
     at = place n;
     scope = 0;

@@ -74,24 +74,24 @@ nameless n attributes =
 
 -- of a declaration that nothing else concerns
 pub by_own : (s : State) (r : Row) (b : Bool) (n : NativeType) (attributes : List Attribute) →
-    b ≡ (touched_by s r == 0) → b ≡ true → settings attributes ≡ r.item.item.attributes →
-    IsTrue (is_rising (setting_names r.item.item.attributes)) → are_nameless n attributes ≡ true →
+    b ≡ (touched_by s r == 0) → b ≡ true → settings attributes ≡ r.declared.item.attributes →
+    IsTrue (is_rising (setting_names r.declared.item.attributes)) → are_nameless n attributes ≡ true →
     has_no_name n (attributes_of s r) ≡ true
 by_own s r b n attributes told holds is rises none =
     ap (has_no_name n) (told_untouched s r b told holds rises)
-    ∙ fewer_names n r.item.item.attributes (sym (ap (has_no_name n) is) ∙ nameless n attributes ∙ none)
+    ∙ fewer_names n r.declared.item.attributes (sym (ap (has_no_name n) is) ∙ nameless n attributes ∙ none)
 
 -- as the declaration tells by itself
 pub unnamed_alone : (s : State) (r : Row) (b c : Bool) (n : NativeType) (attributes : List Attribute) →
-    b ≡ (touched_by s r == 0) → b ≡ true → settings attributes ≡ r.item.item.attributes →
+    b ≡ (touched_by s r == 0) → b ≡ true → settings attributes ≡ r.declared.item.attributes →
     c ≡ are_nameless n attributes → c ≡ is_unnamed s r n
 unnamed_alone s r b c n attributes told holds is none =
     none ∙ sym (nameless n attributes) ∙ ap (has_no_name n) is
-    ∙ ap (λ t. t && has_no_name n r.item.item.attributes) (sym holds ∙ told)
+    ∙ ap (λ t. t && has_no_name n r.declared.item.attributes) (sym holds ∙ told)
 
 pub unnamed_not : (s : State) (r : Row) (b : Bool) (n : NativeType) → b ≡ (touched_by s r == 0) → b ≡ false →
     false ≡ is_unnamed s r n
-unnamed_not s r b n told holds = ap (λ t. t && has_no_name n r.item.item.attributes) (sym holds ∙ told)
+unnamed_not s r b n told holds = ap (λ t. t && has_no_name n r.declared.item.attributes) (sym holds ∙ told)
 
 -- ---- what they are called
 
@@ -132,7 +132,7 @@ called_titled (Some n) d ss e =
 
 -- it is one of the first n declarations, called by its title
 abbrev Came : List Row → ℕ → Called → Type 0
-Came rows n c = (m : ℕ) × (q : Row) × (m < n) × (slice_get rows m ≡ Some q) × (c ≡ titled q.item)
+Came rows n c = (m : ℕ) × (q : Row) × (m < n) × (slice_get rows m ≡ Some q) × (c ≡ titled q.declared)
 
 abbrev Known : List Row → ℕ → List Called → Type 0
 Known rows n [] = Unit {0}
@@ -150,25 +150,25 @@ not_itself : (n m : ℕ) → m < n → Some n ≡ Some m → ⊥
 not_itself n m before e = let same_number : n ≡ m = cc in omega (arith, before, same_number)
 
 apart_from : (rows : List Row) → AreApart rows → (n m : ℕ) (r q : Row) → m < n → slice_get rows n ≡ Some r →
-    slice_get rows m ≡ Some q → same_name (titled r.item) (titled q.item) ≡ true → ⊥
+    slice_get rows m ≡ Some q → same_name (titled r.declared) (titled q.declared) ≡ true → ⊥
 apart_from rows apart n m r q before here there h =
     not_itself n m before
-    (sym (apart.found n r.item (ap (option_map (λ x. x.item)) here))
+    (sym (apart.found n r.declared (ap (option_map (λ x. x.declared)) here))
     ∙ ap (λ x. number_of x rows) same_one
-    ∙ apart.found m q.item (ap (option_map (λ x. x.item)) there)) where
-      same_one : reference_of r.item ≡ reference_of q.item
+    ∙ apart.found m q.declared (ap (option_map (λ x. x.declared)) there)) where
+      same_one : reference_of r.declared ≡ reference_of q.declared
       same_one = λ i. record {
-        kind = (bytes_eq-Decides r.item.item.kind q.item.item.kind).0 (first_so _ _ h) i;
-        title = (bytes_eq-Decides r.item.item.title q.item.item.title).0
-            (first_so _ (same undef undef) (second_so (bytes_eq r.item.item.kind q.item.item.kind) _ h)) i;
+        kind = (bytes_eq-Decides r.declared.item.kind q.declared.item.kind).0 (first_so _ _ h) i;
+        title = (bytes_eq-Decides r.declared.item.title q.declared.item.title).0
+            (first_so _ (same undef undef) (second_so (bytes_eq r.declared.item.kind q.declared.item.kind) _ h)) i;
       }
 
 none_same : (rows : List Row) → AreApart rows → (n : ℕ) (r : Row) → slice_get rows n ≡ Some r → (cs : List Called) →
-    Known rows n cs → find (same_name (titled r.item)) cs ≡ None
+    Known rows n cs → find (same_name (titled r.declared)) cs ≡ None
 none_same rows apart n r here [] known = refl
 none_same rows apart n r here (c ∷ cs) ((m, q, before, there, is), known) =
-    elim (same_name (titled r.item) c) as (λ b. same_name (titled r.item) c ≡ b → cond b (Some c) (find (same_name (titled r.item)) cs) ≡ None) [
-      | true ↦ λ h. absurd (apart_from rows apart n m r q before here there (ap (same_name (titled r.item)) (sym is) ∙ h))
+    elim (same_name (titled r.declared) c) as (λ b. same_name (titled r.declared) c ≡ b → cond b (Some c) (find (same_name (titled r.declared)) cs) ≡ None) [
+      | true ↦ λ h. absurd (apart_from rows apart n m r q before here there (ap (same_name (titled r.declared)) (sym is) ∙ h))
       | false ↦ λ h. none_same rows apart n r here cs known
     ] refl
 
@@ -178,20 +178,20 @@ step_titled : (s : State) (rows : List Row) → AreApart rows → (n : ℕ) (r :
     is_by_title s r ≡ true → (cs : List Called) → Known rows n cs →
     (out : List Called) × (name_step s cs r ≡ Ok out) × Known rows (suc n) out
 step_titled s rows apart n r here titled_so cs known =
-    elim (is_live r) as (λ b. (out : List Called) × ((if b then with_name r.item.at cs (native_called (native_of r.item.item.kind) r.item (attributes_of s r)) else Ok cs) ≡ Ok out) × Known rows (suc n) out) [
-      | true ↦ live (called_titled (native_of r.item.item.kind) r.item (attributes_of s r) titled_so)
+    elim (is_live r) as (λ b. (out : List Called) × ((if b then with_name r.declared.at cs (native_called (native_of r.declared.item.kind) r.declared (attributes_of s r)) else Ok cs) ≡ Ok out) × Known rows (suc n) out) [
+      | true ↦ live (called_titled (native_of r.declared.item.kind) r.declared (attributes_of s r) titled_so)
       | false ↦ (cs, refl, known_later rows n cs known)
     ] where
       called : Option Called
-      called = native_called (native_of r.item.item.kind) r.item (attributes_of s r)
+      called = native_called (native_of r.declared.item.kind) r.declared (attributes_of s r)
 
-      live : (called ≡ None) ⊎ (called ≡ Some (titled r.item)) →
-          (out : List Called) × (with_name r.item.at cs called ≡ Ok out) × Known rows (suc n) out
-      live (inl e) = (cs, ap (with_name r.item.at cs) e, known_later rows n cs known)
+      live : (called ≡ None) ⊎ (called ≡ Some (titled r.declared)) →
+          (out : List Called) × (with_name r.declared.at cs called ≡ Ok out) × Known rows (suc n) out
+      live (inl e) = (cs, ap (with_name r.declared.at cs) e, known_later rows n cs known)
       live (inr e) = (
-        cs ++ titled r.item ∷ [],
-        ap (with_name r.item.at cs) e ∙ ap (name_told r.item.at (titled r.item) cs) (none_same rows apart n r here cs known),
-        known_more rows (suc n) cs (titled r.item) (known_later rows n cs known) (n, r, omega arith, here, refl),
+        cs ++ titled r.declared ∷ [],
+        ap (with_name r.declared.at cs) e ∙ ap (name_told r.declared.at (titled r.declared) cs) (none_same rows apart n r here cs known),
+        known_more rows (suc n) cs (titled r.declared) (known_later rows n cs known) (n, r, omega arith, here, refl),
       )
 
 there_first : (rows rest : List Row) (n : ℕ) (r : Row) → drop n rows ≡ r ∷ rest → slice_get rows n ≡ Some r

@@ -47,23 +47,24 @@ fewer (s ∷ ss) e =
 
 -- of a declaration that nothing else concerns
 pub untouched_apart : (s : State) (r : Row) (b : Bool) (attributes : List Attribute) → b ≡ (touched_by s r == 0) → b ≡ true →
-    settings attributes ≡ r.item.item.attributes → IsTrue (is_rising (setting_names r.item.item.attributes)) →
+    settings attributes ≡ r.declared.item.attributes → IsTrue (is_rising (setting_names r.declared.item.attributes)) →
     list_any (λ a. is_relation_name a.name) attributes ≡ false → does_relate (attributes_of s r) ≡ false
 untouched_apart s r b attributes told holds is rises none =
     ap does_relate (told_untouched s r b told holds rises)
-    ∙ fewer r.item.item.attributes (sym (ap does_relate is) ∙ seen attributes ∙ none)
+    ∙ fewer r.declared.item.attributes (sym (ap does_relate is) ∙ seen attributes ∙ none)
 
 -- as the declaration tells by itself
 pub told_alone : (s : State) (r : Row) (b c : Bool) (attributes : List Attribute) → b ≡ (touched_by s r == 0) →
-    b ≡ true → settings attributes ≡ r.item.item.attributes → c ≡ list_any (λ a. is_relation_name a.name) attributes →
-    c ≡ (not (touched_by s r == 0) || does_relate r.item.item.attributes)
+    b ≡ true → settings attributes ≡ r.declared.item.attributes →
+    c ≡ list_any (λ a. is_relation_name a.name) attributes →
+    c ≡ (not (touched_by s r == 0) || does_relate r.declared.item.attributes)
 told_alone s r b c attributes told holds is some =
     some ∙ sym (seen attributes) ∙ ap does_relate is
-    ∙ ap (λ t. not t || does_relate r.item.item.attributes) (sym holds ∙ told)
+    ∙ ap (λ t. not t || does_relate r.declared.item.attributes) (sym holds ∙ told)
 
 pub told_touched : (s : State) (r : Row) (b : Bool) → b ≡ (touched_by s r == 0) → b ≡ false →
-    true ≡ (not (touched_by s r == 0) || does_relate r.item.item.attributes)
-told_touched s r b told holds = ap (λ t. not t || does_relate r.item.item.attributes) (sym holds ∙ told)
+    true ≡ (not (touched_by s r == 0) || does_relate r.declared.item.attributes)
+told_touched s r b told holds = ap (λ t. not t || does_relate r.declared.item.attributes) (sym holds ∙ told)
 
 -- ---- and so of what they relate
 
@@ -109,14 +110,14 @@ unrelated t i r es e =
       ss : List Setting
       ss = attributes_of t.state r
 
-      step : (m : Metaparameter) → metaparameter_step t r.item.at i ss m es ≡ Ok es
-      step m = step_none t r.item.at i ss m es e
+      step : (m : Metaparameter) → metaparameter_step t r.declared.at i ss m es ≡ Ok es
+      step m = step_none t r.declared.at i ss m es e
 
       third : List Entry → Result (List Entry) Fault
-      third xs = metaparameter_step t r.item.at i ss parameter.Subscribe xs
+      third xs = metaparameter_step t r.declared.at i ss parameter.Subscribe xs
 
       second : List Entry → Result (List Entry) Fault
-      second xs = and_then (metaparameter_step t r.item.at i ss parameter.Notify xs) third
+      second xs = and_then (metaparameter_step t r.declared.at i ss parameter.Notify xs) third
 
       first : List Entry → Result (List Entry) Fault
-      first xs = and_then (metaparameter_step t r.item.at i ss parameter.Require xs) second
+      first xs = and_then (metaparameter_step t r.declared.at i ss parameter.Require xs) second

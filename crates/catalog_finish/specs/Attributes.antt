@@ -42,7 +42,7 @@ stays s = is_kept s && is_plain_value s.1
 -- Of a native resource it is what declaration, override lines and default statements set, of a class or an instance
 -- its parameters.
 abbrev pub catalog_attributes : State → Row → List Setting
-catalog_attributes s r = in_catalog (if is_native r.item then attributes_of s r else bound_parameters r)
+catalog_attributes s r = in_catalog (if is_native r.declared then attributes_of s r else bound_parameters r)
 
 -- What is exported keeps the relation metaparameters, for the nodes that import it. An instance exports what it is set
 -- to as well, since it is evaluated where it is imported.

@@ -14,7 +14,7 @@ abbrev pub resource_with : Declared → List Setting → Resource
 resource_with d ss = record { kind = d.item.kind; title = d.item.title; attributes = ss; tags = d.item.tags }
 
 abbrev pub held : State → Layout → ℕ → Row → Held
-held s l n r = record { item = resource_with r.item (catalog_attributes s r); inside = inside l n r }
+held s l n r = record { item = resource_with r.declared (catalog_attributes s r); inside = inside l n r }
 
 -- all live declarations in their order, `Class[main]` first, each at its index
 abbrev pub resources : State → Layout → List Row → List Held

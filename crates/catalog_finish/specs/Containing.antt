@@ -1,5 +1,6 @@
 -- Which resources of a catalog contain which, and whether one stands inside itself or comes before itself.
-use Rattle.std.specs.Prelude.{ℕ, suc, nat_eq, ⊤, Bool, ◌&&◌, ◌||◌, List, [], ◌∷◌, ◌++◌, map, length, Option, None, Some, option_and_then, option_to_list, is_some, slice_get, Result, Ok, Err}
+use Rattle.std.specs.Prelude.{ℕ, suc, nat_eq, ⊤, Bool, ◌&&◌, ◌||◌, List, [], ◌∷◌, ◌++◌, map, length, Option, None, Some}
+use Rattle.std.specs.Prelude.{option_and_then, option_to_list, is_some, slice_get, Result, Ok, Err}
 use Rattle.std.specs.List.{list_any}
 use Rattle.pp_values.specs.Faults.{fault}
 use Rattle.pp_values.specs.declared.fault.Fault.{Fault}
@@ -29,7 +30,7 @@ rows_at rows numbers (i ∷ is) =
 -- F18 at the first of these, each of which contains the next, and the last one the first
 abbrev pub cycle_told : List Row → Result ⊤ Fault
 cycle_told [] = Ok tt
-cycle_told (r ∷ rs) = Err (fault r.item.at (Cycle (map (λ x. reference_of x.item) (r ∷ rs))))
+cycle_told (r ∷ rs) = Err (fault r.declared.at (Cycle (map (λ x. reference_of x.declared) (r ∷ rs))))
 
 abbrev pub cycle_found : List Row → Option (List ℕ) → Result ⊤ Fault
 cycle_found rows None = Ok tt

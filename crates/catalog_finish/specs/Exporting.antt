@@ -1,5 +1,6 @@
 -- What a node exports.
-use Rattle.std.specs.Prelude.{Bool, true, false, not, if◌then◌else◌, List, [], ◌++◌, find, Option, None, Some, option_to_list, Result, Ok, Err}
+use Rattle.std.specs.Prelude.{Bool, true, false, not, if◌then◌else◌, List, [], ◌++◌, find, Option, None, Some}
+use Rattle.std.specs.Prelude.{option_to_list, Result, Ok, Err}
 use Rattle.pp_values.specs.Answers.{and_then, in_turn}
 use Rattle.pp_values.specs.Faults.{fault}
 use Rattle.pp_values.specs.Plain.{is_plain_value}
@@ -22,12 +23,12 @@ is_exported mode.Exported = true
 is_exported (mode.Imported node place) = false
 
 abbrev pub export_with : Row → List Setting → Exported
-export_with r ss = record { node_place = r.item.at; item = resource_with r.item ss }
+export_with r ss = record { node_place = r.declared.at; item = resource_with r.declared ss }
 
 -- F8 names the attribute, and stands where the resource is declared
 abbrev pub export_tested : Row → List Setting → Option Setting → Result Exported Fault
 export_tested r ss None = Ok (export_with r ss)
-export_tested r ss (Some a) = Err (fault r.item.at (TypeMismatch a.0))
+export_tested r ss (Some a) = Err (fault r.declared.at (TypeMismatch a.0))
 
 -- no data type and no `default` is within what it is set to; the first attribute of which that isn't so is told
 abbrev pub exported_resource : Row → List Setting → Result Exported Fault

@@ -1,5 +1,6 @@
 -- The cycle that is told where a relation leads from an index back to itself. `leads a b` says that a leads to b.
-use Rattle.std.specs.Prelude.{ℕ, zero, suc, nat_eq, ◌&&◌, Bool, if◌then◌else◌, List, [], ◌∷◌, Option, None, Some, option_map}
+use Rattle.std.specs.Prelude.{ℕ, zero, suc, nat_eq, ◌&&◌, Bool, if◌then◌else◌, List, [], ◌∷◌, Option, None, Some}
+use Rattle.std.specs.Prelude.{option_map}
 use Rattle.std.specs.List.{list_any}
 
 abbrev pub is_pair : ℕ → ℕ → ℕ × ℕ → Bool

@@ -1,5 +1,6 @@
 -- Where declarations stand in a catalog, and what contains them there.
-use Rattle.std.specs.Prelude.{ℕ, suc, ◌==◌, if◌then◌else◌, List, [], ◌∷◌, ◌++◌, Option, None, Some, option_and_then, option_to_list, slice_get, slice_index_or}
+use Rattle.std.specs.Prelude.{ℕ, suc, ◌==◌, if◌then◌else◌, List, [], ◌∷◌, ◌++◌, Option, None, Some, option_and_then}
+use Rattle.std.specs.Prelude.{option_to_list, slice_get, slice_index_or}
 use Rattle.std.specs.BTreeSet.{insert_key}
 use Rattle.std.specs.Ordering.{nat_cmp}
 use Rattle.res_book.specs.Rows.{is_class, is_live}
@@ -65,7 +66,7 @@ layout_of rows pairs = record { indexes = indexes rows; outers = outers_from pai
 
 -- A class is in what contains it by `contain`; each other resource in what declares it.
 abbrev pub containers : Layout → ℕ → Row → List ℕ
-containers l n r = if is_class r.item then slice_index_or l.outers n [] else option_to_list r.item.container
+containers l n r = if is_class r.declared then slice_index_or l.outers n [] else option_to_list r.declared.container
 
 -- the indexes of what contains a declaration directly
 abbrev pub inside : Layout → ℕ → Row → List ℕ

@@ -7,7 +7,8 @@ use Rattle.catalog_finish.specs.Naming.{Called}
 
 abbrev pub coded_called : Coded Called
 coded_called =
-    code_by ((List ℕ × List ℕ) × (Datum × Datum)) (coded× (coded× coded_text coded_text) (coded× coded_datum coded_datum))
+    code_by ((List ℕ × List ℕ) × (Datum × Datum))
+    (coded× (coded× coded_text coded_text) (coded× coded_datum coded_datum))
     (λ c. ((c.kind, c.title), (c.name, c.provider)))
     (λ p. record { kind = p.0.0; title = p.0.1; name = p.1.0; provider = p.1.1 }) (λ _. refl)
 

@@ -1,5 +1,6 @@
 -- The table by which a resource of the same name is found without going over all.
-use Rattle.std.specs.Prelude.{◌≡◌, ℕ, suc, cond, Option, None, Some, List, [], ◌∷◌, ◌++◌, codes, option_to_list, slice_get}
+use Rattle.std.specs.Prelude.{◌≡◌, ℕ, suc, cond, Option, None, Some, List, [], ◌∷◌, ◌++◌, codes, option_to_list}
+use Rattle.std.specs.Prelude.{slice_get}
 use Rattle.std.specs.BTreeMap.{BTreeMap, get}
 use Rattle.std.specs.Cmp.Lexicographic.{slice_cmp}
 use Rattle.std.specs.Ordering.{nat_cmp}

@@ -1,5 +1,6 @@
 -- What resources are called on their node: no two of a kind may be called the same.
-use Rattle.std.specs.Prelude.{ℕ, ⊤, Bool, true, false, ◌&&◌, if◌then◌else◌, List, [], ◌∷◌, ◌++◌, find, map, Option, None, Some, Result, Ok, Err, codes}
+use Rattle.std.specs.Prelude.{ℕ, ⊤, Bool, true, false, ◌&&◌, if◌then◌else◌, List, [], ◌∷◌, ◌++◌, find, map, Option}
+use Rattle.std.specs.Prelude.{None, Some, Result, Ok, Err, codes}
 use Rattle.std.specs.Str.{bytes_eq}
 use Rattle.pp_ops.specs.Same.{same}
 use Rattle.pp_values.specs.Answers.{and_then, in_turn}
@@ -88,7 +89,7 @@ with_name at done (Some c) = name_told at c done (find (same_name c) done)
 abbrev pub name_step : State → List Called → Row → Result (List Called) Fault
 name_step s done r =
     if is_live r
-    then with_name r.item.at done (native_called (native_of r.item.item.kind) r.item (attributes_of s r))
+    then with_name r.declared.at done (native_called (native_of r.declared.item.kind) r.declared (attributes_of s r))
     else Ok done
 
 abbrev pub names_of_all : State → List Row → Result (List Called) Fault

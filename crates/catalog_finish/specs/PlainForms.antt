@@ -1,6 +1,7 @@
 -- Values as a catalog has them: a data type and `default` are their texts, at any depth.
 use Rattle.std.specs.Prelude.{List, map}
-use Rattle.pp_values.specs.Datum.{Datum, text, list, hash, kind, default, Data, no_data, datum, Entries, no_entries, entry, Pair}
+use Rattle.pp_values.specs.Datum.{Datum, text, list, hash, kind, default, Data, no_data, datum, Entries, no_entries}
+use Rattle.pp_values.specs.Datum.{entry, Pair}
 use Rattle.pp_values.specs.TextOf.{text_of}
 
 abbrev mutual

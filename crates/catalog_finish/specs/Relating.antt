@@ -1,5 +1,6 @@
 -- What the relations of a compile relate, as indexes of the catalog.
-use Rattle.std.specs.Prelude.{ℕ, suc, Bool, not, ◌&&◌, ◌||◌, if◌then◌else◌, List, [], ◌∷◌, ◌++◌, Option, None, Some, option_and_then, option_to_list, slice_get, Result, Ok, Err}
+use Rattle.std.specs.Prelude.{ℕ, suc, Bool, not, ◌&&◌, ◌||◌, if◌then◌else◌, List, [], ◌∷◌, ◌++◌, Option, None, Some}
+use Rattle.std.specs.Prelude.{option_and_then, option_to_list, slice_get, Result, Ok, Err}
 use Rattle.std.specs.Str.{bytes_eq}
 use Rattle.pp_values.specs.Answers.{and_then, in_turn}
 use Rattle.pp_values.specs.Datum.{Datum, list, reference, Data, no_data, datum}
@@ -44,12 +45,12 @@ target t at q = target_told at q (option_and_then (index_at t.layout.indexes) (n
 abbrev pub is_matched : State → Collector → Row → Bool
 is_matched s c r =
     if is_imported r.mode
-    then c.exported && matches c.query r.item.item.title r.item.item.tags r.item.item.attributes
+    then c.exported && matches c.query r.declared.item.title r.declared.item.tags r.declared.item.attributes
     else (not c.exported || is_exported r.mode)
-    && matches c.query r.item.item.title r.item.item.tags (attributes_of s r)
+    && matches c.query r.declared.item.title r.declared.item.tags (attributes_of s r)
 
 abbrev pub is_taken : State → Collector → Row → Bool
-is_taken s c r = bytes_eq c.kind r.item.item.kind && is_matched s c r
+is_taken s c r = bytes_eq c.kind r.declared.item.kind && is_matched s c r
 
 abbrev pub taken_index : Sources → Collector → ℕ → Row → List ℕ
 taken_index t c n r = if is_taken t.state c r then option_to_list (index_at t.layout.indexes n) else []
@@ -77,7 +78,9 @@ side_of t at os = in_turn (operand_step t at) [] os
 
 -- the side that goes before is tested first
 abbrev pub ends_of : Sources → RelationLine → Result Ends Fault
-ends_of t l = and_then (side_of t l.at l.left) (λ left. and_then (side_of t l.at l.right) (λ right. Ok (record { left = left; right = right })))
+ends_of t l =
+    and_then (side_of t l.at l.left)
+    (λ left. and_then (side_of t l.at l.right) (λ right. Ok (record { left = left; right = right })))
 
 abbrev pub line_step : Sources → List Entry → RelationLine → Result (List Entry) Fault
 line_step t es l = and_then (ends_of t l) (λ e. Ok (joined es e.left e.right l.signal))
@@ -117,7 +120,7 @@ metaparameters_related t at i ss es =
     metaparameter_step t at i ss parameter.Subscribe third)))
 
 abbrev pub row_related : Sources → ℕ → Row → List Entry → Result (List Entry) Fault
-row_related t i r es = metaparameters_related t r.item.at i (attributes_of t.state r) es
+row_related t i r es = metaparameters_related t r.declared.at i (attributes_of t.state r) es
 
 -- a declaration that is not live has no index
 abbrev pub row_at_index : Sources → Option ℕ → Row → List Entry → Result (List Entry) Fault

@@ -25,19 +25,19 @@ is_titled None ss = true
 is_titled (Some n) ss = has_no_name n ss
 
 abbrev pub is_by_title : State → Row → Bool
-is_by_title s r = is_titled (native_of r.item.item.kind) (attributes_of s r)
+is_by_title s r = is_titled (native_of r.declared.item.kind) (attributes_of s r)
 
 -- ---- as a declaration tells by itself: with a line on it, or a default for its kind, it may have a name
 
 abbrev pub is_unnamed : State → Row → NativeType → Bool
-is_unnamed s r n = (touched_by s r == 0) && has_no_name n r.item.item.attributes
+is_unnamed s r n = (touched_by s r == 0) && has_no_name n r.declared.item.attributes
 
 abbrev pub is_sure : State → Row → Option NativeType → Bool
 is_sure s r None = true
 is_sure s r (Some n) = is_unnamed s r n
 
 abbrev pub is_surely_by_title : State → Row → Bool
-is_surely_by_title s r = is_sure s r (native_of r.item.item.kind)
+is_surely_by_title s r = is_sure s r (native_of r.declared.item.kind)
 
 -- ---- the same of the attributes themselves
 
@@ -46,4 +46,5 @@ has_attribute attributes name = list_any (λ a. bytes_eq a.name name) attributes
 
 abbrev pub are_nameless : NativeType → List Attribute → Bool
 are_nameless n attributes =
-    not (is_told_apart n) || not (has_attribute attributes (native_types.row n).namevar || has_attribute attributes (codes "provider"))
+    not (is_told_apart n)
+    || not (has_attribute attributes (native_types.row n).namevar || has_attribute attributes (codes "provider"))

@@ -1,12 +1,15 @@
 //! The attributes of resources in the catalog, and of those that are exported.
-ghost use Rattle.std.specs.Prelude.{◌≡◌, ◌<◌, ◌∷◌, [], ◌++◌, ◌||◌, filter, length, not, option_map, Some, IfOk, IsTrue, OnOk, slice_get, unwrap_or};
+ghost use Rattle.std.specs.Prelude.{◌≡◌, ◌<◌, ◌∷◌, [], ◌++◌, ◌||◌, filter, length, not, option_map, Some, IfOk, IsTrue};
+ghost use Rattle.std.specs.Prelude.{OnOk, slice_get, unwrap_or};
 ghost use Rattle.std.specs.List.{list_all};
 ghost use Rattle.pp_values.specs.Views.{view};
 ghost use Rattle.res_core.specs.AttributeViews.{set_in, setting, settings};
 ghost use Rattle.res_core.specs.Metaparameters.{is_relation_name};
 ghost use Rattle.res_core.specs.PlainAttributes.{are_plain};
 ghost use Rattle.override_rules.specs.Names.{attributes_of};
-ghost use Rattle.catalog_finish.specs.Attributes.{bound_parameters, catalog_attributes as catalog_meant, exported_attributes as exported_meant, has_value, in_catalog, is_native as native_meant, is_tag as tag_meant, stays as stays_meant};
+ghost use Rattle.catalog_finish.specs.Attributes.{bound_parameters, catalog_attributes as catalog_meant};
+ghost use Rattle.catalog_finish.specs.Attributes.{exported_attributes as exported_meant, has_value, in_catalog};
+ghost use Rattle.catalog_finish.specs.Attributes.{is_native as native_meant, is_tag as tag_meant, stays as stays_meant};
 
 use crate::plain_values::{plain_copy, plain_value};
 use override_rules::{Overrides, is_value};
@@ -157,7 +160,7 @@ pub fn catalog_attributes(
     requires { slice_get book.now number ≡ Some row.now }
     ensures { IfOk result (λ a. a ≡ catalog_meant lines.now row.now) }
 {
-    if is_native(&row.item) {
+    if is_native(&row.declared) {
         let attributes = set_attributes(alloc, book, lines, number, row)?;
         return kept_of_set(alloc, attributes);
     }

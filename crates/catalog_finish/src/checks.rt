@@ -3,7 +3,8 @@ ghost use Rattle.std.specs.Prelude.{◌≡◌, IfOk, find, option_copied};
 ghost use Rattle.pp_values.specs.Answers.{Answers};
 ghost use Rattle.pp_values.specs.Faults.{fault};
 ghost use Rattle.pp_values.specs.declared.fault.What.TheVariants.{NoOverrideTarget};
-ghost use Rattle.catalog_finish.specs.Finishing.{is_missing as missing_meant, lines_checked, realized_checked, realized_told};
+ghost use Rattle.catalog_finish.specs.Finishing.{is_missing as missing_meant, lines_checked, realized_checked};
+ghost use Rattle.catalog_finish.specs.Finishing.{realized_told};
 
 use override_rules::Overrides;
 use pp_values::{Fault, Memory, Place, Reference, Stop, What};

@@ -1,6 +1,7 @@
 //! What collectors stand for in relations.
 ghost use Rattle.std.specs.Prelude.{◌≡◌, ◌<◌, Some, IfOk, length, slice_get};
-ghost use Rattle.catalog_finish.specs.Relating.{is_matched as matched_meant, is_taken as taken_meant, taken_index, taken as all_taken, collected as collected_meant};
+ghost use Rattle.catalog_finish.specs.Relating.{is_matched as matched_meant, is_taken as taken_meant, taken_index};
+ghost use Rattle.catalog_finish.specs.Relating.{taken as all_taken, collected as collected_meant};
 ghost use Rattle.catalog_finish.specs.Sources.{sources_of};
 ghost use Rattle.catalog_finish.specs.Tables.{at_live};
 
@@ -22,7 +23,7 @@ fn is_matched(
     requires { slice_get tables.now.book.now number ≡ Some row.now }
     ensures { IfOk result (λ b. b ≡ matched_meant tables.now.lines.now collector.now row.now) }
 {
-    let item = &row.item.item;
+    let item = &row.declared.item;
     let query = collector.query.as_query();
     if row.mode.is_imported() {
         return Ok(collector.exported && matches(query, &item.title, &item.tags, &item.attributes));
@@ -44,7 +45,7 @@ fn is_taken(
     requires { slice_get tables.now.book.now number ≡ Some row.now }
     ensures { IfOk result (λ b. b ≡ taken_meant tables.now.lines.now collector.now row.now) }
 {
-    if collector.kind == row.item.item.kind {
+    if collector.kind == row.declared.item.kind {
         return is_matched(alloc, tables, collector, number, row);
     }
     Ok(false)
@@ -97,7 +98,8 @@ fn taken(alloc: Global, tables: &Tables<'_>, collector: &Collector) -> Result<In
 
 /// The indexes of what the collector of this number stands for.
 pub fn collected(alloc: Global, tables: &Tables<'_>, number: u32) -> Result<Indexes, Memory>
-    ensures { IfOk result (λ l. l ≡ collected_meant (sources_of tables.now) (slice_get tables.now.collectors.now number)) }
+    ensures { IfOk result
+        (λ l. l ≡ collected_meant (sources_of tables.now) (slice_get tables.now.collectors.now number)) }
 {
     match tables.collectors.get(number as usize) {
         Some(collector) => taken(alloc, tables, collector),

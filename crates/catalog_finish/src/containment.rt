@@ -1,10 +1,12 @@
 //! Whether a resource stands inside itself, or comes before itself.
-ghost use Rattle.std.specs.Prelude.{◌≡◌, ◌<◌, ◌^◌, ℕ, [], ◌++◌, length, map, IfOk, OnOk, MatchResult, option_and_then, option_copied, slice_get};
+ghost use Rattle.std.specs.Prelude.{◌≡◌, ◌<◌, ◌^◌, ℕ, [], ◌++◌, length, map, IfOk, OnOk, MatchResult, option_and_then};
+ghost use Rattle.std.specs.Prelude.{option_copied, slice_get};
 ghost use Rattle.pp_values.specs.Answers.{Answers};
 ghost use Rattle.res_book.specs.Rows.{reference_of as reference_meant};
 ghost use Rattle.rel_graph.specs.Graphs.{containment_pair, edge_pair};
 ghost use Rattle.rel_graph.specs.Pairs.{AllBelow};
-ghost use Rattle.catalog_finish.specs.Containing.{containment, rows_at as rows_at_meant, cycle_told as told_meant, order_checked, is_direct, cycle_in as cycle_meant};
+ghost use Rattle.catalog_finish.specs.Containing.{containment, rows_at as rows_at_meant, cycle_told as told_meant};
+ghost use Rattle.catalog_finish.specs.Containing.{order_checked, is_direct, cycle_in as cycle_meant};
 ghost use Rattle.catalog_finish.specs.FirstCycles.{first_cycle};
 ghost use Rattle.catalog_finish.specs.Layouts.{live_numbers};
 
@@ -86,11 +88,11 @@ fn rows_at<'a>(
 }
 
 fn references_of(alloc: Global, rows: &[&Row]) -> Result<Refs, Memory>
-    ensures { IfOk result (λ l. l ≡ map (λ x. reference_meant x.now.item) rows.now) }
+    ensures { IfOk result (λ l. l ≡ map (λ x. reference_meant x.now.declared) rows.now) }
 {
     let mut items = Vec::new(alloc);
     for row in rows {
-        items.push(row.item.reference(alloc)?)?;
+        items.push(row.declared.reference(alloc)?)?;
     }
     Ok(Refs::from_vec(items))
 }
@@ -102,7 +104,7 @@ fn cycle_told(alloc: Global, rows: &[&Row]) -> Result<(), Stop>
     match rows {
         [] => Ok(()),
         [first, ..] => {
-            let at = first.item.at.copy(alloc)?;
+            let at = first.declared.at.copy(alloc)?;
             let references = references_of(alloc, rows)?;
             Err(Stop::Fault(Fault::new(alloc, at, What::Cycle(references))?))
         }

@@ -4,7 +4,8 @@ ghost use Rattle.pp_values.specs.Answers.{Answers};
 ghost use Rattle.pp_values.specs.Plain.{is_plain_value};
 ghost use Rattle.res_core.specs.PlainAttributes.{are_plain};
 ghost use Rattle.res_core.specs.AttributeViews.{setting, settings};
-ghost use Rattle.catalog_finish.specs.Exporting.{is_exported as exported_meant, exported_resource as resource_meant, export_of as export_meant, exports as exports_meant, export_with};
+ghost use Rattle.catalog_finish.specs.Exporting.{is_exported as exported_meant, exported_resource as resource_meant};
+ghost use Rattle.catalog_finish.specs.Exporting.{export_of as export_meant, exports as exports_meant, export_with};
 
 use crate::attributes::exported_attributes;
 use crate::resources::resource_with;
@@ -46,7 +47,7 @@ fn exported_resource(alloc: Global, row: &Row, attributes: Attributes) -> Result
 {
     match first_not_plain(attributes.as_slice()) {
         Some(attribute) => {
-            let fault = mismatch(alloc, &row.item.at, &attribute.name)?;
+            let fault = mismatch(alloc, &row.declared.at, &attribute.name)?;
             Err(Stop::Fault(fault))
         }
         None => Ok(plain_export(alloc, row, attributes)?),
@@ -57,8 +58,8 @@ fn plain_export(alloc: Global, row: &Row, attributes: Attributes) -> Result<Expo
     requires { IsTrue (are_plain attributes) }
     ensures { IfOk result (λ e. e ≡ export_with row.now attributes) }
 {
-    let node_place = row.item.at.copy(alloc)?;
-    let resource = resource_with(alloc, &row.item, attributes)?;
+    let node_place = row.declared.at.copy(alloc)?;
+    let resource = resource_with(alloc, &row.declared, attributes)?;
     Ok(Exported {
         node_place,
         item: PlainResource::new(resource),

@@ -1,5 +1,7 @@
-ghost use Rattle.std.specs.Prelude.{◌≡◌, IfOk, OnOk, map, option_and_then, option_to_list, slice_get, slice_index_or, []};
-ghost use Rattle.catalog_finish.specs.Layouts.{layout_of, index_at, indexes_at, rising, inside as inside_meant, indexes_from, outers_from, containers};
+ghost use Rattle.std.specs.Prelude.{◌≡◌, IfOk, OnOk, map, option_and_then, option_to_list, slice_get, slice_index_or};
+ghost use Rattle.std.specs.Prelude.{[]};
+ghost use Rattle.catalog_finish.specs.Layouts.{layout_of, index_at, indexes_at, rising, inside as inside_meant};
+ghost use Rattle.catalog_finish.specs.Layouts.{indexes_from, outers_from, containers};
 ghost use Rattle.catalog_finish.specs.Tables.{lists, put_at, more};
 
 use pp_values::Memory;
@@ -42,11 +44,11 @@ impl Layout {
     pub fn inside(&self, alloc: Global, number: u32, row: &Row) -> Result<Indexes, Memory>
         ensures { IfOk result (λ l. l ≡ inside_meant self.now number row.now) }
     {
-        if row.item.item.kind.is("class") {
+        if row.declared.item.kind.is("class") {
             return rising(alloc, &self.indexes, self.outers(number));
         }
-        match row.item.container {
-            Some(container) => alone(alloc, self.index(container)),
+        match row.declared.container {
+            Some(container) => list_of_one(alloc, self.index(container)),
             None => Ok(Indexes::new(alloc)),
         }
     }
@@ -129,7 +131,7 @@ fn index_at(indexes: &[Option<u32>], number: u32) -> Option<u32>
 }
 
 /// The index, where there is one.
-fn alone(alloc: Global, index: Option<u32>) -> Result<Indexes, Memory>
+fn list_of_one(alloc: Global, index: Option<u32>) -> Result<Indexes, Memory>
     ensures { IfOk result (λ l. l ≡ option_to_list index) }
 {
     let mut found = Indexes::new(alloc);

@@ -8,7 +8,11 @@ ghost use Rattle.res_core.specs.AttributeViews.{set_in};
 ghost use Rattle.res_core.specs.NativeTypes.{native_of, row as native_row};
 ghost use Rattle.res_book.specs.Rows.{is_live as live_meant};
 ghost use Rattle.override_rules.specs.Names.{attributes_of};
-ghost use Rattle.catalog_finish.specs.Naming.{called, called_by as called_meant, same_name as same_meant, is_told_apart as apart_meant, or_title, or_undef, provider_of as provider_meant, native_called as native_meant, reference_in, name_told as told_meant, with_name as with_meant, name_step as step_meant, names_of_all as all_meant, names_checked};
+ghost use Rattle.catalog_finish.specs.Naming.{called, called_by as called_meant, same_name as same_meant};
+ghost use Rattle.catalog_finish.specs.Naming.{is_told_apart as apart_meant, or_title, or_undef};
+ghost use Rattle.catalog_finish.specs.Naming.{provider_of as provider_meant, native_called as native_meant};
+ghost use Rattle.catalog_finish.specs.Naming.{reference_in, name_told as told_meant, with_name as with_meant};
+ghost use Rattle.catalog_finish.specs.Naming.{name_step as step_meant, names_of_all as all_meant, names_checked};
 
 use crate::attributes::set_attribute;
 use crate::named::Named;
@@ -55,12 +59,12 @@ fn name_of(
 ) -> Result<Value, Memory>
     requires { slice_get book.now number ≡ Some row.now }
     ensures { IfOk result (λ v. view v
-        ≡ or_title (set_in (attributes_of lines.now row.now) (native_row native).namevar) row.now.item.item.title) }
+        ≡ or_title (set_in (attributes_of lines.now row.now) (native_row native).namevar) row.now.declared.item.title) }
 {
     let name = Text::from_str(alloc, namevar(native))?;
     match set_attribute(alloc, book, lines, number, row, &name)? {
         Some(value) => Ok(value),
-        None => Ok(Value::Text(row.item.item.title.copy(alloc)?)),
+        None => Ok(Value::Text(row.declared.item.title.copy(alloc)?)),
     }
 }
 
@@ -107,10 +111,10 @@ fn called_by(
     native: NativeType,
 ) -> Result<Named, Memory>
     requires { slice_get book.now number ≡ Some row.now }
-    ensures { IfOk result (λ n. called n ≡ called_meant native row.now.item (attributes_of lines.now row.now)) }
+    ensures { IfOk result (λ n. called n ≡ called_meant native row.now.declared (attributes_of lines.now row.now)) }
 {
-    let kind = row.item.item.kind.copy(alloc)?;
-    let title = row.item.item.title.copy(alloc)?;
+    let kind = row.declared.item.kind.copy(alloc)?;
+    let title = row.declared.item.title.copy(alloc)?;
     let name = name_of(alloc, book, lines, number, row, native)?;
     let provider = provider_of(alloc, book, lines, number, row, native)?;
     Ok(Named {
@@ -131,7 +135,7 @@ fn called_apart(
 ) -> Result<Option<Named>, Memory>
     requires { slice_get book.now number ≡ Some row.now }
     ensures { IfOk result (λ o. option_map called o
-        ≡ native_meant (Some native) row.now.item (attributes_of lines.now row.now)) }
+        ≡ native_meant (Some native) row.now.declared (attributes_of lines.now row.now)) }
 {
     if is_told_apart(native) {
         return Ok(Some(called_by(alloc, book, lines, number, row, native)?));
@@ -148,9 +152,9 @@ fn native_called(
 ) -> Result<Option<Named>, Memory>
     requires { slice_get book.now number ≡ Some row.now }
     ensures { IfOk result (λ o. option_map called o
-        ≡ native_meant (native_of row.now.item.item.kind) row.now.item (attributes_of lines.now row.now)) }
+        ≡ native_meant (native_of row.now.declared.item.kind) row.now.declared (attributes_of lines.now row.now)) }
 {
-    match native(row.item.item.kind.as_text()) {
+    match native(row.declared.item.kind.as_text()) {
         Some(found) => called_apart(alloc, book, lines, number, row, found),
         None => Ok(None),
     }
@@ -201,7 +205,7 @@ fn name_step(
         return Ok(names);
     }
     let named = native_called(alloc, book, lines, number, row)?;
-    with_name(alloc, &row.item.at, named, names)
+    with_name(alloc, &row.declared.at, named, names)
 }
 
 fn names_of_all(alloc: Global, book: &Book, lines: &Overrides) -> Result<Names, Stop>

@@ -7,7 +7,10 @@ ghost use Rattle.res_core.specs.Metaparameters.{is_relation_name};
 ghost use Rattle.override_rules.specs.Meaning.{touched_by};
 ghost use Rattle.override_rules.specs.Names.{attributes_of};
 ghost use Rattle.catalog_finish.specs.RelationParameters.{joined_by, name_of, goes_before, does_signal, does_relate};
-ghost use Rattle.catalog_finish.specs.Relating.{operand_of as operand_meant, side_of as side_meant, ends_of as ends_meant, lines_related as lines_meant, set_targets as set_meant, metaparameter_step, row_related as row_meant, row_step, rows_related as rows_meant, related_pairs as pairs_meant};
+ghost use Rattle.catalog_finish.specs.Relating.{operand_of as operand_meant, side_of as side_meant};
+ghost use Rattle.catalog_finish.specs.Relating.{ends_of as ends_meant, lines_related as lines_meant};
+ghost use Rattle.catalog_finish.specs.Relating.{set_targets as set_meant, metaparameter_step, row_related as row_meant};
+ghost use Rattle.catalog_finish.specs.Relating.{row_step, rows_related as rows_meant, related_pairs as pairs_meant};
 ghost use Rattle.catalog_finish.specs.Sources.{sources_of};
 
 use crate::attributes::set_attribute;
@@ -144,7 +147,7 @@ fn set_targets(
     name: &Text,
 ) -> Result<Indexes, Stop>
     requires { slice_get tables.now.book.now subject.now.number ≡ Some subject.now.row.now }
-    ensures { Answers result (set_meant (sources_of tables.now) subject.now.row.now.item.at name.now
+    ensures { Answers result (set_meant (sources_of tables.now) subject.now.row.now.declared.at name.now
         (set_in (attributes_of tables.now.lines.now subject.now.row.now) name.now)) }
 {
     let Subject {
@@ -155,7 +158,7 @@ fn set_targets(
     match set_attribute(alloc, tables.book, tables.lines, number, row, name)? {
         Some(value) => {
             let found = Indexes::new(alloc);
-            targets(alloc, tables, &row.item.at, name, &value, found)
+            targets(alloc, tables, &row.declared.at, name, &value, found)
         }
         None => Ok(Indexes::new(alloc)),
     }
@@ -178,7 +181,8 @@ fn related_by(
     edges: EdgeTable,
 ) -> Result<EdgeTable, Stop>
     requires { slice_get tables.now.book.now subject.now.number ≡ Some subject.now.row.now }
-    ensures { Answers result (metaparameter_step (sources_of tables.now) subject.now.row.now.item.at subject.now.index
+    ensures { Answers result
+        (metaparameter_step (sources_of tables.now) subject.now.row.now.declared.at subject.now.index
         (attributes_of tables.now.lines.now subject.now.row.now) by edges) }
 {
     let name = Text::from_str(alloc, by.name())?;
@@ -196,11 +200,12 @@ fn has_relation(attributes: &[Attribute]) -> bool
 
 /// Whether a declaration may have a metaparameter that relates it to others. Most have none, and are asked for none.
 fn may_relate(lines: &Overrides, row: &Row) -> bool
-    ensures exact { result ≡ (not (touched_by lines.now row.now == 0) || does_relate row.now.item.item.attributes) }
+    ensures exact { result
+        ≡ (not (touched_by lines.now row.now == 0) || does_relate row.now.declared.item.attributes) }
     ensures holds { result ≡ false → does_relate (attributes_of lines.now row.now) ≡ false }
 {
     if lines.is_untouched(row) {
-        return has_relation(row.item.item.attributes.as_slice());
+        return has_relation(row.declared.item.attributes.as_slice());
     }
     true
 }

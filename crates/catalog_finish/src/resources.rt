@@ -2,7 +2,8 @@
 ghost use Rattle.std.specs.Prelude.{◌≡◌, ◌∷◌, [], Some, IfOk, IsTrue, slice_get};
 ghost use Rattle.std.specs.List.{list_all};
 ghost use Rattle.catalog_finish.specs.Attributes.{catalog_attributes as catalog_meant};
-ghost use Rattle.catalog_finish.specs.Catalogs.{held as held_meant, resource_with as with_meant, resources as resources_meant};
+ghost use Rattle.catalog_finish.specs.Catalogs.{held as held_meant, resource_with as with_meant};
+ghost use Rattle.catalog_finish.specs.Catalogs.{resources as resources_meant};
 ghost use Rattle.res_core.specs.Catalogs.{has_form};
 
 use crate::attributes::catalog_attributes;
@@ -40,10 +41,10 @@ fn plain_resource(
     row: &Row,
 ) -> Result<PlainResource, Memory>
     requires { slice_get book.now number ≡ Some row.now }
-    ensures { IfOk result (λ r. r ≡ with_meant row.now.item (catalog_meant lines.now row.now)) }
+    ensures { IfOk result (λ r. r ≡ with_meant row.now.declared (catalog_meant lines.now row.now)) }
 {
     let attributes = catalog_attributes(alloc, book, lines, number, row)?;
-    let resource = resource_with(alloc, &row.item, attributes)?;
+    let resource = resource_with(alloc, &row.declared, attributes)?;
     Ok(PlainResource::new(resource))
 }
 

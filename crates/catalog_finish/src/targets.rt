@@ -8,7 +8,8 @@ ghost use Rattle.pp_values.specs.declared.fault.What.TheVariants.{NoRelationTarg
 ghost use Rattle.res_book.specs.Rows.{number_of};
 ghost use Rattle.catalog_finish.specs.Layouts.{index_at};
 ghost use Rattle.catalog_finish.specs.Sources.{sources_of};
-ghost use Rattle.catalog_finish.specs.Relating.{target as target_meant, targets as targets_meant, each_target as each_meant};
+ghost use Rattle.catalog_finish.specs.Relating.{target as target_meant, targets as targets_meant};
+ghost use Rattle.catalog_finish.specs.Relating.{each_target as each_meant};
 
 use crate::tables::Tables;
 use pp_values::{Fault, Memory, Place, Reference, Stop, Text, Value, What};

@@ -2,7 +2,8 @@
 ghost use Rattle.std.specs.Prelude.{◌≡◌, true};
 ghost use Rattle.std.specs.List.{list_all};
 ghost use Rattle.override_rules.specs.Names.{attributes_of};
-ghost use Rattle.catalog_finish.specs.Titles.{has_attribute, has_no_name, are_nameless, is_by_title as by_title_meant, is_surely_by_title, is_unnamed as unnamed_meant};
+ghost use Rattle.catalog_finish.specs.Titles.{has_attribute, has_no_name, are_nameless, is_by_title as by_title_meant};
+ghost use Rattle.catalog_finish.specs.Titles.{is_surely_by_title, is_unnamed as unnamed_meant};
 
 use crate::naming::is_told_apart;
 use override_rules::Overrides;
@@ -29,7 +30,7 @@ fn is_unnamed(lines: &Overrides, row: &Row, native: NativeType) -> bool
     ensures holds { result ≡ true → has_no_name native (attributes_of lines.now row.now) ≡ true }
 {
     if lines.is_untouched(row) {
-        return has_no_name(native, row.item.item.attributes.as_slice());
+        return has_no_name(native, row.declared.item.attributes.as_slice());
     }
     false
 }
@@ -39,7 +40,7 @@ fn is_by_title(lines: &Overrides, row: &Row) -> bool
     ensures exact { result ≡ is_surely_by_title lines.now row.now }
     ensures holds { result ≡ true → by_title_meant lines.now row.now ≡ true }
 {
-    match native(row.item.item.kind.as_text()) {
+    match native(row.declared.item.kind.as_text()) {
         Some(found) => is_unnamed(lines, row, found),
         None => true,
     }

@@ -1,6 +1,7 @@
 -- Where nothing more concerns a declaration, its attributes are what they were.
-use Rattle.std.proofs.Common.{◌≡◌, ℕ, zero, suc, ◌+◌, ◌≤◌, Bool, true, false, ◌&&◌, cond, if◌then◌else◌, List, [], ◌∷◌, ◌++◌}
-use Rattle.std.proofs.Common.{length, map, filter, Option, None, Some, refl, sym, ap, ◌∙◌, arith, append-nil, length-append}
+use Rattle.std.proofs.Common.{◌≡◌, ℕ, zero, suc, ◌+◌, ◌≤◌, Bool, true, false, ◌&&◌, cond, if◌then◌else◌, List, [], ◌∷◌}
+use Rattle.std.proofs.Common.{◌++◌, length, map, filter, Option, None, Some, refl, sym, ap, ◌∙◌, arith, append-nil}
+use Rattle.std.proofs.Common.{length-append}
 use Rattle.std.proofs.lemmas.List.Elements.{filter-append}
 use Rattle.std.specs.Prelude.{◌==◌}
 use Rattle.std.specs.Str.{bytes_eq}
@@ -124,39 +125,39 @@ names_on_kind (s ∷ ss) ds kind =
 -- ---- what concerns a declaration is as it was
 
 record Unchanged (old new : State) (r : Row) : Type 0 where
-  lines : lines_on (reference_of r.item) new.lines ≡ lines_on (reference_of r.item) old.lines
-  defaults : defaults_for r.item.item.kind new.defaults ≡ defaults_for r.item.item.kind old.defaults
-  way : way_out new.scopes r.item.scope ≡ way_out old.scopes r.item.scope
+  lines : lines_on (reference_of r.declared) new.lines ≡ lines_on (reference_of r.declared) old.lines
+  defaults : defaults_for r.declared.item.kind new.defaults ≡ defaults_for r.declared.item.kind old.defaults
+  way : way_out new.scopes r.declared.scope ≡ way_out old.scopes r.declared.scope
 
 nearest_same : (old new : State) (r : Row) (name : List ℕ) → Unchanged old new r →
-    nearest new.scopes new.defaults r.item.item.kind name r.item.scope
-    ≡ nearest old.scopes old.defaults r.item.item.kind name r.item.scope
+    nearest new.scopes new.defaults r.declared.item.kind name r.declared.scope
+    ≡ nearest old.scopes old.defaults r.declared.item.kind name r.declared.scope
 nearest_same old new r name u =
-    let kind = r.item.item.kind in
-    let there : (s : State) → nearest s.scopes s.defaults kind name r.item.scope
-    ≡ nearest_on (way_out s.scopes r.item.scope) (defaults_for kind s.defaults) kind name =
-    λ s. near_way (length s.scopes) s.scopes s.defaults kind name (Some r.item.scope)
-    ∙ nearest_on_kind (way_out s.scopes r.item.scope) s.defaults kind name in
+    let kind = r.declared.item.kind in
+    let there : (s : State) → nearest s.scopes s.defaults kind name r.declared.scope
+    ≡ nearest_on (way_out s.scopes r.declared.scope) (defaults_for kind s.defaults) kind name =
+    λ s. near_way (length s.scopes) s.scopes s.defaults kind name (Some r.declared.scope)
+    ∙ nearest_on_kind (way_out s.scopes r.declared.scope) s.defaults kind name in
     there new ∙ ap (λ w. nearest_on w (defaults_for kind new.defaults) kind name) u.way
-    ∙ ap (λ ds. nearest_on (way_out old.scopes r.item.scope) ds kind name) u.defaults ∙ sym (there old)
+    ∙ ap (λ ds. nearest_on (way_out old.scopes r.declared.scope) ds kind name) u.defaults ∙ sym (there old)
 
 names_same : (old new : State) (r : Row) → Unchanged old new r →
-    names_within (length new.scopes) new.scopes new.defaults r.item.item.kind (Some r.item.scope)
-    ≡ names_within (length old.scopes) old.scopes old.defaults r.item.item.kind (Some r.item.scope)
+    names_within (length new.scopes) new.scopes new.defaults r.declared.item.kind (Some r.declared.scope)
+    ≡ names_within (length old.scopes) old.scopes old.defaults r.declared.item.kind (Some r.declared.scope)
 names_same old new r u =
-    let kind = r.item.item.kind in
-    let there : (s : State) → names_within (length s.scopes) s.scopes s.defaults kind (Some r.item.scope)
-    ≡ names_on (way_out s.scopes r.item.scope) (defaults_for kind s.defaults) kind =
-    λ s. names_way (length s.scopes) s.scopes s.defaults kind (Some r.item.scope)
-    ∙ names_on_kind (way_out s.scopes r.item.scope) s.defaults kind in
+    let kind = r.declared.item.kind in
+    let there : (s : State) → names_within (length s.scopes) s.scopes s.defaults kind (Some r.declared.scope)
+    ≡ names_on (way_out s.scopes r.declared.scope) (defaults_for kind s.defaults) kind =
+    λ s. names_way (length s.scopes) s.scopes s.defaults kind (Some r.declared.scope)
+    ∙ names_on_kind (way_out s.scopes r.declared.scope) s.defaults kind in
     there new ∙ ap (λ w. names_on w (defaults_for kind new.defaults) kind) u.way
-    ∙ ap (λ ds. names_on (way_out old.scopes r.item.scope) ds kind) u.defaults ∙ sym (there old)
+    ∙ ap (λ ds. names_on (way_out old.scopes r.declared.scope) ds kind) u.defaults ∙ sym (there old)
 
 attribute_same : (old new : State) (r : Row) (name : List ℕ) → Unchanged old new r →
     attribute_of new r name ≡ attribute_of old r name
 attribute_same old new r name u =
-    ap (λ ls. or_else (after_lines name ls (declared r.item name)) (defaulted new r name)) u.lines
-    ∙ ap (λ o. or_else (after_lines name (lines_on (reference_of r.item) old.lines) (declared r.item name))
+    ap (λ ls. or_else (after_lines name ls (declared r.declared name)) (defaulted new r name)) u.lines
+    ∙ ap (λ o. or_else (after_lines name (lines_on (reference_of r.declared) old.lines) (declared r.declared name))
     (if is_imported r.mode then None else set_by o)) (nearest_same old new r name u)
 
 settings_same : (f g : List ℕ → Option Datum) (ts : List (List ℕ)) → ((name : List ℕ) → f name ≡ g name) →
@@ -172,8 +173,8 @@ same_attributes old new r u =
     settings_same (attribute_of new r) (attribute_of old r) (sorted (names_of new r))
     (λ name. attribute_same old new r name u)
     ∙ ap (λ ts. settings_among (attribute_of old r) (sorted ts))
-    (ap (λ ls. setting_names r.item.item.attributes ++ (line_names ls ++ default_names new r)) u.lines
-    ∙ ap (λ ts. setting_names r.item.item.attributes ++ (line_names (lines_on (reference_of r.item) old.lines)
+    (ap (λ ls. setting_names r.declared.item.attributes ++ (line_names ls ++ default_names new r)) u.lines
+    ∙ ap (λ ts. setting_names r.declared.item.attributes ++ (line_names (lines_on (reference_of r.declared) old.lines)
     ++ (if is_imported r.mode then [] else ts))) (names_same old new r u))
 
 -- ---- and so it is where as much concerns it as did
@@ -184,33 +185,34 @@ none_of (x ∷ xs) e = absurd cc
 
 module _ (old new : State) (r : Row) (stay : OverridesStay old new) where
   abbrev more : List Line
-  more = lines_on (reference_of r.item) stay.lines.more
+  more = lines_on (reference_of r.declared) stay.lines.more
 
-  lines_more : lines_on (reference_of r.item) new.lines ≡ lines_on (reference_of r.item) old.lines ++ more
+  lines_more : lines_on (reference_of r.declared) new.lines ≡ lines_on (reference_of r.declared) old.lines ++ more
   lines_more =
-      ap (lines_on (reference_of r.item)) stay.lines.is
-      ∙ filter-append (is_on (reference_of r.item)) old.lines stay.lines.more
+      ap (lines_on (reference_of r.declared)) stay.lines.is
+      ∙ filter-append (is_on (reference_of r.declared)) old.lines stay.lines.more
 
-  counted : length (lines_on (reference_of r.item) new.lines)
-      ≡ length (lines_on (reference_of r.item) old.lines) + length more
-  counted = ap length lines_more ∙ length-append (lines_on (reference_of r.item) old.lines) more
+  counted : length (lines_on (reference_of r.declared) new.lines)
+      ≡ length (lines_on (reference_of r.declared) old.lines) + length more
+  counted = ap length lines_more ∙ length-append (lines_on (reference_of r.declared) old.lines) more
 
   pub row_rises : touched_by old r ≤ touched_by new r
-  row_rises = let fewer = stay.more r.item.item.kind in let count = counted in omega (arith, count, fewer)
+  row_rises = let fewer = stay.more r.declared.item.kind in let count = counted in omega (arith, count, fewer)
 
-  unchanged : AreNested old.scopes → IsOpened old r.item.scope → touched_by new r ≡ touched_by old r → Unchanged old new r
+  unchanged : AreNested old.scopes → IsOpened old r.declared.scope → touched_by new r ≡ touched_by old r →
+      Unchanged old new r
   unchanged nested opened same =
-      let count = counted in let fewer = stay.more r.item.item.kind in
+      let count = counted in let fewer = stay.more r.declared.item.kind in
       let none : length more ≡ 0 = omega (arith, count, fewer, same) in
-      let as_many : length (defaults_for r.item.item.kind new.defaults)
-      ≡ length (defaults_for r.item.item.kind old.defaults) = omega (arith, count, fewer, same) in
+      let as_many : length (defaults_for r.declared.item.kind new.defaults)
+      ≡ length (defaults_for r.declared.item.kind old.defaults) = omega (arith, count, fewer, same) in
       record {
-        lines = lines_more ∙ ap (λ l. lines_on (reference_of r.item) old.lines ++ l) (none_of more none)
-            ∙ append-nil (lines_on (reference_of r.item) old.lines);
-        defaults = stay.as_many r.item.item.kind as_many;
-        way = way_stays old.scopes new.scopes nested stay.parents r.item.scope opened;
+        lines = lines_more ∙ ap (λ l. lines_on (reference_of r.declared) old.lines ++ l) (none_of more none)
+            ∙ append-nil (lines_on (reference_of r.declared) old.lines);
+        defaults = stay.as_many r.declared.item.kind as_many;
+        way = way_stays old.scopes new.scopes nested stay.parents r.declared.scope opened;
       }
 
-  pub attributes_stay : AreNested old.scopes → IsOpened old r.item.scope → touched_by new r ≡ touched_by old r →
+  pub attributes_stay : AreNested old.scopes → IsOpened old r.declared.scope → touched_by new r ≡ touched_by old r →
       attributes_of new r ≡ attributes_of old r
   attributes_stay nested opened same = same_attributes old new r (unchanged nested opened same)

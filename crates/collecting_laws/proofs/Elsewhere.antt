@@ -1,7 +1,7 @@
 -- A look at one declaration concerns no other one.
-use Rattle.std.proofs.Common.{◌≡◌, ℕ, Bool, true, false, not, ◌&&◌, ◌||◌, cond, List, [], ◌∷◌, ◌++◌, map}
-use Rattle.std.proofs.Common.{◌+◌, ◌⊎◌, inl, inr, Option, None, Some, option_map, Result, Ok, Err, refl, sym, ap, subst, ◌∙◌, true≢false}
-use Rattle.std.proofs.Common.{append-nil}
+use Rattle.std.proofs.Common.{◌≡◌, ℕ, Bool, true, false, not, ◌&&◌, ◌||◌, cond, List, [], ◌∷◌, ◌++◌, map, ◌+◌, ◌⊎◌, inl}
+use Rattle.std.proofs.Common.{inr, Option, None, Some, option_map, Result, Ok, Err, refl, sym, ap, subst, ◌∙◌}
+use Rattle.std.proofs.Common.{true≢false, append-nil}
 use Rattle.std.proofs.lemmas.List.Elements.{filter-append}
 use Rattle.std.proofs.lemmas.Slice.Eq.{bytes_eq-Decides}
 use Rattle.std.specs.Prelude.{length, slice_get}
@@ -49,21 +49,21 @@ number_in d (Some n) = n
 
 module _ (book : List Row) (apart : AreApart book) (m n : ℕ) (x r : Row) (at_m : slice_get book m ≡ Some x)
     (at_n : slice_get book n ≡ Some r) (other : ¬ (m ≡ n)) where
-  one_number : reference_of x.item ≡ reference_of r.item → m ≡ n
+  one_number : reference_of x.declared ≡ reference_of r.declared → m ≡ n
   unfolding number_in
   one_number same =
       ap (number_in m)
-      (sym (apart.found m x.item (ap (option_map (λ (y : Row). y.item)) at_m))
+      (sym (apart.found m x.declared (ap (option_map (λ (y : Row). y.declared)) at_m))
       ∙ ap (λ q. number_of q book) same
-      ∙ apart.found n r.item (ap (option_map (λ (y : Row). y.item)) at_n))
+      ∙ apart.found n r.declared (ap (option_map (λ (y : Row). y.declared)) at_n))
 
-  apart_by : (b : Bool) → same_reference (reference_of x.item) (reference_of r.item) ≡ b →
-      same_reference (reference_of x.item) (reference_of r.item) ≡ false
-  apart_by true is = absurd (other (one_number (exact (reference_of x.item) (reference_of r.item) is)))
+  apart_by : (b : Bool) → same_reference (reference_of x.declared) (reference_of r.declared) ≡ b →
+      same_reference (reference_of x.declared) (reference_of r.declared) ≡ false
+  apart_by true is = absurd (other (one_number (exact (reference_of x.declared) (reference_of r.declared) is)))
   apart_by false is = is
 
-  references_differ : same_reference (reference_of x.item) (reference_of r.item) ≡ false
-  references_differ = apart_by (same_reference (reference_of x.item) (reference_of r.item)) refl
+  references_differ : same_reference (reference_of x.declared) (reference_of r.declared) ≡ false
+  references_differ = apart_by (same_reference (reference_of x.declared) (reference_of r.declared)) refl
 
 -- ---- lines on another reference
 
@@ -96,7 +96,8 @@ module _ (q target : Reference) (other : same_reference q target ≡ false) wher
       and_then {A = Unit {0} × State} (and_then o (λ u. Ok (tt, with_line s (line_on target l))))
       (λ p. lines_added book (map (line_on target) ls) p.1) ≡ Ok (tt, t) → Elsewhere s t
   tested_elsewhere book ls l s t (Ok u) more is =
-      further_elsewhere s (with_line s (line_on target l)) t (one_elsewhere l s) (more (with_line s (line_on target l)) is)
+      further_elsewhere s (with_line s (line_on target l)) t (one_elsewhere l s)
+      (more (with_line s (line_on target l)) is)
   tested_elsewhere book ls l s t (Err f) more is = absurd cc
 
   all_elsewhere : (book : List Row) (ls : List Line) (s t : State) →
@@ -136,16 +137,17 @@ block_left w v c n a true is e =
 module _ (c n m : ℕ) (w : World) (apart : AreApart w.book) (other : ¬ (m ≡ n)) where
   -- nothing is said of what is not there
   said_elsewhere : (x : Row) → slice_get w.book m ≡ Some x → (o : Option Row) → slice_get w.book n ≡ o →
-      (k : Option Collector) (book : List Row) (s t : State) → lines_added book (said_by k (option_map marked o)) s ≡ Ok (tt, t) →
+      (k : Option Collector) (book : List Row) (s t : State) →
+      lines_added book (said_by k (option_map marked o)) s ≡ Ok (tt, t) →
       touched_by t x ≡ touched_by s x
   unfolding lines_added
   said_elsewhere x at o is None book s t e = ap (λ y. touched_by y x) (sym (state_of s t e))
   said_elsewhere x at None is (Some k) book s t e = ap (λ y. touched_by y x) (sym (state_of s t e))
   said_elsewhere x at (Some r) is (Some k) book s t e =
       let apart_now = references_differ w.book apart m n x r at is other in
-      let same = all_elsewhere (reference_of x.item) (reference_of r.item) apart_now book k.lines s t e in
-      ap (λ ls. length ls + length (defaults_for x.item.item.kind t.defaults)) same.lines
-      ∙ ap (λ ds. length (lines_on (reference_of x.item) s.lines) + length (defaults_for x.item.item.kind ds))
+      let same = all_elsewhere (reference_of x.declared) (reference_of r.declared) apart_now book k.lines s t e in
+      ap (λ ls. length ls + length (defaults_for x.declared.item.kind t.defaults)) same.lines
+      ∙ ap (λ ds. length (lines_on (reference_of x.declared) s.lines) + length (defaults_for x.declared.item.kind ds))
       same.defaults
 
   -- after the mark

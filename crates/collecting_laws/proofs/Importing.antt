@@ -11,8 +11,8 @@ use Rattle.pp_values.specs.declared.fault.Fault.{Fault}
 use Rattle.pp_values.specs.declared.reference.Reference.{Reference}
 use Rattle.res_book.proofs.Growth.{declared-appends, row-last}
 use Rattle.res_book.specs.Rows as rows
-use Rattle.res_book.specs.Rows.{declared, declared_as, declared_once, is_class_virtual, is_named, limit, mode_at, new_row}
-use Rattle.res_book.specs.Rows.{number_of, too_many, class_virtual}
+use Rattle.res_book.specs.Rows.{declared, declared_as, declared_once, is_class_virtual, is_named}
+use Rattle.res_book.specs.Rows.{new_row, number_of, class_virtual}
 use Rattle.res_book.specs.declared.mode.Mode.{Mode}
 use Rattle.res_book.specs.declared.mode.Mode.TheVariants as mode
 use Rattle.res_book.specs.declared.row.Row.{Row}
@@ -20,8 +20,8 @@ use Rattle.res_core.specs.declared.declared.Declared.{Declared}
 use Rattle.res_core.specs.declared.exported.Exported.{Exported}
 use Rattle.eval_collecting.specs.Blocks.{block_applied, is_due}
 use Rattle.eval_collecting.specs.Importing.{declare_rule, import_at, import_for, import_match, import_of, import_once}
-use Rattle.eval_collecting.specs.Importing.{import_rule, is_import_of, item_of, owner_by, owner_for, same_import, tested}
-use Rattle.eval_collecting.specs.Importing.{where_true}
+use Rattle.eval_collecting.specs.Importing.{import_rule, is_import_of, item_of, owner_by, owner_for, same_import}
+use Rattle.eval_collecting.specs.Importing.{tested, where_true}
 use Rattle.eval_collecting.specs.Matching.{reference_of}
 use Rattle.eval_resources.specs.declared.known_kind.KnownKind.{KnownKind}
 use Rattle.eval_world.specs.Outcomes.{Outcome, answered, go_on, pure}
@@ -137,7 +137,8 @@ module _ (c owner : ℕ) (node : List ℕ) (place : ℕ) (e : Exported) where
       let item = item_of (owner_at owner w.owners) w.book k e in
       let number = declared_number item (mode.Imported node place) w.book p.1 p.0 is in
       let row = declared_row item (mode.Imported node place) w.book p.1 p.0 is in
-      subst (λ x. IsImport x node place e n) (after put) (subst (IsImport (record w { book = p.1 }) node place e) (told put)
+      subst (λ x. IsImport x node place e n) (after put)
+      (subst (IsImport (record w { book = p.1 }) node place e) (told put)
       (record {
         number = number;
         row = ap (is_import_of node place) row ∙ same_place node place;
@@ -147,7 +148,8 @@ module _ (c owner : ℕ) (node : List ℕ) (place : ℕ) (e : Exported) where
       IsImport v node place e n
   unfolding declare_rule
   declare_import w v k n put =
-      put_import w v k n (declared (item_of (owner_at owner w.owners) w.book k e) (mode.Imported node place) w.book) refl put
+      put_import w v k n (declared (item_of (owner_at owner w.owners) w.book k e) (mode.Imported node place) w.book)
+      refl put
 
   stood_by : (w v : World) (n m : ℕ) (r : Result (Unit {0}) Fault) →
       go_on (answered r w) (λ u. pure m) ≡ Ok (n, v) → (m ≡ n) × (w ≡ v)
@@ -194,7 +196,8 @@ module _ (c owner : ℕ) (node : List ℕ) (place : ℕ) (e : Exported) where
   import_then w v a (Err f) is all = absurd (not_refused all)
   import_then w v a (Ok p) is all =
       let left = block_then p.1 v p.0 a (block_applied c p.0 p.1) refl all in
-      found_quiet v c node place e p.0 (owner_for v c e) refl (same_book p.1 v p.0 left.0 (imported w p.1 p.0 is)) left.1
+      found_quiet v c node place e p.0 (owner_for v c e) refl (same_book p.1 v p.0 left.0 (imported w p.1 p.0 is))
+      left.1
 
   once_again : (w v : World) (a : Bool) (n : Option ℕ) → import_of node place e.item w.book ≡ n →
       import_once n c owner node place e w ≡ Ok (a, v) → ImportIsQuiet v c node place e
@@ -268,7 +271,8 @@ module _ (c : ℕ) (node : List ℕ) (place : ℕ) (e : Exported) (w v : World) 
 pub import_later : (c : ℕ) (node : List ℕ) (place : ℕ) (e : Exported) (w v : World) → Extends w v →
     c < length w.relations.collectors → ImportIsQuiet w c node place e → ImportIsQuiet v c node place e
 unfolding import_match
-import_later c node place e w v extends there quiet = later_by c node place e w v extends there (owner_for w c e) refl quiet
+import_later c node place e w v extends there quiet =
+    later_by c node place e w v extends there (owner_for w c e) refl quiet
 
 -- ---- what adds nothing changes nothing
 

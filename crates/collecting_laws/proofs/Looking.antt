@@ -1,7 +1,7 @@
 -- A look at a declaration: when it finds nothing, and that it goes on to find nothing.
-use Rattle.std.proofs.Common.{◌≡◌, ℕ, zero, suc, ◌<◌, ◌≤◌, Bool, true, false, not, ◌&&◌, ◌||◌, List, [], ◌∷◌, ◌++◌, length}
-use Rattle.std.proofs.Common.{Option, None, Some, option_map, Result, Ok, Err, refl, sym, ap, subst, ◌∙◌, true≢false}
-use Rattle.std.proofs.Common.{◌+◌, eqb, eq-eqb, length-append, arith}
+use Rattle.std.proofs.Common.{◌≡◌, ℕ, zero, suc, ◌<◌, ◌≤◌, Bool, true, false, not, ◌&&◌, ◌||◌, List, [], ◌∷◌, ◌++◌}
+use Rattle.std.proofs.Common.{length, Option, None, Some, option_map, Result, Ok, Err, refl, sym, ap, subst, ◌∙◌}
+use Rattle.std.proofs.Common.{true≢false, ◌+◌, eqb, eq-eqb, length-append, arith}
 use Rattle.std.specs.Prelude.{slice_get}
 use Rattle.override_rules.specs.Meaning.{State, touched_by}
 use Rattle.override_rules.specs.Names.{attributes_of}
@@ -55,7 +55,8 @@ unwrap d None = d
 unwrap d (Some r) = r
 
 -- what has its mark
-mark_marked : (n : ℕ) (rows : List Row) (r : Row) → slice_get rows n ≡ Some r → r.marked ≡ true → with_mark n rows ≡ rows
+mark_marked : (n : ℕ) (rows : List Row) (r : Row) → slice_get rows n ≡ Some r → r.marked ≡ true →
+    with_mark n rows ≡ rows
 unfolding unwrap
 mark_marked n [] r at is = refl
 mark_marked zero (x ∷ rs) r at is =
@@ -76,7 +77,8 @@ or_true : (b : Bool) → (b || true) ≡ true
 or_true true = refl
 or_true false = refl
 
-live_marked : (rows : List Row) (n : ℕ) (r : Row) → slice_get rows n ≡ Some r → r.marked ≡ true → is_live_at rows n ≡ true
+live_marked : (rows : List Row) (n : ℕ) (r : Row) → slice_get rows n ≡ Some r → r.marked ≡ true →
+    is_live_at rows n ≡ true
 live_marked rows n r at is =
     ap (passes is_live) at ∙ ap (λ b. not (is_virtual r.mode) || b) is ∙ or_true (not (is_virtual r.mode))
 
@@ -235,7 +237,7 @@ mapped part (Some r) a e = (r, refl, ap (value_or a) e) where
   value_or d (Some x) = x
 
 record Stays (old new : Row) : Type 0 where
-  item : new.item ≡ old.item
+  item : new.declared ≡ old.declared
   mode : new.mode ≡ old.mode
   is_marked : old.marked ≡ true → new.marked ≡ true
 
@@ -247,8 +249,8 @@ module _ (w v : World) (extends : Extends w v) (n : ℕ) (r : Row) (at : slice_g
   row_on : (s : Row) × (slice_get v.book n ≡ Some s) × Stays r s
   unfolding mapped value
   row_on =
-      let items = mapped (λ x. x.item) (slice_get v.book n) r.item
-      (extends.declarations.item n r.item (ap (option_map (λ (x : Row). x.item)) at)) in
+      let items = mapped (λ x. x.declared) (slice_get v.book n) r.declared
+      (extends.declarations.item n r.declared (ap (option_map (λ (x : Row). x.declared)) at)) in
       let modes : option_map (λ (x : Row). x.mode) (Some items.0) ≡ Some r.mode =
       ap (option_map (λ (x : Row). x.mode)) (sym items.1)
       ∙ extends.declarations.mode n r.mode (ap (option_map (λ (x : Row). x.mode)) at) in (
@@ -266,9 +268,9 @@ module _ (w v : World) (extends : Extends w v) (n : ℕ) (r : Row) (at : slice_g
 
 -- its mark and its parameters don't matter
 takes_of : State → Collector → Declared → Mode → Bool
-takes_of s c item mode = takes s c (record { item = item; mode = mode; marked = false; bound = None })
+takes_of s c item mode = takes s c (record { declared = item; mode = mode; marked = false; bound = None })
 
-takes_plain : (s : State) (c : Collector) (r : Row) → takes s c r ≡ takes_of s c r.item r.mode
+takes_plain : (s : State) (c : Collector) (r : Row) → takes s c r ≡ takes_of s c r.declared r.mode
 unfolding takes_of takes attributes_of
 takes_plain s c r = refl
 
@@ -278,9 +280,9 @@ unfolding takes
 takes_same old new c r s stays same =
     takes_plain new c s
     ∙ ap (λ i. takes_of new c i s.mode) stays.item
-    ∙ ap (λ m. takes_of new c r.item m) stays.mode
+    ∙ ap (λ m. takes_of new c r.declared m) stays.mode
     ∙ sym (takes_plain new c r)
-    ∙ ap (λ set. may_take c r && asks c.realized c.query r.item.item set) same
+    ∙ ap (λ set. may_take c r && asks c.realized c.query r.declared.item set) same
 
 taken_same : (old new : State) (c : Option Collector) (r s : Row) → Stays r s →
     attributes_of new r ≡ attributes_of old r → taken_by new c (Some s) ≡ taken_by old c (Some r)
@@ -324,7 +326,7 @@ module _ (w v : World) (extends : Extends w v) (n : ℕ) (below : n < length w.b
   now_touched : touched_at v n ≡ touched_by v.overrides old_row.0
   now_touched =
       ap (touched_row v.overrides) new_row.1
-      ∙ ap (λ (i : Declared). touched_by v.overrides (record (old_row.0) { item = i })) new_row.2.item
+      ∙ ap (λ (i : Declared). touched_by v.overrides (record (old_row.0) { declared = i })) new_row.2.item
 
   then_touched : touched_at w n ≡ touched_by w.overrides old_row.0
   then_touched = ap (touched_row w.overrides) old_row.1
@@ -338,7 +340,7 @@ module _ (w v : World) (extends : Extends w v) (n : ℕ) (below : n < length w.b
     same_attributes : attributes_of v.overrides old_row.0 ≡ attributes_of w.overrides old_row.0
     same_attributes =
         attributes_stay w.overrides v.overrides old_row.0 extends.overrides placed.nested
-        (placed.items n old_row.0.item (ap (option_map (λ (x : Row). x.item)) old_row.1))
+        (placed.items n old_row.0.declared (ap (option_map (λ (x : Row). x.declared)) old_row.1))
         (sym now_touched ∙ same ∙ then_touched)
 
     module _ (c : ℕ) (there : c < length w.relations.collectors) where

@@ -54,7 +54,8 @@ known_now c n w v a e there below =
     }
 
 pub good_noted : (notes : Notes) (c n : ℕ) (w v : World) (a : Bool) → local_match c n w ≡ Ok (a, v) →
-    c < length w.relations.collectors → n < length w.book → AreGood notes w → AreGood (noted c n (touched_at w n) notes) v
+    c < length w.relations.collectors → n < length w.book → AreGood notes w →
+    AreGood (noted c n (touched_at w n) notes) v
 good_noted notes c n w v a e there below good =
     let extends = look_extends c n w v a e in
     record {

@@ -9,9 +9,9 @@ ghost use Rattle.eval_world.specs.declared.world.World.{World};
 ghost use Rattle.world_laws.specs.Extends.{Extends, IsPlaced};
 ghost use Rattle.collecting_laws.specs.Looks.{IsQuiet, ImportIsQuiet, touched_at};
 
-/// Right after a look at a declaration a second one adds nothing, has no fault and leaves the world as it was; and so does
-/// each later one, whatever was looked at and evaluated since, while no more lines and defaults concern the declaration
-/// than did then. How many do never falls.
+/// Right after a look at a declaration a second one adds nothing, has no fault and leaves the world as it was; and so
+/// does each later one, whatever was looked at and evaluated since, while no more lines and defaults concern the
+/// declaration than did then. How many do never falls.
 pub fn a_second_look_finds_nothing()
     ensures again { (c n : ℕ) (w v : World) (added : Bool) → local_match c n w ≡ Ok (added, v) → IsQuiet v c n }
     ensures later { (c n : ℕ) (w v : World) → IsPlaced w → Extends w v → c < length w.relations.collectors
@@ -28,7 +28,8 @@ pub fn a_look_concerns_no_other()
         → local_match c n w ≡ Ok (added, v) → touched_at v m ≡ touched_at w m }
 {}
 
-/// What was said of a second look, of what a node exports, at which a collector looks once: no line and no default makes it look again.
+/// What was said of a second look, of what a node exports, at which a collector looks once: no line and no default
+/// makes it look again.
 pub fn a_second_import_finds_nothing()
     ensures again { (c : ℕ) (node : List ℕ) (place : ℕ) (e : Exported) (w v : World) (added : Bool)
         → import_match c node place e w ≡ Ok (added, v) → ImportIsQuiet v c node place e }

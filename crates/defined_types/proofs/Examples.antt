@@ -1,5 +1,6 @@
 -- What the definitions give on worked examples.
-use Rattle.std.proofs.Common.{◌≡◌, ℕ, Bool, true, false, List, [], ◌∷◌, filter, None, Some, Result, Ok, Err, refl, codes}
+use Rattle.std.proofs.Common.{◌≡◌, ℕ, Bool, true, false, List, [], ◌∷◌, filter, None, Some, Result, Ok, Err, refl}
+use Rattle.std.proofs.Common.{codes}
 use Rattle.std.specs.FinMap as fin
 use Rattle.pp_values.specs.Datum as d
 use Rattle.pp_values.specs.Faults as faults
@@ -19,7 +20,8 @@ use Rattle.res_core.specs.NativeTypes as natives
 use Rattle.res_core.specs.NativeTypes.{native_of}
 use Rattle.res_core.specs.declared.resource.Resource.{Resource}
 use Rattle.eval_collecting.specs.Blocks.{block_applied}
-use Rattle.eval_collecting.specs.Importing.{finds, tested, declare_rule, import_rule, import_once, import_match, imports}
+use Rattle.eval_collecting.specs.Importing.{finds, tested, declare_rule, import_rule, import_once, import_match}
+use Rattle.eval_collecting.specs.Importing.{imports}
 use Rattle.eval_collecting.specs.Matching.{takes, take, local_match}
 use Rattle.eval_resources.specs.Checks.{kind_checked, settings_known}
 use Rattle.eval_world.specs.Environment.{Environment}
@@ -27,7 +29,8 @@ use Rattle.eval_world.specs.Outcomes.{Outcome}
 use Rattle.eval_world.specs.Owners.{owner_at}
 use Rattle.eval_world.specs.Worlds.{empty}
 use Rattle.eval_world.specs.declared.world.World.{World}
-use Rattle.defined_types.specs.Rounds.{take_from, take_imports, collector_turn, turns_from, round, run_instances, rounds_left}
+use Rattle.defined_types.specs.Rounds.{take_from, take_imports, collector_turn, turns_from, round, run_instances}
+use Rattle.defined_types.specs.Rounds.{rounds_left}
 
 abbrev place : ℕ → Place
 place line = record { file = codes "manifests/site.pp"; line = line }
@@ -72,7 +75,7 @@ nothing = fin.empty
 -- the titles of the declarations, each with whether it is marked
 abbrev marks : List Row → List (List ℕ × Bool)
 marks [] = []
-marks (r ∷ rs) = (r.item.item.title, r.marked) ∷ marks rs
+marks (r ∷ rs) = (r.declared.item.title, r.marked) ∷ marks rs
 
 abbrev shown : {A : Type 0} → Outcome A → Result (A × List (List ℕ × Bool)) Fault
 shown (Ok p) = Ok (p.0, marks p.1.book)
@@ -97,13 +100,15 @@ imports_in_order : (m : Environment)
     → shown (take_imports 0 false (from_other 0 (codes "y") ∷ from_other 1 (codes "x") ∷ from_other 0 (codes "y") ∷ [])
     (with_two (collector true all ∷ []) m))
     ≡ Ok (true, (codes "a", false) ∷ (codes "b", false) ∷ (codes "y", false) ∷ (codes "x", false) ∷ [])
-unfolding take_imports import_match finds import_once import_rule block_applied tested kind_checked native_of natives.attributes_of settings_known known_checked declare_rule owner_at line_tests
+unfolding take_imports import_match finds import_once import_rule block_applied tested kind_checked native_of
+    natives.attributes_of settings_known known_checked declare_rule owner_at line_tests
 imports_in_order m = refl
 
 import_twice : (m : Environment)
     → shown (take_imports 0 false (from_other 0 (codes "a") ∷ []) (with_two (collector true all ∷ []) m))
     ≡ Err (faults.fault (place 5) (what.Duplicate (record { kind = codes "notify"; title = codes "a" }) (place 1)))
-unfolding take_imports import_match finds import_once import_rule block_applied tested kind_checked native_of natives.attributes_of settings_known known_checked declare_rule owner_at line_tests
+unfolding take_imports import_match finds import_once import_rule block_applied tested kind_checked native_of
+    natives.attributes_of settings_known known_checked declare_rule owner_at line_tests
 import_twice m = refl
 
 -- what a node published before is not given to it
@@ -127,17 +132,20 @@ exported_collector m = refl
 two_rounds : (m : Environment)
     → shown (rounds_left 2 (codes "n") nothing (with_two (asks_for (codes "u") ∷ asks_for (codes "t") ∷ []) m))
     ≡ Ok (tt, both true true)
-unfolding rounds_left round run_instances turns_from collector_turn take_from local_match take block_applied takes native_of
+unfolding rounds_left round run_instances turns_from collector_turn take_from local_match take block_applied takes
+    native_of
 two_rounds m = refl
 
 -- F27 where the last round still adds something
 one_round_alone : (m : Environment)
     → shown (rounds_left 1 (codes "n") nothing (with_two (asks_for (codes "u") ∷ []) m))
     ≡ Err (faults.fault (place 1) what.RoundLimit)
-unfolding rounds_left round run_instances turns_from collector_turn take_from local_match take block_applied takes owner_at native_of
+unfolding rounds_left round run_instances turns_from collector_turn take_from local_match take block_applied takes
+    owner_at native_of
 one_round_alone m = refl
 
 nothing_to_take : (m : Environment)
     → shown (rounds_left 1 (codes "n") nothing (with_two (asks_for (codes "v") ∷ []) m)) ≡ Ok (tt, both false false)
-unfolding rounds_left round run_instances turns_from collector_turn take_from local_match take block_applied takes native_of
+unfolding rounds_left round run_instances turns_from collector_turn take_from local_match take block_applied takes
+    native_of
 nothing_to_take m = refl

@@ -1,50 +1,37 @@
 -- What a collector looks at, where needless looks are passed over, is what it looks at.
-use Rattle.std.proofs.Common.{◌≡◌, ℕ, zero, suc, ◌+◌, ◌<◌, ◌≤◌, Bool, true, false, ◌||◌, ◌&&◌, List, [], ◌∷◌, length}
-use Rattle.std.proofs.Common.{Option, None, Some, is_some, Result, Ok, Err, refl, sym, ap, subst, ◌∙◌, true≢false, arith}
-use Rattle.std.proofs.Common.{◌-◌, length-append, ltb-false, ltb-true}
+use Rattle.std.proofs.Common.{◌≡◌, ℕ, zero, suc, ◌+◌, ◌<◌, ◌≤◌, Bool, true, false, ◌||◌, List, [], ◌∷◌, length}
+use Rattle.std.proofs.Common.{Option, None, Some, Ok, Err, refl, sym, ap, subst, ◌∙◌, arith}
+use Rattle.std.proofs.Common.{◌-◌, ltb-false, ltb-true}
 use Rattle.std.proofs.lemmas.Option.{slice_get_within}
-use Rattle.std.specs.Prelude.{OnOk, nat_le, nat_lt, slice_get, slice_set}
-use Rattle.override_rules.specs.Meaning.{touched_by}
-use Rattle.res_book.specs.declared.row.Row.{Row}
-use Rattle.export_store.specs.ExportQueries.{Placed}
-use Rattle.export_store.specs.Sets.{Sets}
-use Rattle.pp_values.specs.Answers.{IsRefused, fault_told}
-use Rattle.pp_values.specs.declared.fault.Fault.{Fault}
-use Rattle.pp_values.specs.declared.fault.Stop.{Stop}
+use Rattle.std.specs.Prelude.{nat_lt, slice_get}
 use Rattle.pp_values.specs.declared.reference.Reference.{Reference}
 use Rattle.res_book.proofs.Rows.{number_of-below}
-use Rattle.res_book.specs.Rows.{AreApart, item_at, number_of}
+use Rattle.res_book.specs.Rows.{item_at, number_of}
 use Rattle.class_eval.specs.Evaluators.{one_more}
 use Rattle.eval_collecting.proofs.Passing.{named_by, passes_others}
-use Rattle.eval_collecting.specs.Importing.{import_match, imports}
 use Rattle.eval_collecting.specs.Matching.{local_match, realized, realized_by}
-use Rattle.eval_world.specs.Outcomes.{Gives, Outcome, Step, go_on, nothing, pure}
+use Rattle.eval_world.specs.Outcomes.{Outcome, Step, go_on}
 use Rattle.eval_world.specs.declared.world.World.{World}
 use Rattle.world_laws.proofs.Worlds.{extends_on, same_world}
-use Rattle.world_laws.specs.Extends.{Extends, IsPlaced}
-use Rattle.world_laws.specs.Growing.{Grows, Reaches}
-use Rattle.collecting_laws.proofs.Importing.{import_nothing}
-use Rattle.collecting_laws.proofs.Looking.{after, collectors_rise, look_extends, look_length, not_refused, same_collector}
+use Rattle.world_laws.specs.Extends.{Extends}
+use Rattle.world_laws.specs.Growing.{Reaches}
+use Rattle.collecting_laws.proofs.Looking.{collectors_rise, look_extends, look_length, same_collector}
 use Rattle.collecting_laws.proofs.Looking.{told, touched_rises}
-use Rattle.collecting_laws.specs.Looks.{touched_at, touched_row}
+use Rattle.collecting_laws.specs.Looks.{touched_at}
 use Rattle.collecting_laws.specs.Notes.{IsKnown}
-use Rattle.defined_types.specs.Bound.{most_looks, most_looks_of_one}
 use Rattle.defined_types.specs.Named.{take_named}
-use Rattle.defined_types.specs.Rounds.{again, all_turns, collector_turn, import_all, import_kind, limit, others as exports}
-use Rattle.defined_types.specs.Rounds.{pending, round, rounds, rounds_left, run_instances, take_from, take_imports}
-use Rattle.defined_types.specs.Rounds.{take_locals, turns_from}
-use Rattle.defined_types.specs.Watched.{Looked, Tells, Watched, Watching, again_watched, all_watched, counted, counted_if}
-use Rattle.defined_types.specs.Watched.{further, imported_by, instances_watched, is_noted, lifted, lifted_by, locals_by, no_turns, noted_by, opened}
-use Rattle.defined_types.specs.Watched.{look, look_all, look_from, look_locals, look_named, look_unless, looked_by, looks_of_turn, risen, same_by, told_from, turned, turned_by}
-use Rattle.defined_types.specs.Watched.{watched_left, watched_round, watched_turn, watched_turns, with_imports}
+use Rattle.defined_types.specs.Rounds.{take_from}
+use Rattle.defined_types.specs.Rounds.{take_locals}
+use Rattle.defined_types.specs.Watched.{Looked, Watched, Watching, counted, further, is_noted, lifted_by, locals_by}
+use Rattle.defined_types.specs.Watched.{noted_by, look, look_from, look_locals, look_named, look_unless, looked_by}
+use Rattle.defined_types.specs.Watched.{risen, same_by}
 use Rattle.defined_types.specs.declared.watchlist.Told.{Told}
 use Rattle.defined_types.proofs.Named.{only_named, others}
-use Rattle.defined_types.proofs.OfRounds.{import_all_grows, instances_grow}
-use Rattle.defined_types.proofs.Few.{begin_costs, cost_along, count_costs, end_costs, flag_le, look_costs, plain, turns_at}
-use Rattle.defined_types.proofs.Sums.{cell, cost, upto, upto_sum}
-use Rattle.defined_types.proofs.Tables.{counted_length, told_cases, told_length}
-use Rattle.defined_types.proofs.Turning.{IsFresh, IsGood, Turning, counted_fresh, counted_good, looked_at, noted_quiet}
-use Rattle.defined_types.proofs.Turning.{no_note, passed_over, turn_begins, turn_ends, world_on}
+use Rattle.defined_types.proofs.Few.{cost_along, count_costs, look_costs, plain, turns_at}
+use Rattle.defined_types.proofs.Sums.{cost}
+use Rattle.defined_types.proofs.Tables.{told_cases, told_length}
+use Rattle.defined_types.proofs.Turning.{IsFresh, IsGood, Turning, looked_at, noted_quiet}
+use Rattle.defined_types.proofs.Turning.{passed_over}
 
 -- ---- steps that do what other steps do
 

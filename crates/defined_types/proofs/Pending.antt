@@ -1,5 +1,6 @@
 -- The pending instances, from one to the next.
-use Rattle.std.proofs.Common.{◌≡◌, ℕ, zero, suc, ◌+◌, ◌-◌, ◌<◌, ◌≤◌, Bool, true, false, cond, List, [], ◌∷◌, ◌++◌, length, filter, Option, None, Some, refl, sym, ap, ◌∙◌, arith, append_assoc}
+use Rattle.std.proofs.Common.{◌≡◌, ℕ, zero, suc, ◌+◌, ◌-◌, ◌<◌, ◌≤◌, Bool, true, false, cond, List, [], ◌∷◌, ◌++◌}
+use Rattle.std.proofs.Common.{length, filter, Option, None, Some, refl, sym, ap, ◌∙◌, arith, append_assoc}
 use Rattle.std.proofs.lemmas.List.{append-nil}
 use Rattle.std.specs.Prelude.{find}
 use Rattle.std.specs.List.{range_with_len}
@@ -28,7 +29,9 @@ later p from len n true here further found =
     record {
       not_before = omega (arith, at);
       within = omega (arith, at);
-      rest = ap (λ c. cond c (from ∷ filter p (range_with_len (from + 1) len)) (filter p (range_with_len (from + 1) len))) here
+      rest = ap
+          (λ c. cond c (from ∷ filter p (range_with_len (from + 1) len)) (filter p (range_with_len (from + 1) len)))
+          here
           ∙ ap (λ k. from ∷ filter p (range_with_len (from + 1) k)) left
           ∙ ap (λ m. m ∷ filter p (range_with_len (m + 1) (from + suc len - (n + 1)))) at;
     }
@@ -38,7 +41,9 @@ later p from len n false here further found =
     record {
       not_before = omega (arith, first.not_before);
       within = omega (arith, first.within);
-      rest = ap (λ c. cond c (from ∷ filter p (range_with_len (from + 1) len)) (filter p (range_with_len (from + 1) len))) here
+      rest = ap
+          (λ c. cond c (from ∷ filter p (range_with_len (from + 1) len)) (filter p (range_with_len (from + 1) len)))
+          here
           ∙ first.rest
           ∙ ap (λ k. n ∷ filter p (range_with_len (n + 1) k)) left;
     }
@@ -67,7 +72,8 @@ one_from rows from n found =
     first.rest ∙ ap (λ k. n ∷ filter (is_pending_at rows) (range_with_len (n + 1) k)) left
 
 pub one_more : (rows : List Row) (found new : List ℕ) (after : Option ℕ) (n : ℕ) →
-    pending rows ≡ found ++ behind rows (next_number after) → pending_after rows after ≡ Some n → new ≡ found ++ n ∷ [] →
+    pending rows ≡ found ++ behind rows (next_number after) → pending_after rows after ≡ Some n →
+    new ≡ found ++ n ∷ [] →
     pending rows ≡ new ++ behind rows (n + 1)
 one_more rows found new after n so_far next added =
     so_far ∙ ap (λ l. found ++ l) (one_from rows (next_number after) n next)

@@ -1,5 +1,7 @@
 -- What stands at the places that a query finds.
-use Rattle.std.proofs.Common.{◌≡◌, ℕ, ◌+◌, ◌<◌, Bool, true, false, ◌&&◌, T, cond, List, [], ◌∷◌, ◌++◌, length, filter, Option, None, Some, option_map, option_and_then, refl, sym, ap, subst, ◌∙◌, append_assoc, length-append}
+use Rattle.std.proofs.Common.{◌≡◌, ℕ, ◌+◌, Bool, true, false, ◌&&◌, T, cond, List, [], ◌∷◌, ◌++◌, length, filter}
+use Rattle.std.proofs.Common.{Option, Some, option_map, option_and_then, refl, sym, ap, subst, ◌∙◌, append_assoc}
+use Rattle.std.proofs.Common.{length-append}
 use Rattle.std.specs.FinMap.{entries, find, get, get-entries, is_sorted, entries_sorted}
 use Rattle.std.specs.FinMap.Entries.{below_all}
 use Rattle.std.specs.declared.cmp.Ordering.{Ordering}
@@ -11,7 +13,6 @@ use Rattle.std.specs.List.{slice_get, cons_option}
 use Rattle.pp_values.specs.Rising.{text_cmp}
 use Rattle.res_core.specs.declared.exported.Exported.{Exported}
 use Rattle.res_core.specs.declared.export_set.ExportSet.{ExportSet}
-use Rattle.export_store.specs.declared.export_place.ExportPlace.{ExportPlace}
 use Rattle.export_store.specs.ExportQueries.{Placed, placed, all_placed, exports_of, is_found, places_of, found}
 use Rattle.export_store.specs.Rows.{Entry}
 use Rattle.export_store.specs.Sets.{Sets}

@@ -1,9 +1,8 @@
 -- The rounds with looks that are passed over are the rounds, and how many looks there are.
 use Rattle.std.proofs.Common.{◌≡◌, ℕ, zero, suc, ◌+◌, ◌<◌, ◌≤◌, Bool, true, false, ◌||◌, ◌&&◌, List, [], ◌∷◌, length}
-use Rattle.std.proofs.Common.{Option, None, Some, is_some, Result, Ok, Err, refl, sym, ap, subst, ◌∙◌, true≢false, arith}
-use Rattle.std.proofs.Common.{◌-◌, length-append, ltb-false, ltb-true}
-use Rattle.std.proofs.lemmas.Option.{slice_get_within}
-use Rattle.std.specs.Prelude.{OnOk, nat_le, nat_lt, slice_get, slice_set}
+use Rattle.std.proofs.Common.{Option, None, Some, is_some, Result, Ok, Err, refl, sym, ap, subst, ◌∙◌, true≢false}
+use Rattle.std.proofs.Common.{arith, ◌-◌, length-append}
+use Rattle.std.specs.Prelude.{OnOk, nat_le, slice_get, slice_set}
 use Rattle.override_rules.specs.Meaning.{touched_by}
 use Rattle.res_book.specs.declared.row.Row.{Row}
 use Rattle.export_store.specs.ExportQueries.{Placed}
@@ -11,40 +10,31 @@ use Rattle.export_store.specs.Sets.{Sets}
 use Rattle.pp_values.specs.Answers.{IsRefused, fault_told}
 use Rattle.pp_values.specs.declared.fault.Fault.{Fault}
 use Rattle.pp_values.specs.declared.fault.Stop.{Stop}
-use Rattle.pp_values.specs.declared.reference.Reference.{Reference}
-use Rattle.res_book.proofs.Rows.{number_of-below}
-use Rattle.res_book.specs.Rows.{AreApart, item_at, number_of}
-use Rattle.class_eval.specs.Evaluators.{one_more}
-use Rattle.eval_collecting.proofs.Passing.{named_by, passes_others}
 use Rattle.eval_collecting.specs.Importing.{import_match, imports}
-use Rattle.eval_collecting.specs.Matching.{local_match, realized, realized_by}
-use Rattle.eval_world.specs.Outcomes.{Gives, Outcome, Step, go_on, nothing, pure}
+use Rattle.eval_world.specs.Outcomes.{Gives, Outcome, Step, go_on, nothing}
 use Rattle.eval_world.specs.declared.world.World.{World}
-use Rattle.world_laws.proofs.Worlds.{extends_on, same_world}
+use Rattle.world_laws.proofs.Worlds.{same_world}
 use Rattle.world_laws.specs.Extends.{Extends, IsPlaced}
-use Rattle.world_laws.specs.Growing.{Grows, Reaches}
+use Rattle.world_laws.specs.Growing.{Reaches}
 use Rattle.collecting_laws.proofs.Importing.{import_nothing}
-use Rattle.collecting_laws.proofs.Looking.{after, collectors_rise, look_extends, look_length, not_refused, same_collector}
-use Rattle.collecting_laws.proofs.Looking.{told, touched_rises}
+use Rattle.collecting_laws.proofs.Looking.{after, collectors_rise, not_refused}
+use Rattle.collecting_laws.proofs.Looking.{told}
 use Rattle.collecting_laws.specs.Looks.{touched_at, touched_row}
-use Rattle.collecting_laws.specs.Notes.{IsKnown}
 use Rattle.defined_types.specs.Bound.{most_looks, most_looks_of_one}
-use Rattle.defined_types.specs.Named.{take_named}
-use Rattle.defined_types.specs.Rounds.{again, all_turns, collector_turn, import_all, import_kind, limit, others as exports}
-use Rattle.defined_types.specs.Rounds.{pending, round, rounds, rounds_left, run_instances, take_from, take_imports}
-use Rattle.defined_types.specs.Rounds.{take_locals, turns_from}
-use Rattle.defined_types.specs.Watched.{Looked, Tells, Watched, Watching, again_watched, all_watched, counted, counted_if}
-use Rattle.defined_types.specs.Watched.{further, imported_by, instances_watched, is_noted, lifted, lifted_by, locals_by, no_turns, noted_by, opened}
-use Rattle.defined_types.specs.Watched.{look, look_all, look_from, look_locals, look_named, look_unless, looked_by, looks_of_turn, risen, same_by, told_from, turned, turned_by}
-use Rattle.defined_types.specs.Watched.{watched_left, watched_round, watched_turn, watched_turns, with_imports}
+use Rattle.defined_types.specs.Rounds.{again, all_turns, collector_turn, import_all, import_kind, limit}
+use Rattle.defined_types.specs.Rounds.{others as exports, pending, round, rounds, rounds_left, run_instances}
+use Rattle.defined_types.specs.Rounds.{take_imports, take_locals, turns_from}
+use Rattle.defined_types.specs.Watched.{Looked, Tells, Watched, Watching, again_watched, all_watched, counted}
+use Rattle.defined_types.specs.Watched.{counted_if, imported_by, instances_watched, lifted_by, no_turns, opened}
+use Rattle.defined_types.specs.Watched.{look_locals, looks_of_turn, risen, turned, turned_by, watched_left}
+use Rattle.defined_types.specs.Watched.{watched_round, watched_turn, watched_turns, with_imports}
 use Rattle.defined_types.specs.declared.watchlist.Told.{Told}
-use Rattle.defined_types.proofs.Named.{only_named, others}
 use Rattle.defined_types.proofs.OfRounds.{import_all_grows, instances_grow}
-use Rattle.defined_types.proofs.Few.{begin_costs, cost_along, count_costs, end_costs, flag_le, look_costs, plain, turns_at}
+use Rattle.defined_types.proofs.Few.{begin_costs, end_costs, flag_le, plain}
 use Rattle.defined_types.proofs.Sums.{cell, cost, upto, upto_sum}
-use Rattle.defined_types.proofs.Tables.{counted_length, told_cases, told_length}
-use Rattle.defined_types.proofs.Turning.{IsFresh, IsGood, Turning, counted_fresh, counted_good, looked_at, noted_quiet}
-use Rattle.defined_types.proofs.Turning.{no_note, passed_over, turn_begins, turn_ends, world_on}
+use Rattle.defined_types.proofs.Tables.{counted_length}
+use Rattle.defined_types.proofs.Turning.{IsFresh, IsGood, counted_fresh, counted_good}
+use Rattle.defined_types.proofs.Turning.{no_note, turn_begins, turn_ends, world_on}
 use Rattle.defined_types.proofs.Going.{Agrees, Few, Going, agrees_then, few_counted, few_not, few_on, lifted_agrees}
 use Rattle.defined_types.proofs.Going.{looks_agree, mapped}
 

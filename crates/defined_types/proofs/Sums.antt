@@ -1,8 +1,8 @@
 -- Sums over numbers, and what looks may have cost so far.
-use Rattle.std.proofs.Common.{◌≡◌, ℕ, zero, suc, ◌+◌, ◌<◌, ◌≤◌, Bool, true, false, ◌&&◌, cond, if◌then◌else◌, List, [], ◌∷◌}
-use Rattle.std.proofs.Common.{Option, None, Some, length, map, refl, sym, ap, ◌∙◌, eqb, arith}
+use Rattle.std.proofs.Common.{◌≡◌, ℕ, zero, suc, ◌+◌, ◌<◌, ◌≤◌, cond, List, [], ◌∷◌}
+use Rattle.std.proofs.Common.{Option, None, Some, length, map, refl, arith}
 use Rattle.std.proofs.lemmas.List.Sums.{sum_by-cons}
-use Rattle.std.specs.Prelude.{nat_le, nat_lt, slice_get, sum, ◌==◌}
+use Rattle.std.specs.Prelude.{nat_le, slice_get, sum}
 use Rattle.defined_types.specs.declared.watchlist.Told.{Told}
 
 -- of the numbers below one
@@ -49,7 +49,7 @@ upto_sum g (x ∷ xs) f less =
     let both : sum (map g (x ∷ xs)) ≡ g x + sum (map g xs) = sum_by-cons (λ y. y) (g x) (map g xs) in
     omega (arith, first, rest, both)
 
--- ---- what looks of a collector at a declaration may have cost: so much concerned it when it was looked at last, and once
+-- ---- what a collector's looks at a declaration may have cost: so much concerned it at the last one, and once
 
 abbrev pub cell : Option Told → Option ℕ → ℕ
 cell None turn = 0

@@ -1,5 +1,5 @@
 -- What the definitions of looks that are passed over give on worked examples.
-use Rattle.std.proofs.Common.{◌≡◌, ℕ, true, false, List, [], ◌∷◌, None, Some, refl}
+use Rattle.std.proofs.Common.{◌≡◌, ℕ, true, false, [], ◌∷◌, None, Some, refl}
 use Rattle.defined_types.specs.Watched.{no_turns, noted_by, opened, same_by, told_now, told_risen}
 use Rattle.defined_types.specs.declared.watchlist.Told.{Told}
 

@@ -1,7 +1,7 @@
 -- The rounds as the code makes them. A look of a collector at a declaration is passed over where nothing more came to
 -- concern the declaration since the collector's last turn began. What functions promise one another.
-use Rattle.std.specs.Prelude.{◌≡◌, ℕ, zero, suc, ◌+◌, ◌-◌, ◌==◌, nat_le, Bool, true, false, ◌||◌, ◌&&◌, List, [], ◌∷◌, ◌++◌}
-use Rattle.std.specs.Prelude.{length, Option, None, Some, is_some, Result, Ok, Err, slice_get, slice_set}
+use Rattle.std.specs.Prelude.{◌≡◌, ℕ, zero, suc, ◌+◌, ◌-◌, ◌==◌, nat_le, Bool, true, false, ◌||◌, ◌&&◌, List, [], ◌∷◌}
+use Rattle.std.specs.Prelude.{◌++◌, length, Option, None, Some, is_some, Result, Ok, Err, slice_get, slice_set}
 use Rattle.export_store.specs.Sets.{Sets}
 use Rattle.pp_values.specs.Answers.{IsRefused, fault_told}
 use Rattle.pp_values.specs.declared.fault.Fault.{Fault}

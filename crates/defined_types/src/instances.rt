@@ -11,7 +11,8 @@ use std::alloc::Global;
 /// Evaluates the instances that are pending now. `added` says whether something was added before.
 pub fn run_pending(alloc: Global, evaluator: &mut Evaluator<'_>, added: bool) -> Result<bool, Stop>
     ensures world { Gives same
-        (spec.run_instances added (spec.pending evaluator.old.world.book) evaluator.old.world) result evaluator.new.world }
+        (spec.run_instances added (spec.pending evaluator.old.world.book) evaluator.old.world) result
+        evaluator.new.world }
     ensures node { evaluator.new.node ≡ evaluator.old.node }
     ensures looks { evaluator.new.looks ≡ evaluator.old.looks }
 {

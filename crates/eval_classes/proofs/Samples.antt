@@ -144,7 +144,7 @@ refuses at details = Err (faults.fault (place at) details)
 -- the titles of the declarations behind `Class[main]`, with their tags
 abbrev pub rows_seen : List Row → List (List ℕ × List (List ℕ))
 rows_seen [] = []
-rows_seen (r ∷ rs) = map (λ r. (r.item.item.title, r.item.item.tags)) rs
+rows_seen (r ∷ rs) = map (λ r. (r.declared.item.title, r.declared.item.tags)) rs
 
 -- they, and the texts of the log
 abbrev pub seen : {A : Type 0} → Outcome A → Result (List (List ℕ × List (List ℕ)) × List (List ℕ)) Fault

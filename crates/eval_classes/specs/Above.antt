@@ -1,5 +1,5 @@
--- The sources from which a source inherits: those of the parents of a class. A line that changes what is set has to come
--- from a source that inherits from the resource's.
+-- The sources from which a source inherits: those of the parents of a class. A line that changes what is set has to
+-- come from a source that inherits from the resource's.
 use Rattle.std.specs.Prelude.{ℕ, zero, suc, if◌then◌else◌, List, [], ◌∷◌, drop, length, nat_eq}
 use Rattle.std.specs.Prelude.{Option, None, Some, option_and_then, codes}
 use Rattle.std.specs.List.{starts_with}

@@ -28,7 +28,7 @@ given_tags ss = texts_where (set_in ss (codes "tag"))
 
 abbrev pub row_tags : Option Row → List (List ℕ)
 row_tags None = []
-row_tags (Some r) = r.item.item.tags
+row_tags (Some r) = r.declared.item.tags
 
 -- the tags of a declaration
 abbrev pub tags_in : Option ℕ → List Row → List (List ℕ)

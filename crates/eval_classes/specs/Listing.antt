@@ -39,7 +39,8 @@ is_declared name book = is_some (number_of (class_reference name) book)
 
 -- ---- the declaration
 
--- Its tags are its own and those of the resource in whose scope it is declared. No resource contains it but by `contain`.
+-- Its tags are its own and those of the resource in whose scope it is declared. No resource contains it but by
+-- `contain`.
 abbrev pub class_resource : Owner → List Row → Class → List Setting → Resource
 class_resource from book c given = record {
   kind = codes "class";

@@ -17,7 +17,8 @@ use Rattle.eval_world.specs.declared.here.Here.{Here}
 abbrev pub within_type : Here → Here
 within_type own = record { scope = own.scope; owner = own.owner; typed = true }
 
--- The type is evaluated, one level further in, and then the value is tested: F11 `=~` at the type's line where it is none.
+-- The type is evaluated, one level further in, and then the value is tested: F11 `=~` at the type's line where it is
+-- none.
 unfoldable pub has_type : Inner → Expr → Datum → Here → Step Bool
 has_type inner kind value own = do
   of_kind ← inner.value kind (within_type own)

@@ -36,8 +36,8 @@ abbrev pub data_by : Bool → Reference → List ℕ → Place → Step (Option 
 data_by false of x at = pure None
 data_by true of x at = look_up 0 (data_key of x) None at
 
--- A class's parameter is looked up with the variables of top scope, by the merge that the data give for its key. Nothing
--- is looked up for an instance. A fault stands where the class was declared first.
+-- A class's parameter is looked up with the variables of top scope, by the merge that the data give for its key.
+-- Nothing is looked up for an instance. A fault stands where the class was declared first.
 abbrev pub data_rule : Reference → List ℕ → Place → Step (Option Datum)
 data_rule of x at = data_by (is_class of) of x at
 

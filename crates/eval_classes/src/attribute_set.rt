@@ -18,9 +18,10 @@ use std::collections::BTreeMap;
 use std::marker::Model;
 
 /// How many attributes are held in a list, in which a name is compared with one after another. More are held in a map.
-const FEW: usize = 64;
+const LISTED_ATTRIBUTES: usize = 64;
 
-/// Attributes that are put in one by one. A contract sees each name with what its value says, by the order of the names.
+/// Attributes that are put in one by one. A contract sees each name with what its value says, by the order of the
+/// names.
 pub struct AttributeSet {
     form: SetForm,
 }
@@ -61,7 +62,7 @@ impl AttributeSet {
     pub fn for_count(alloc: Global, count: usize) -> Result<AttributeSet, Memory>
         ensures { IfOk result (λ s. s ≡ []) }
     {
-        let form = if count <= FEW {
+        let form = if count <= LISTED_ATTRIBUTES {
             SetForm::Few(Vec::with_capacity(alloc, count)?)
         } else {
             SetForm::Many(BTreeMap::new(alloc))

@@ -96,12 +96,12 @@ fn find_in_file<'a>(alloc: Global, file: &'a ManifestFile, name: &Text) -> Resul
     ensures { IfOk result (λ f. spec.told f ≡ spec.defined_by name.now file.now.read) }
 {
     match &file.read {
-        Ok(file) => Ok(found(defined_in(alloc, file, name)?)),
+        Ok(file) => Ok(as_found(defined_in(alloc, file, name)?)),
         Err(fault) => Ok(Found::Fault(fault)),
     }
 }
 
-fn found(definition: Option<&Definition>) -> Found<'_>
+fn as_found(definition: Option<&Definition>) -> Found<'_>
     ensures { spec.told result ≡ spec.found_one (option_copied definition.entry) }
 {
     match definition {

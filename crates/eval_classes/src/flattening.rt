@@ -12,13 +12,16 @@ pub fn flat(alloc: Global, value: &Value) -> Result<Values, Memory>
     ensures { IfOk result (λ ds. ds ≡ flat (view value.now)) }
 {
     match value {
-        Value::List(items) => copied(alloc, flat_members(alloc, items.as_slice())?.as_slice()),
-        _ => alone(alloc, value),
+        Value::List(items) => copy_members(
+            alloc,
+            flat_members(alloc, items.as_slice())?.as_slice(),
+        ),
+        _ => copy_alone(alloc, value),
     }
 }
 
 /// A list of a copy of this value.
-fn alone(alloc: Global, value: &Value) -> Result<Values, Memory>
+fn copy_alone(alloc: Global, value: &Value) -> Result<Values, Memory>
     ensures { IfOk result (λ ds. ds ≡ view value.now ∷ []) }
 {
     let mut out = Values::new(alloc);
@@ -59,7 +62,7 @@ fn add_flat<'a>(out: &mut Vec<&'a Value>, items: &'a [Value]) -> Result<(), Memo
     Ok(())
 }
 
-fn copied(alloc: Global, items: &[&Value]) -> Result<Values, Memory>
+fn copy_members(alloc: Global, items: &[&Value]) -> Result<Values, Memory>
     ensures { IfOk result (λ ds. ds ≡ behind items.now) }
 {
     let mut out = Values::new(alloc);

@@ -54,7 +54,13 @@ pub fn tags_within(
 {
     match container {
         Some(number) if number < book.count() => {
-            tags_of(alloc, kind, title, given, &book.row(number).item.item.tags)
+            tags_of(
+                alloc,
+                kind,
+                title,
+                given,
+                &book.row(number).declared.item.tags,
+            )
         }
         _ => tags_of(alloc, kind, title, given, &Tags::new(alloc)),
     }

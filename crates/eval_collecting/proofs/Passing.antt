@@ -28,12 +28,12 @@ named_by q None = false
 named_by q (Some d) = same_reference q (reference_of d)
 
 not_taken : (s : State) (c : Option Collector) (r : Option Row) (q : Reference) → realized_by c ≡ Some q →
-    named_by q (option_map (λ r. r.item) r) ≡ false → taken_by s c r ≡ false
+    named_by q (option_map (λ r. r.declared) r) ≡ false → taken_by s c r ≡ false
 unfolding takes
 not_taken s None r q is other = absurd cc
 not_taken s (Some c) None q is other = refl
 not_taken s (Some c) (Some r) q is other =
-    ap (λ o. may_take c r && asks o c.query r.item.item (attributes_of s r)) is
+    ap (λ o. may_take c r && asks o c.query r.declared.item (attributes_of s r)) is
     ∙ ap (λ b. may_take c r && b) other ∙ and-false (may_take c r)
 
 pub passes_others : (c n : ℕ) (q : Reference) (w : World) → realized w c ≡ Some q →

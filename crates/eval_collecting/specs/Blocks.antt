@@ -1,6 +1,6 @@
 -- The block of a collector, which is applied to what the collector takes.
-use Rattle.std.specs.Prelude.{◌≡◌, ℕ, nat_lt, Bool, true, false, not, ◌&&◌, List, [], ◌∷◌, length, map, Option, None, Some}
-use Rattle.std.specs.Prelude.{Result, Ok, Err, slice_get}
+use Rattle.std.specs.Prelude.{◌≡◌, ℕ, nat_lt, Bool, true, false, not, ◌&&◌, List, [], ◌∷◌, length, map, Option, None}
+use Rattle.std.specs.Prelude.{Some, Result, Ok, Err, slice_get}
 use Rattle.override_rules.specs.Lines as over
 use Rattle.override_rules.specs.Meaning.{State, line_added}
 use Rattle.override_rules.specs.declared.override_line.Right.TheVariants as right
@@ -37,7 +37,7 @@ lines_on q = map (line_on q)
 abbrev pub said_by : Option Collector → Option Row → List over.Line
 said_by None r = []
 said_by (Some c) None = []
-said_by (Some c) (Some r) = lines_on (reference_of r.item) c.lines
+said_by (Some c) (Some r) = lines_on (reference_of r.declared) c.lines
 
 abbrev pub said_at : World → ℕ → ℕ → List over.Line
 said_at w c n = said_by (slice_get w.relations.collectors c) (slice_get w.book n)

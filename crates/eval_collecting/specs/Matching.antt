@@ -52,11 +52,11 @@ realized w c = realized_by (slice_get w.relations.collectors c)
 
 -- it is open to the collector and of its kind
 abbrev pub may_take : Collector → Row → Bool
-may_take c r = is_open c.exported r.mode && bytes_eq r.item.item.kind c.kind
+may_take c r = is_open c.exported r.mode && bytes_eq r.declared.item.kind c.kind
 
 -- and asked for; a query sees the attributes as override lines and defaults leave them
 unfoldable pub takes : State → Collector → Row → Bool
-takes s c r = may_take c r && asks c.realized c.query r.item.item (attributes_of s r)
+takes s c r = may_take c r && asks c.realized c.query r.declared.item (attributes_of s r)
 
 -- a number of no collector and of no declaration stands for nothing that is taken
 abbrev pub taken_by : State → Option Collector → Option Row → Bool

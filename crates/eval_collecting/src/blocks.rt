@@ -61,7 +61,7 @@ fn put_on(world: &mut World<'_>, collector: u32, number: u32) -> Result<(), Stop
     let alloc = world.heap.alloc();
     match world.relations.collectors().get(collector as usize) {
         Some(collector) => {
-            let target = reference_of(alloc, &world.book.row(number).item.item)?;
+            let target = reference_of(alloc, &world.book.row(number).declared.item)?;
             let lines = collector.lines.as_slice();
             put_lines(alloc, &mut world.overrides, &world.book, &target, lines)
         }

@@ -72,10 +72,10 @@ fn takes(
         return Ok(false);
     }
     if !reads_attributes(collector) {
-        return Ok(asks(collector, &row.item.item, &row.item.item.attributes));
+        return Ok(asks(collector, &row.declared.item, &row.declared.item.attributes));
     }
     let set = overrides.row_attributes(alloc, row)?;
-    Ok(asks(collector, &row.item.item, &set))
+    Ok(asks(collector, &row.declared.item, &set))
 }
 
 /// Whether attributes decide. Else none have to be made.
@@ -102,7 +102,7 @@ pub fn realized<'w>(world: &'w World<'_>, collector: u32) -> Option<&'w Referenc
 fn may_take(collector: &Collector, row: &Row) -> bool
     ensures { result ≡ spec.may_take collector.now row.now }
 {
-    is_open(collector.exported, &row.mode) && row.item.item.kind == collector.kind
+    is_open(collector.exported, &row.mode) && row.declared.item.kind == collector.kind
 }
 
 fn is_open(exported: bool, mode: &Mode) -> bool

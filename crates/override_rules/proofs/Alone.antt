@@ -134,51 +134,54 @@ no_lines : (name : List ℕ) (ls : List Line) (v : Option Datum) → ls ≡ [] �
 unfolding after_lines
 no_lines name ls v none = ap (λ xs. after_lines name xs v) none
 
-pub untouched : (s : State) (r : Row) → touched_by s r ≡ 0 → is_rising (setting_names r.item.item.attributes) ≡ true →
-    attributes_of s r ≡ filter is_set r.item.item.attributes
+pub untouched : (s : State) (r : Row) → touched_by s r ≡ 0 →
+    is_rising (setting_names r.declared.item.attributes) ≡ true →
+    attributes_of s r ≡ filter is_set r.declared.item.attributes
 unfolding attributes_of
 untouched s r none rises =
     ap (settings_among (attribute_of s r)) (ap sorted names ∙ in_order own rises)
-    ∙ own_among (attribute_of s r) r.item.item.attributes rises (λ name there. value name) where
+    ∙ own_among (attribute_of s r) r.declared.item.attributes rises (λ name there. value name) where
       own : List (List ℕ)
-      own = setting_names r.item.item.attributes
+      own = setting_names r.declared.item.attributes
 
-      lines : length (lines_on (reference_of r.item) s.lines) ≡ 0
+      lines : length (lines_on (reference_of r.declared) s.lines) ≡ 0
       lines = omega (arith, none)
 
-      defaults : length (defaults_for r.item.item.kind s.defaults) ≡ 0
+      defaults : length (defaults_for r.declared.item.kind s.defaults) ≡ 0
       defaults = omega (arith, none)
 
-      none_on : lines_on (reference_of r.item) s.lines ≡ []
+      none_on : lines_on (reference_of r.declared) s.lines ≡ []
       none_on = empty _ lines
 
       none_named : default_names s r ≡ []
       none_named =
-          elim (is_imported r.mode) as (λ b. (if b then [] else names_within (length s.scopes) s.scopes s.defaults r.item.item.kind (Some r.item.scope)) ≡ [])
-          [ true ↦ refl | false ↦ no_names _ s.scopes s.defaults r.item.item.kind _ defaults ]
+          elim (is_imported r.mode) as (λ b. (if b then [] else names_within (length s.scopes) s.scopes s.defaults r.declared.item.kind (Some r.declared.scope)) ≡ [])
+          [ true ↦ refl | false ↦ no_names _ s.scopes s.defaults r.declared.item.kind _ defaults ]
 
       names : names_of s r ≡ own
       names = ap (λ ls. own ++ (line_names ls ++ default_names s r)) none_on ∙ ap (λ ts. own ++ ts) none_named ∙ append-nil own
 
       none_defaulted : (name : List ℕ) → defaulted s r name ≡ None
       none_defaulted name =
-          elim (is_imported r.mode) as (λ b. (if b then None else set_by (nearest s.scopes s.defaults r.item.item.kind name r.item.scope)) ≡ None)
-          [ true ↦ refl | false ↦ ap set_by (no_nearest _ s.scopes s.defaults r.item.item.kind name _ defaults) ]
+          elim (is_imported r.mode) as (λ b. (if b then None else set_by (nearest s.scopes s.defaults r.declared.item.kind name r.declared.scope)) ≡ None)
+          [ true ↦ refl | false ↦ ap set_by (no_nearest _ s.scopes s.defaults r.declared.item.kind name _ defaults) ]
 
-      value : (name : List ℕ) → attribute_of s r name ≡ set_by (set_in r.item.item.attributes name)
+      value : (name : List ℕ) → attribute_of s r name ≡ set_by (set_in r.declared.item.attributes name)
       value name =
-          ap (λ o. or_else (after_lines name (lines_on (reference_of r.item) s.lines) (declared r.item name)) o) (none_defaulted name)
+          ap (λ o. or_else (after_lines name (lines_on (reference_of r.declared) s.lines) (declared r.declared name)) o) (none_defaulted name)
           ∙ or_none _
-          ∙ no_lines name _ (declared r.item name) none_on
+          ∙ no_lines name _ (declared r.declared name) none_on
 
 -- and so where a test says that nothing concerns it
 pub told_untouched : (s : State) (r : Row) (b : Bool) → b ≡ (touched_by s r == 0) → b ≡ true →
-    is_rising (setting_names r.item.item.attributes) ≡ true → attributes_of s r ≡ filter is_set r.item.item.attributes
+    is_rising (setting_names r.declared.item.attributes) ≡ true →
+    attributes_of s r ≡ filter is_set r.declared.item.attributes
 told_untouched s r b is holds = untouched s r (eqb-true (touched_by s r) 0 (sym is ∙ holds))
 
 -- what a copy of what sets something is
 pub copied : {E : Type 0} (s : State) (r : Row) (b : Bool) → b ≡ (touched_by s r == 0) → b ≡ true →
-    (result : Result (List Setting) E) → IfOk result (λ a. a ≡ filter is_set r.item.item.attributes) →
-    OnOk result (IsTrue (is_rising (setting_names r.item.item.attributes))) → IfOk result (λ a. a ≡ attributes_of s r)
+    (result : Result (List Setting) E) → IfOk result (λ a. a ≡ filter is_set r.declared.item.attributes) →
+    OnOk result (IsTrue (is_rising (setting_names r.declared.item.attributes))) →
+    IfOk result (λ a. a ≡ attributes_of s r)
 copied s r b is holds (Ok a) set rises = set ∙ sym (told_untouched s r b is holds rises)
 copied s r b is holds (Err e) set rises = tt

@@ -195,15 +195,15 @@ not_defaulted false o name ts h e = ap set_by (h e)
 pub not_among : (s : State) (r : Row) (name : List ℕ) → has_text (names_of s r) name ≡ false →
     attribute_of s r name ≡ None
 not_among s r name e =
-    let ls = lines_on (reference_of r.item) s.lines in
-    let own = setting_names r.item.item.attributes in
+    let ls = lines_on (reference_of r.declared) s.lines in
+    let own = setting_names r.declared.item.attributes in
     let p = parted own (line_names ls ++ default_names s r) name e in
     let q = parted (line_names ls) (default_names s r) name p.1 in
     ap (λ o. or_else o (defaulted s r name))
-    (not_changed ls name (declared r.item name) q.0 ∙ ap set_by (not_set_in r.item.item.attributes name p.0))
-    ∙ not_defaulted (is_imported r.mode) (nearest s.scopes s.defaults r.item.item.kind name r.item.scope) name
-    (names_within (length s.scopes) s.scopes s.defaults r.item.item.kind (Some r.item.scope))
-    (not_nearest (length s.scopes) s.scopes s.defaults r.item.item.kind name (Some r.item.scope)) q.1
+    (not_changed ls name (declared r.declared name) q.0 ∙ ap set_by (not_set_in r.declared.item.attributes name p.0))
+    ∙ not_defaulted (is_imported r.mode) (nearest s.scopes s.defaults r.declared.item.kind name r.declared.scope) name
+    (names_within (length s.scopes) s.scopes s.defaults r.declared.item.kind (Some r.declared.scope))
+    (not_nearest (length s.scopes) s.scopes s.defaults r.declared.item.kind name (Some r.declared.scope)) q.1
 
 -- ---- all together
 

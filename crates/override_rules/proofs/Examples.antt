@@ -107,7 +107,7 @@ declared kind title settings =
 
 abbrev row : List ℕ → List ℕ → List Setting → Mode → Option (List Setting) → Row
 row kind title settings m bound =
-    record { item = declared kind title settings; mode = m; marked = false; bound = bound }
+    record { declared = declared kind title settings; mode = m; marked = false; bound = bound }
 
 abbrev file_x : List Setting → Row
 file_x settings = row (codes "file") (codes "x") settings mode.Plain None

@@ -1,5 +1,6 @@
 -- What the calls on overrides mean.
-use Rattle.std.specs.Prelude.{ℕ, ◌+◌, Bool, if◌then◌else◌, List, ◌∷◌, [], ◌++◌, length, find, slice_get, Option, None, Some, is_some, is_none, option_and_then, Result, Ok, Err, ◌||◌, codes}
+use Rattle.std.specs.Prelude.{ℕ, ◌+◌, Bool, if◌then◌else◌, List, ◌∷◌, [], ◌++◌, length, find, slice_get, Option, None}
+use Rattle.std.specs.Prelude.{Some, is_some, is_none, option_and_then, Result, Ok, Err, ◌||◌, codes}
 use Rattle.std.specs.Str.{bytes_eq}
 use Rattle.pp_values.specs.Answers.{and_then}
 use Rattle.pp_values.specs.Datum.{Datum}
@@ -12,7 +13,8 @@ use Rattle.pp_values.specs.declared.reference.Reference.{Reference}
 use Rattle.res_book.specs.Rows.{is_imported, reference_of, number_of}
 use Rattle.res_book.specs.declared.row.Row.{Row}
 use Rattle.override_rules.specs.Changes.{set_by}
-use Rattle.override_rules.specs.Defaults.{Default, Scope, default_key, default_in, with_default, defaults_for, with_scope, nearest, or_else}
+use Rattle.override_rules.specs.Defaults.{Default, Scope, default_key, default_in, with_default, defaults_for}
+use Rattle.override_rules.specs.Defaults.{with_scope, nearest, or_else}
 use Rattle.override_rules.specs.Fold.{overridden}
 use Rattle.override_rules.specs.Lines.{Line, lines_on}
 use Rattle.override_rules.specs.Rights.{line_test, line_tests, is_set_by}
@@ -33,11 +35,11 @@ row_of q rows = option_and_then (slice_get rows) (number_of q rows)
 -- resources take none.
 abbrev pub defaulted : State → Row → List ℕ → Option Datum
 defaulted s r name =
-    if is_imported r.mode then None else set_by (nearest s.scopes s.defaults r.item.item.kind name r.item.scope)
+    if is_imported r.mode then None else set_by (nearest s.scopes s.defaults r.declared.item.kind name r.declared.scope)
 
 -- the declaration and the lines on it, and else a default
 abbrev pub attribute_of : State → Row → List ℕ → Option Datum
-attribute_of s r name = or_else (overridden s.lines r.item name) (defaulted s r name)
+attribute_of s r name = or_else (overridden s.lines r.declared name) (defaulted s r name)
 
 abbrev pub attribute_at : State → List Row → ℕ → List ℕ → Option Datum
 attribute_at s rows n name = option_and_then (λ r. attribute_of s r name) (slice_get rows n)
@@ -49,7 +51,8 @@ abbrev pub is_evaluated : Row → Bool
 is_evaluated r = is_some r.bound
 
 abbrev pub test_of : State → Line → Row → Result (Unit {0}) Fault
-test_of s l r = line_test r.item (is_evaluated r) (is_set_by r.item (lines_on (reference_of r.item) s.lines) l.name) l
+test_of s l r =
+    line_test r.declared (is_evaluated r) (is_set_by r.declared (lines_on (reference_of r.declared) s.lines) l.name) l
 
 abbrev pub tested : (Row → Result (Unit {0}) Fault) → Option Row → Result (Unit {0}) Fault
 tested test None = Ok tt
@@ -65,7 +68,8 @@ line_added rows l s = and_then (tested (test_of s l) (row_of l.target rows)) (λ
 -- the tests of the lines on a declaration, in their order
 abbrev pub stands : State → List Row → ℕ → Result (Unit {0}) Fault
 stands s rows n =
-    tested (λ r. line_tests r.item (is_evaluated r) [] (lines_on (reference_of r.item) s.lines)) (slice_get rows n)
+    tested (λ r. line_tests r.declared (is_evaluated r) [] (lines_on (reference_of r.declared) s.lines))
+    (slice_get rows n)
 
 -- ---- lines without a target
 
@@ -98,4 +102,5 @@ scope_opened scope parent s = record s { scopes = with_scope s.scopes scope pare
 
 -- the lines on it, and the defaults for its kind
 abbrev pub touched_by : State → Row → ℕ
-touched_by s r = length (lines_on (reference_of r.item) s.lines) + length (defaults_for r.item.item.kind s.defaults)
+touched_by s r =
+    length (lines_on (reference_of r.declared) s.lines) + length (defaults_for r.declared.item.kind s.defaults)

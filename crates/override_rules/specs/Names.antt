@@ -1,6 +1,7 @@
 -- Which attributes of a declaration may be set: those that it names, those of the lines on it, and those of the
 -- defaults for its kind on the way out from its scope.
-use Rattle.std.specs.Prelude.{ℕ, zero, suc, ◌==◌, ◌&&◌, Bool, if◌then◌else◌, List, [], ◌∷◌, ◌++◌, filter, map, length, Option, None, Some, is_some, option_map, option_to_list}
+use Rattle.std.specs.Prelude.{ℕ, zero, suc, ◌==◌, ◌&&◌, Bool, if◌then◌else◌, List, [], ◌∷◌, ◌++◌, filter, map, length}
+use Rattle.std.specs.Prelude.{Option, None, Some, is_some, option_map, option_to_list}
 use Rattle.std.specs.Str.{bytes_eq}
 use Rattle.pp_values.specs.Datum.{Datum}
 use Rattle.pp_values.specs.Rising.{sorted}
@@ -37,11 +38,12 @@ line_names = map (λ l. l.name)
 abbrev pub default_names : State → Row → List (List ℕ)
 default_names s r =
     if is_imported r.mode then []
-    else names_within (length s.scopes) s.scopes s.defaults r.item.item.kind (Some r.item.scope)
+    else names_within (length s.scopes) s.scopes s.defaults r.declared.item.kind (Some r.declared.scope)
 
 abbrev pub names_of : State → Row → List (List ℕ)
 names_of s r =
-    setting_names r.item.item.attributes ++ (line_names (lines_on (reference_of r.item) s.lines) ++ default_names s r)
+    setting_names r.declared.item.attributes
+    ++ (line_names (lines_on (reference_of r.declared) s.lines) ++ default_names s r)
 
 -- an attribute that is Undef sets nothing
 abbrev pub is_set : Setting → Bool

@@ -1,7 +1,8 @@
 //! What one line makes of a value.
 ghost use Rattle.std.specs.Prelude.{◌≡◌, IfOk, option_map};
 ghost use Rattle.pp_values.specs.Views.{view, views};
-ghost use Rattle.override_rules.specs.Changes.{set_to as set_to_meant, changed as changed_meant, appended as appended_meant};
+ghost use Rattle.override_rules.specs.Changes.{set_to as set_to_meant, changed as changed_meant};
+ghost use Rattle.override_rules.specs.Changes.{appended as appended_meant};
 
 use pp_values::{Memory, Value, Values, copy};
 use std::alloc::Global;

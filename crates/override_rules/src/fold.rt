@@ -3,7 +3,8 @@ ghost use Rattle.std.specs.Prelude.{◌≡◌, IfOk, option_map, option_to_list,
 ghost use Rattle.pp_values.specs.Views.{view};
 ghost use Rattle.override_rules.specs.Lines.{line_of};
 ghost use Rattle.override_rules.specs.Numbers.{lines_at};
-ghost use Rattle.override_rules.specs.Fold.{declared, after_line as after_line_meant, after_lines as after_lines_meant, overridden as overridden_meant};
+ghost use Rattle.override_rules.specs.Fold.{declared, after_line as after_line_meant, after_lines as after_lines_meant};
+ghost use Rattle.override_rules.specs.Fold.{overridden as overridden_meant};
 
 use crate::changing::{changed, set_to};
 use crate::lines::Lines;

@@ -1,11 +1,15 @@
-ghost use Rattle.std.specs.Prelude.{◌≡◌, ◌<◌, ◌+◌, ◌==◌, ◌++◌, [], ℕ, List, Some, length, find, if◌then◌else◌, is_ok, nat_lt, option_copied, option_map, slice_get, IfOk, OnOk};
+ghost use Rattle.std.specs.Prelude.{◌≡◌, ◌<◌, ◌+◌, ◌==◌, ◌++◌, [], ℕ, List, Some, length, find, if◌then◌else◌, is_ok};
+ghost use Rattle.std.specs.Prelude.{nat_lt, option_copied, option_map, slice_get, IfOk, OnOk};
 ghost use Rattle.pp_values.specs.Answers.{Answers};
 ghost use Rattle.pp_values.specs.Views.{view};
 ghost use Rattle.pp_values.specs.Rising.{sorted, with_texts};
 ghost use Rattle.res_book.specs.Outcomes.{Changes};
 ghost use Rattle.res_core.specs.AttributeViews.{set_in, settings};
 ghost use Rattle.override_rules.specs.Lines.{line_of, lines_of};
-ghost use Rattle.override_rules.specs.Meaning.{State, attribute_of as attribute_meant, attribute_at, defaulted as defaulted_meant, line_added, tested, test_of, row_of, stands, is_orphan as is_orphan_meant, orphan, default_added, scope_opened, touched_by};
+ghost use Rattle.override_rules.specs.Meaning.{State, attribute_of as attribute_meant, attribute_at};
+ghost use Rattle.override_rules.specs.Meaning.{defaulted as defaulted_meant, line_added, tested, test_of, row_of};
+ghost use Rattle.override_rules.specs.Meaning.{stands, is_orphan as is_orphan_meant, orphan, default_added};
+ghost use Rattle.override_rules.specs.Meaning.{scope_opened, touched_by};
 ghost use Rattle.override_rules.specs.Names.{names_of, default_names, setting_for, settings_among, attributes_of};
 
 use crate::changing::set_to;
@@ -104,7 +108,7 @@ impl Overrides {
     fn test_on(&self, alloc: Global, row: &Row, line: &OverrideLine) -> Result<(), Stop>
         ensures { Answers result (test_of self.now (line_of line.now) row.now) }
     {
-        let item = &row.item;
+        let item = &row.declared;
         let numbers = self.lines.on(&item.item.kind, &item.item.title);
         let set = is_set_by(&self.lines, numbers, item, &line.name);
         line_test(alloc, item, row.bound.is_some(), set, line)
@@ -116,7 +120,7 @@ impl Overrides {
         ensures { Answers result (stands self.now book.now number) }
     {
         let row = book.row(number);
-        test_all(alloc, &self.lines, &row.item, row.bound.is_some())
+        test_all(alloc, &self.lines, &row.declared, row.bound.is_some())
     }
 
     /// The value of an attribute; `None` where it is not set.
@@ -136,7 +140,7 @@ impl Overrides {
     fn attribute_of(&self, alloc: Global, row: &Row, name: &Text) -> Result<Option<Value>, Memory>
         ensures { IfOk result (λ o. option_map view o ≡ attribute_meant self.now row.now name.now) }
     {
-        match overridden(alloc, &self.lines, &row.item, name)? {
+        match overridden(alloc, &self.lines, &row.declared, name)? {
             Some(value) => Ok(Some(value)),
             None => self.defaulted(alloc, row, name),
         }
@@ -148,8 +152,8 @@ impl Overrides {
         if row.mode.is_imported() {
             return Ok(None);
         }
-        let kind = &row.item.item.kind;
-        match nearest(&self.scopes, &self.defaults, kind, name, row.item.scope) {
+        let kind = &row.declared.item.kind;
+        match nearest(&self.scopes, &self.defaults, kind, name, row.declared.scope) {
             Some(value) => set_to(alloc, value),
             None => Ok(None),
         }
@@ -170,7 +174,7 @@ impl Overrides {
         ensures { IfOk result (λ a. a ≡ attributes_of self.now row.now) }
     {
         if self.is_untouched(row) {
-            return copy_set(alloc, &row.item.item.attributes);
+            return copy_set(alloc, &row.declared.item.attributes);
         }
         let names = self.names(alloc, row)?;
         self.attributes_among(alloc, row, names)
@@ -187,8 +191,8 @@ impl Overrides {
         ensures { IfOk result (λ n. n.keys ≡ sorted (names_of self.now row.now)) }
     {
         let mut names = BTreeSet::new(alloc);
-        put_own(alloc, &row.item.item.attributes, &mut names)?;
-        put_overridden(alloc, &self.lines, &row.item, &mut names)?;
+        put_own(alloc, &row.declared.item.attributes, &mut names)?;
+        put_overridden(alloc, &self.lines, &row.declared, &mut names)?;
         self.put_default_names(alloc, row, &mut names)?;
         Ok(names)
     }
@@ -204,7 +208,7 @@ impl Overrides {
         if row.mode.is_imported() {
             return Ok(());
         }
-        let item = &row.item;
+        let item = &row.declared;
         put_defaults(
             alloc,
             &self.scopes,
@@ -257,8 +261,9 @@ impl Overrides {
         first_orphan(self.lines.as_slice(), book)
     }
 
-    /// Opens a scope, which may then have defaults, and take those of its dynamic parent. A parent is set once: where the
-    /// scope was opened before, it keeps the one that it has. One that was never opened has no parent and no default.
+    /// Opens a scope, which may then have defaults, and take those of its dynamic parent. A parent is set once: where
+    /// the scope was opened before, it keeps the one that it has. One that was never opened has no parent and no
+    /// default.
     ///
     /// Where there is no memory, all stays as it was.
     pub fn open_scope(&mut self, scope: u32, parent: Option<u32>) -> Result<(), Memory>
@@ -303,7 +308,7 @@ impl Overrides {
     fn touched_row(&self, row: &Row) -> u32
         ensures { result ≡ touched_by self.now row.now }
     {
-        let item = &row.item.item;
+        let item = &row.declared.item;
         let lines = self.lines.on(&item.kind, &item.title).len();
         (lines + self.defaults.count(&item.kind)) as u32
     }

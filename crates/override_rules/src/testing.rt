@@ -7,8 +7,10 @@ ghost use Rattle.res_book.specs.Rows.{reference_of};
 ghost use Rattle.override_rules.specs.Fold.{declared};
 ghost use Rattle.override_rules.specs.Lines.{line_of, lines_on};
 ghost use Rattle.override_rules.specs.Numbers.{lines_at};
-ghost use Rattle.override_rules.specs.Rights.{is_set, is_set_by as is_set_by_meant, line_test as line_test_meant, line_tests};
-ghost use Rattle.override_rules.specs.SetLines.{is_value as is_value_meant, set_after as set_after_meant, set_after_lines as set_after_lines_meant};
+ghost use Rattle.override_rules.specs.Rights.{is_set, is_set_by as is_set_by_meant, line_test as line_test_meant};
+ghost use Rattle.override_rules.specs.Rights.{line_tests};
+ghost use Rattle.override_rules.specs.SetLines.{is_value as is_value_meant, set_after as set_after_meant};
+ghost use Rattle.override_rules.specs.SetLines.{set_after_lines as set_after_lines_meant};
 
 use crate::faults::{already_set, unknown};
 use crate::lines::Lines;

@@ -4,8 +4,8 @@ ghost use Rattle.std.specs.Prelude.{◌≡◌, [], ℕ, List, Option, IsSome};
 ghost use Rattle.override_rules.specs.Defaults.{Scope, parent_of, with_scope};
 ghost use Rattle.override_rules.specs.Ways.{AreNested, IsWithin, ParentsStay, way_out};
 
-/// Whatever scope is opened, each that was opened before keeps its parent. Where each is opened after its parent, the way
-/// out from a scope that was opened stays what it is, however scopes go on.
+/// Whatever scope is opened, each that was opened before keeps its parent. Where each is opened after its parent, the
+/// way out from a scope that was opened stays what it is, however scopes go on.
 pub fn parents_stay()
     ensures opened { (scopes : List Scope) (s : ℕ) (p : Option ℕ) → ParentsStay scopes (with_scope scopes s p) }
     ensures first { AreNested [] }

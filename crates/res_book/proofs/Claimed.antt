@@ -47,7 +47,7 @@ module _ (kinds new : Kinds) (rows : List Row) (d : Declared) (m : Mode) (kind :
   earlier_below e some = number_of-below (reference_of d) rows e (numbered e some)
 
   pub twice : (e : ℕ) (row : Row) → o ≡ Some e → slice_get rows e ≡ Some row →
-      declared_once d m (declared_as (reference_of d) rows) rows ≡ Err (duplicate d row.item.at)
+      declared_once d m (declared_as (reference_of d) rows) rows ≡ Err (duplicate d row.declared.at)
   twice e row some at =
       ap (λ o. declared_once d m o rows) (declared_at (reference_of d) rows e (numbered e some) ∙ at)
 

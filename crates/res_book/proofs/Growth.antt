@@ -195,7 +195,7 @@ never false b = refl
 pub pending-bound : (n : ℕ) (settings : List Setting) (rows : List Row) →
     is_pending_at (with_bound n settings rows) n ≡ false
 pending-bound n settings [] = refl
-pending-bound zero settings (r ∷ rs) = never (is_live r) (is_instance r.item)
+pending-bound zero settings (r ∷ rs) = never (is_live r) (is_instance r.declared)
 pending-bound (suc n) settings (r ∷ rs) = pending-bound n settings rs
 
 -- ---- growth in several steps

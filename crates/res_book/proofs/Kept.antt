@@ -8,14 +8,15 @@ use Rattle.res_book.specs.declared.row.Row.{Row}
 use Rattle.res_book.proofs.Live.{KeepsLife, contained-append, contained-change}
 use Rattle.res_book.proofs.Rows.{KeepsItem, numberless, number_of-append, number_of-change, apart-append, apart-change, length-change}
 
-pub kept-append : (kinds new : Kinds) (rows : List Row) (r : Row) → declared_as (reference_of r.item) rows ≡ None →
-    length rows < limit → IsTrue (is_contained r.item.container rows) →
-    Adds r.item.item.kind r.item.item.title (length rows) kinds new → IsKept kinds rows → IsKept new (rows ++ r ∷ [])
+pub kept-append : (kinds new : Kinds) (rows : List Row) (r : Row) → declared_as (reference_of r.declared) rows ≡ None →
+    length rows < limit → IsTrue (is_contained r.declared.container rows) →
+    Adds r.declared.item.kind r.declared.item.title (length rows) kinds new → IsKept kinds rows →
+    IsKept new (rows ++ r ∷ [])
 kept-append kinds new rows r undeclared room contained adds kept =
-    let fresh = numberless (reference_of r.item) rows undeclared in record {
+    let fresh = numberless (reference_of r.declared) rows undeclared in record {
       finds = λ q.
           adds q.kind q.title
-          ∙ ap (cond (same_reference (reference_of r.item) q) (Some (length rows))) (kept.finds q)
+          ∙ ap (cond (same_reference (reference_of r.declared) q) (Some (length rows))) (kept.finds q)
           ∙ sym (number_of-append q rows r fresh);
       apart = apart-append rows r fresh kept.apart;
       contained = contained-append rows r contained kept.contained;

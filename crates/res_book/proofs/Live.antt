@@ -41,7 +41,7 @@ within : (o : Option ℕ) (c : ℕ) (rows : List Row) → o ≡ Some c → IsTru
     IsTrue (is_live_at rows c)
 within o c rows e h = subst (λ p. IsTrue (is_contained p rows)) e h
 
-pub contained-append : (rows : List Row) (r : Row) → IsTrue (is_contained r.item.container rows) →
+pub contained-append : (rows : List Row) (r : Row) → IsTrue (is_contained r.declared.container rows) →
     AreContained rows → AreContained (rows ++ r ∷ [])
 contained-append rows r new old = record {
   before = λ n c d at in_c.
@@ -49,7 +49,7 @@ contained-append rows r new old = record {
         | inl was ↦ old.before n c d was in_c
         | inr last ↦
             let live : IsTrue (is_live_at rows c) =
-            within r.item.container c rows (ap (λ x. x.container) last.1 ∙ in_c) new in
+            within r.declared.container c rows (ap (λ x. x.container) last.1 ∙ in_c) new in
             let less = live_below rows c live in
             let is = last.0 in
             omega arith
@@ -57,7 +57,7 @@ contained-append rows r new old = record {
   live = λ n c d at in_c.
       elim (item_at-append rows r n d at) [
         | inl was ↦ live-append rows r c (old.live n c d was in_c)
-        | inr last ↦ live-append rows r c (within r.item.container c rows (ap (λ x. x.container) last.1 ∙ in_c) new)
+        | inr last ↦ live-append rows r c (within r.declared.container c rows (ap (λ x. x.container) last.1 ∙ in_c) new)
       ];
 }
 

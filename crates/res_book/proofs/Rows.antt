@@ -81,20 +81,22 @@ first b false n o apart = refl
 
 -- A declaration with a new reference is the only one that its reference finds.
 pub number_of-append : (q : Reference) (rows : List Row) (r : Row) →
-    number_of (reference_of r.item) rows ≡ None →
+    number_of (reference_of r.declared) rows ≡ None →
     number_of q (rows ++ r ∷ [])
-    ≡ cond (same_reference (reference_of r.item) q) (Some (length rows)) (number_of q rows)
-number_of-append q [] r new = ap (λ b. cond b (Some 0) None) (turned q (reference_of r.item))
+    ≡ cond (same_reference (reference_of r.declared) q) (Some (length rows)) (number_of q rows)
+number_of-append q [] r new = ap (λ b. cond b (Some 0) None) (turned q (reference_of r.declared))
 number_of-append q (x ∷ xs) r new =
-    let parts = later (is_named (reference_of r.item) x) (number_of (reference_of r.item) xs) new in
+    let parts = later (is_named (reference_of r.declared) x) (number_of (reference_of r.declared) xs) new in
     ap (λ o. cond (is_named q x) (Some 0) (option_map suc o)) (number_of-append q xs r parts.1)
-    ∙ ap (cond (is_named q x) (Some 0)) (moved (same_reference (reference_of r.item) q) (length xs) (number_of q xs))
-    ∙ first (is_named q x) (same_reference (reference_of r.item) q) (suc (length xs)) (option_map suc (number_of q xs))
-    (λ e. subst (λ p. is_named p x ≡ false) (same (reference_of r.item) q e) parts.0)
+    ∙ ap (cond (is_named q x) (Some 0))
+    (moved (same_reference (reference_of r.declared) q) (length xs) (number_of q xs))
+    ∙ first (is_named q x) (same_reference (reference_of r.declared) q) (suc (length xs))
+    (option_map suc (number_of q xs))
+    (λ e. subst (λ p. is_named p x ≡ false) (same (reference_of r.declared) q e) parts.0)
 
 -- what stands at a number after one more
 pub item_at-append : (rows : List Row) (r : Row) (n : ℕ) (d : Declared) → item_at (rows ++ r ∷ []) n ≡ Some d →
-    (item_at rows n ≡ Some d) ⊎ ((n ≡ length rows) × (r.item ≡ d))
+    (item_at rows n ≡ Some d) ⊎ ((n ≡ length rows) × (r.declared ≡ d))
 item_at-append [] r zero d e = inr (refl, cc)
 item_at-append [] r (suc n) d e = absurd cc
 item_at-append (x ∷ xs) r zero d e = inl e
@@ -108,18 +110,18 @@ old_stays q p rows n l true e new old =
     absurd cc
 old_stays q p rows n l false e new old = old
 
-pub apart-append : (rows : List Row) (r : Row) → number_of (reference_of r.item) rows ≡ None → AreApart rows →
+pub apart-append : (rows : List Row) (r : Row) → number_of (reference_of r.declared) rows ≡ None → AreApart rows →
     AreApart (rows ++ r ∷ [])
 apart-append rows r new apart = record {
   found = λ n d at.
       number_of-append (reference_of d) rows r new
       ∙ (elim (item_at-append rows r n d at) [
-        | inl old ↦ old_stays (reference_of r.item) (reference_of d) rows n (length rows)
-            (same_reference (reference_of r.item) (reference_of d)) refl new (apart.found n d old)
+        | inl old ↦ old_stays (reference_of r.declared) (reference_of d) rows n (length rows)
+            (same_reference (reference_of r.declared) (reference_of d)) refl new (apart.found n d old)
         | inr last ↦
-            ap (λ x. cond (same_reference (reference_of r.item) (reference_of x)) (Some (length rows))
+            ap (λ x. cond (same_reference (reference_of r.declared) (reference_of x)) (Some (length rows))
             (number_of (reference_of x) rows)) (sym last.1)
-            ∙ ap (λ b. cond b (Some (length rows)) (number_of (reference_of r.item) rows)) (itself (reference_of r.item))
+            ∙ ap (λ b. cond b (Some (length rows)) (number_of (reference_of r.declared) rows)) (itself (reference_of r.declared))
             ∙ ap (λ m. Some m) (sym last.0)
       ]);
 }
@@ -127,7 +129,7 @@ apart-append rows r new apart = record {
 -- ---- a declaration that changes, and stays the same resource
 
 abbrev pub KeepsItem : (Row → Row) → Type 0
-KeepsItem change = (r : Row) → (change r).item ≡ r.item
+KeepsItem change = (r : Row) → (change r).declared ≡ r.declared
 
 -- the code's own change is the one that is meant
 pub set_changed : (change : Row → Row) (rows : List Row) (n : ℕ) (r : Row) → slice_get rows n ≡ Some r →

@@ -1,7 +1,7 @@
 -- The declarations of one compile, as a list.
-use Rattle.std.specs.Prelude.{◌≡◌, ℕ, zero, suc, ◌+◌, ◌-◌, ◌<◌, nat_lt, IsTrue, Bool, true, false, not, ◌&&◌, ◌||◌, if◌then◌else◌}
-use Rattle.std.specs.Prelude.{List, [], ◌∷◌, ◌++◌, length, find, slice_get, Option, None, Some, option_map}
-use Rattle.std.specs.Prelude.{option_and_then, is_none, Result, Ok, Err, codes}
+use Rattle.std.specs.Prelude.{◌≡◌, ℕ, zero, suc, ◌+◌, ◌-◌, ◌<◌, nat_lt, IsTrue, Bool, true, false, not, ◌&&◌, ◌||◌}
+use Rattle.std.specs.Prelude.{if◌then◌else◌, List, [], ◌∷◌, ◌++◌, length, find, slice_get, Option, None, Some}
+use Rattle.std.specs.Prelude.{option_map, option_and_then, is_none, Result, Ok, Err, codes}
 use Rattle.std.specs.List.{range_with_len}
 use Rattle.std.specs.Str.{bytes_eq}
 use Rattle.pp_values.specs.Faults.{fault}
@@ -49,12 +49,12 @@ is_instance d = not (is_class d) && is_none (native_of d.item.kind)
 
 -- an instance that is live and was not evaluated
 abbrev pub is_pending : Row → Bool
-is_pending r = is_live r && (is_instance r.item && is_none r.bound)
+is_pending r = is_live r && (is_instance r.declared && is_none r.bound)
 
 -- ---- by number
 
 abbrev pub item_at : List Row → ℕ → Option Declared
-item_at rows n = option_map (λ r. r.item) (slice_get rows n)
+item_at rows n = option_map (λ r. r.declared) (slice_get rows n)
 
 abbrev pub mode_at : List Row → ℕ → Option Mode
 mode_at rows n = option_map (λ r. r.mode) (slice_get rows n)
@@ -88,7 +88,7 @@ pending_after rows after = pending_from rows (next_number after)
 -- ---- by reference
 
 abbrev pub is_named : Reference → Row → Bool
-is_named q r = same_reference q (reference_of r.item)
+is_named q r = same_reference q (reference_of r.declared)
 
 -- the first declaration of this reference
 abbrev pub declared_as : Reference → List Row → Option Row
@@ -137,14 +137,15 @@ too_many d = fault d.at what.ResourceLimit
 
 -- it has no mark yet, and was not evaluated
 abbrev pub new_row : Declared → Mode → Row
-new_row d m = record { item = d; mode = m; marked = false; bound = None }
+new_row d m = record { declared = d; mode = m; marked = false; bound = None }
 
 -- the next number is that of the new one
 abbrev pub declared_last : Declared → Mode → List Row → Result (ℕ × List Row) Fault
-declared_last d m rows = if nat_lt (length rows) limit then Ok (length rows, rows ++ new_row d m ∷ []) else Err (too_many d)
+declared_last d m rows =
+    if nat_lt (length rows) limit then Ok (length rows, rows ++ new_row d m ∷ []) else Err (too_many d)
 
 abbrev pub declared_once : Declared → Mode → Option Row → List Row → Result (ℕ × List Row) Fault
-declared_once d m (Some earlier) rows = Err (duplicate d earlier.item.at)
+declared_once d m (Some earlier) rows = Err (duplicate d earlier.declared.at)
 declared_once d m None rows = declared_last d m rows
 
 -- No class is virtual or exported; a reference is declared once; there are not more than the limit: in this order.

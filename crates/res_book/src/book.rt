@@ -1,7 +1,11 @@
 ghost use Rattle.std.specs.Prelude.{◌≡◌, ◌<◌, [], length, not, option_copied, slice_get, IsTrue};
 ghost use Rattle.res_book.specs.Outcomes.{Changes};
-ghost use Rattle.res_book.specs.Rows.{reference_of, is_class_virtual as class_virtual_meant, is_virtual as virtual_meant, is_live as live_meant, is_instance as instance_meant, is_pending as pending_meant};
-ghost use Rattle.res_book.specs.Rows.{AreApart, AreContained, item_at, mode_at, is_live_at, is_pending_at, pending_from, pending_after, bound_at, number_of, declared, declared_as, declared_once, is_contained, limit, with_mark, with_bound};
+ghost use Rattle.res_book.specs.Rows.{reference_of, is_class_virtual as class_virtual_meant};
+ghost use Rattle.res_book.specs.Rows.{is_virtual as virtual_meant, is_live as live_meant};
+ghost use Rattle.res_book.specs.Rows.{is_instance as instance_meant, is_pending as pending_meant};
+ghost use Rattle.res_book.specs.Rows.{AreApart, AreContained, item_at, mode_at, is_live_at, is_pending_at};
+ghost use Rattle.res_book.specs.Rows.{pending_from, pending_after, bound_at, number_of, declared, declared_as};
+ghost use Rattle.res_book.specs.Rows.{declared_once, is_contained, limit, with_mark, with_bound};
 
 use crate::faults::{class_virtual, duplicate, too_many};
 use crate::mode::Mode;
@@ -71,7 +75,7 @@ impl Book {
         ensures item { item_at self.now number ≡ Some result.now }
         ensures found { number_of (reference_of result.now) self.now ≡ Some number }
     {
-        &self.rows[number as usize].item
+        &self.rows[number as usize].declared
     }
 
     /// No two declarations have the same reference.
@@ -118,7 +122,7 @@ impl Book {
             return self.declare_once(alloc, item, mode);
         }
         match self.earlier(&item) {
-            Some(row) => Err(Stop::Fault(duplicate(alloc, &item, &row.item.at)?)),
+            Some(row) => Err(Stop::Fault(duplicate(alloc, &item, &row.declared.at)?)),
             None => Err(Stop::Fault(too_many(alloc, &item)?)),
         }
     }
@@ -144,7 +148,8 @@ impl Book {
     fn declare_once(&mut self, alloc: Global, item: Declared, mode: Mode) -> Result<u32, Stop>
         requires contained { IsTrue (is_contained item.container self.old) }
         requires room { length self.old < limit }
-        ensures { Changes (declared_once item mode (declared_as (reference_of item) self.old) self.old) self.old result self.new }
+        ensures { Changes (declared_once item mode (declared_as (reference_of item) self.old) self.old) self.old result
+            self.new }
     {
         let number = self.count();
         self.rows.reserve(1)?;
@@ -152,11 +157,11 @@ impl Book {
         match self.numbers.claim(alloc, kind, &item.item.title, number)? {
             Some(earlier) => {
                 let earlier = self.row(earlier);
-                Err(Stop::Fault(duplicate(alloc, &item, &earlier.item.at)?))
+                Err(Stop::Fault(duplicate(alloc, &item, &earlier.declared.at)?))
             }
             None => {
                 self.rows.push(Row {
-                    item,
+                    declared: item,
                     mode,
                     marked: false,
                     bound: None,
@@ -259,7 +264,7 @@ fn is_instance(item: &Declared) -> bool
 fn is_pending(row: &Row) -> bool
     ensures { result ≡ pending_meant row.now }
 {
-    is_live(row) && is_instance(&row.item) && row.bound.is_none()
+    is_live(row) && is_instance(&row.declared) && row.bound.is_none()
 }
 
 fn is_class_virtual(item: &Declared, mode: &Mode) -> bool

@@ -1,6 +1,7 @@
 //! Why a resource is not declared.
 ghost use Rattle.std.specs.Prelude.{◌≡◌, IfOk};
-ghost use Rattle.res_book.specs.Rows.{class_virtual as class_virtual_at, duplicate as duplicate_at, too_many as too_many_at};
+ghost use Rattle.res_book.specs.Rows.{class_virtual as class_virtual_at, duplicate as duplicate_at};
+ghost use Rattle.res_book.specs.Rows.{too_many as too_many_at};
 
 use pp_values::{Fault, Memory, Place, Subject, What};
 use res_core::Declared;

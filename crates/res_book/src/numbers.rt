@@ -79,7 +79,8 @@ fn claim_title(
 /// Gives a title the number that it had.
 fn put_back(titles: &mut BTreeMap<Text, u32>, title: &Text, number: u32)
     requires { IsSome (get (slice_cmp nat_cmp) titles.old title.now) }
-    ensures { (t : List ℕ) → number_in (Some titles.new) t ≡ (if bytes_eq title.now t then Some number else number_in (Some titles.old) t) }
+    ensures { (t : List ℕ) → number_in (Some titles.new) t
+        ≡ (if bytes_eq title.now t then Some number else number_in (Some titles.old) t) }
 {
     if let Some(place) = titles.get_mut(title) {
         *place = number;
@@ -88,7 +89,8 @@ fn put_back(titles: &mut BTreeMap<Text, u32>, title: &Text, number: u32)
 
 /// One title, with its number.
 fn only(alloc: Global, title: &Text, number: u32) -> Result<BTreeMap<Text, u32>, Memory>
-    ensures { IfOk result (λ titles. (t : List ℕ) → number_in (Some titles) t ≡ (if bytes_eq title.now t then Some number else None)) }
+    ensures { IfOk result
+        (λ titles. (t : List ℕ) → number_in (Some titles) t ≡ (if bytes_eq title.now t then Some number else None)) }
 {
     let title = title.copy(alloc)?;
     let mut titles = BTreeMap::new(alloc);

@@ -4,7 +4,7 @@ use res_core::{Attributes, Declared};
 /// A declaration, and what became of it.
 #[derive(Drop)]
 pub struct Row {
-    pub item: Declared,
+    pub declared: Declared,
     pub mode: Mode,
     /// Whether a collector has taken it.
     pub marked: bool,

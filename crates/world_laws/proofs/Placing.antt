@@ -149,14 +149,14 @@ module _ (s : State) (owners : Owners) (book : List Row) (placed : ArePlaced s o
       (opened_nested s.scopes x.scope parent placed.nested within)
 
   -- one declaration more
-  row_placed : (r : Row) → IsOpened s r.item.scope → number_of (reference_of r.item) book ≡ None →
+  row_placed : (r : Row) → IsOpened s r.declared.scope → number_of (reference_of r.declared) book ≡ None →
       ArePlaced s owners (book ++ r ∷ [])
   row_placed r there none = record {
     nested = placed.nested;
     top = placed.top;
     main = placed.main;
     others = placed.others;
-    items = behind (λ y. y.item) (λ d. IsOpened s d.scope) book r placed.items there;
+    items = behind (λ y. y.declared) (λ d. IsOpened s d.scope) book r placed.items there;
     apart = apart-append book r none placed.apart;
   }
 

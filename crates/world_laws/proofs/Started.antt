@@ -25,8 +25,8 @@ top_opened = scope_opened 0 None nothing_said
 
 main_opened : (n : ℕ) (d : Declared) → item_at (main_row ∷ []) n ≡ Some d → IsOpened top_opened d.scope
 main_opened zero d is = scope_of d is where
-  scope_of : (x : Declared) → Some main_row.item ≡ Some x → IsOpened top_opened x.scope
-  scope_of x e = let same : main_row.item ≡ x = cc in rw (← same) (opened_here 0 None nothing_said)
+  scope_of : (x : Declared) → Some main_row.declared ≡ Some x → IsOpened top_opened x.scope
+  scope_of x e = let same : main_row.declared ≡ x = cc in rw (← same) (opened_here 0 None nothing_said)
 main_opened (suc n) d is = absurd cc
 
 pub placed_first : (m : Environment) (node : Name) (facts : Datum) → IsPlaced (started m node facts)

@@ -12,5 +12,5 @@ returns-clause-found c =
     subst (λ rows. c.args.number < length rows) (sym c.self.view_is) c.requires in
     let at : slice_get items c.args.number ≡ Some row =
     slice_get_read items _ c.args.number row refl below c.index.ensures in
-    ap (number_of (reference_of row.item)) (sym c.self.view_is)
-    ∙ c.self.invariant.apart.found c.args.number row.item (ap (option_map (λ r. r.item)) at)
+    ap (number_of (reference_of row.declared)) (sym c.self.view_is)
+    ∙ c.self.invariant.apart.found c.args.number row.declared (ap (option_map (λ r. r.declared)) at)

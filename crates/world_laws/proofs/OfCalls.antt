@@ -28,11 +28,11 @@ use Rattle.eval_world.specs.declared.here.Here.{Here}
 use Rattle.eval_world.specs.declared.world.World.{World}
 use Rattle.eval_classes.specs.Included.{including_of}
 use Rattle.eval_classes.specs.declared.including.Including.{Including}
-use Rattle.eval_calls.specs.Calls.{log_rule, data_rule, site_by, site_rule, without_lambda_by, evaluated_rule, plain_rule}
-use Rattle.eval_calls.specs.Calls.{stray_lambda_rule, with_lambda_by, with_lambda_rule, called, invoked, call_rule}
-use Rattle.eval_calls.specs.Calls.{invoked_on, method_rule, words_rule}
-use Rattle.eval_calls.specs.Iterating.{turns_from, over_rule, iterate_rule, reduce_from, reduced, reduce_rule, with_rule}
-use Rattle.eval_calls.specs.Iterating.{lambda_function_rule}
+use Rattle.eval_calls.specs.Calls.{log_rule, data_rule, site_by, site_rule, without_lambda_by, evaluated_rule}
+use Rattle.eval_calls.specs.Calls.{plain_rule, stray_lambda_rule, with_lambda_by, with_lambda_rule, called, invoked}
+use Rattle.eval_calls.specs.Calls.{call_rule, invoked_on, method_rule, words_rule}
+use Rattle.eval_calls.specs.Iterating.{turns_from, over_rule, iterate_rule, reduce_from, reduced, reduce_rule}
+use Rattle.eval_calls.specs.Iterating.{with_rule, lambda_function_rule}
 use Rattle.eval_calls.specs.Lambdas.{Opened, opened, typed, bind_rule, bind_from, lambda_rule}
 use Rattle.eval_calls.specs.LookUps.{Request, request_of, or_next, first_found, default_or_fault, found_or, found_rule}
 use Rattle.eval_calls.specs.LookUps.{fitting, of_type, lookup_by, lookup_rule}
@@ -119,7 +119,8 @@ each_realized_grows [] line here = pure_grows
 each_realized_grows (r ∷ rs) line here =
     and_then (realize_grows r line here) (λ u. each_realized_grows rs line here)
 
-realized_by_grows : (o : Option (List Reference)) (f : List ℕ) (line : ℕ) (here : Here) → Grows (realized_by o f line here)
+realized_by_grows : (o : Option (List Reference)) (f : List ℕ) (line : ℕ) (here : Here) →
+    Grows (realized_by o f line here)
 unfolding realize_all
 realized_by_grows None f line here = fault_grows _
 realized_by_grows (Some rs) f line here = and_then (each_realized_grows rs line here) (λ u. pure_grows)

@@ -10,7 +10,8 @@ use Rattle.pp_tree.specs.declared.statement.Link.{Link}
 use Rattle.pp_tree.specs.declared.statement.Operand as tree
 use Rattle.pp_tree.specs.declared.statement.Operand.{out-Operand}
 use Rattle.res_core.specs.declared.operand.Operand.{Operand}
-use Rattle.class_eval.specs.Chains.{related_by, related_rule, ends_from, put_relation, relate_by, relate_from, links_rule}
+use Rattle.class_eval.specs.Chains.{related_by, related_rule, ends_from, put_relation, relate_by, relate_from}
+use Rattle.class_eval.specs.Chains.{links_rule}
 use Rattle.class_eval.specs.declared.chain_end.End.{End}
 use Rattle.eval_resources.specs.Relating.{operands_rule}
 use Rattle.eval_resources.specs.Resources.{form_of}
@@ -34,7 +35,8 @@ relate_grows : (left : Option (List Operand)) (a : Arrow) (right : Option (List 
     Grows (relate_by left a right line here)
 relate_grows None a right line here = fault_grows _
 relate_grows (Some left) a None line here = fault_grows _
-relate_grows (Some left) a (Some right) line here = and_then (put_grows a left right line here) (λ u. pure_grows {a = right})
+relate_grows (Some left) a (Some right) line here =
+    and_then (put_grows a left right line here) (λ u. pure_grows {a = right})
 
 relates_grow : (left : Option (List Operand)) (ends : List End) (line : ℕ) (here : Here) →
     Grows (relate_from left ends line here)

@@ -27,16 +27,15 @@ use Rattle.eval_world.specs.Worlds.{place_at}
 use Rattle.eval_world.specs.declared.here.Here.{Here}
 use Rattle.eval_world.specs.declared.owner.Owner.{Owner}
 use Rattle.eval_world.specs.declared.world.World.{World}
-use Rattle.eval_classes.specs.Bodies.{keep, body_rule, class_body, class_by, class_rule}
-use Rattle.eval_classes.specs.Bodies.{instance_body, attributes_at, instance_by, instance_rule, instance_owner, run_item}
-use Rattle.eval_classes.specs.Bodies.{run_by, run_rule}
+use Rattle.eval_classes.specs.Bodies.{keep, body_rule, class_body, class_by, class_rule, instance_body, attributes_at}
+use Rattle.eval_classes.specs.Bodies.{instance_by, instance_rule, instance_owner, run_item, run_by, run_rule}
 use Rattle.eval_classes.specs.Definitions.{class_name, define_found, longest_way, module_of}
 use Rattle.eval_classes.specs.Entering.{enter_rule, with_body}
-use Rattle.eval_classes.specs.Included.{contain_by, require_by, relate_rule, unless_there, declared_once, include_rule, include_from}
-use Rattle.eval_classes.specs.Included.{include_names, included_by, included, names_asked}
+use Rattle.eval_classes.specs.Included.{contain_by, require_by, relate_rule, unless_there, declared_once, include_rule}
+use Rattle.eval_classes.specs.Included.{include_from, include_names, included_by, included, names_asked}
 use Rattle.eval_classes.specs.Listing.{class_names, class_item, class_reference, is_declared, declare_rule, chain_from}
-use Rattle.eval_classes.specs.Listing.{outer_scope, class_owner, enter_scope, enter_all, enter_chain, own_rule, list_rule, list_all}
-use Rattle.eval_classes.specs.Listing.{known_parent, run_all, chain_declared, class_declared}
+use Rattle.eval_classes.specs.Listing.{outer_scope, class_owner, enter_scope, enter_all, enter_chain, own_rule}
+use Rattle.eval_classes.specs.Listing.{list_rule, list_all, known_parent, run_all, chain_declared, class_declared}
 use Rattle.eval_classes.specs.OwnNames.{names_rule}
 use Rattle.eval_classes.specs.ParameterTypes.{has_type}
 use Rattle.eval_classes.specs.Parameters.{Given, is_class, data_by, default_rule, counted, or_else, data_or_default}

@@ -15,8 +15,8 @@ use Rattle.res_book.specs.declared.row.Row.{Row}
 use Rattle.res_core.specs.declared.exported.Exported.{Exported}
 use Rattle.eval_collecting.specs.Blocks.{said_at, lines_added, put_lines, mark_applied, apply_block, is_due, apply_if}
 use Rattle.eval_collecting.specs.Blocks.{block_applied}
-use Rattle.eval_collecting.specs.Importing.{item_of, declare_rule, import_rule, import_of, import_once, owner_for, import_for}
-use Rattle.eval_collecting.specs.Importing.{import_match}
+use Rattle.eval_collecting.specs.Importing.{item_of, declare_rule, import_rule, import_of, import_once, owner_for}
+use Rattle.eval_collecting.specs.Importing.{import_for, import_match}
 use Rattle.eval_collecting.specs.Matching.{takes_at, mark, take, take_if, local_match}
 use Rattle.eval_resources.specs.declared.known_kind.KnownKind.{KnownKind}
 use Rattle.eval_world.specs.Owners.{owner_at}

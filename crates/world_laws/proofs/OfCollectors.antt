@@ -19,8 +19,8 @@ use Rattle.res_core.specs.Criteria.{Criterion}
 use Rattle.res_core.specs.Lines.{Line}
 use Rattle.eval_world.specs.Inner.{Inner}
 use Rattle.eval_world.specs.declared.here.Here.{Here}
-use Rattle.eval_collectors.specs.Collectors.{register, asked, kind_by, kind_rule, of_kind, register_kind, collector_rule}
-use Rattle.eval_collectors.specs.Collectors.{of_reference, register_reference, realize_rule}
+use Rattle.eval_collectors.specs.Collectors.{register, asked, kind_by, kind_rule, of_kind, register_kind}
+use Rattle.eval_collectors.specs.Collectors.{collector_rule, of_reference, register_reference, realize_rule}
 use Rattle.eval_collectors.specs.Queries.{Asks, compare_rule, test_by, test_rule, tests_from, all_of, conjunction_rule}
 use Rattle.eval_collectors.specs.Queries.{conjunctions_from, some_of, query_within, query_levels}
 use Rattle.world_laws.specs.Extends.{RelationsGoOn}
@@ -44,7 +44,8 @@ register_grows : (x : Collector) → Grows (register x)
 unfolding register
 register_grows x = record { reaches = λ w. relations_grow w _ (one_collector x w.relations) }
 
-register_kind_grows : (kind : List ℕ) (query : Criterion) (lines : List Line) (exported : Bool) (line : ℕ) (here : Here) →
+register_kind_grows : (kind : List ℕ) (query : Criterion) (lines : List Line) (exported : Bool) (line : ℕ)
+    (here : Here) →
     Grows (register_kind kind query lines exported line here)
 unfolding register_kind
 register_kind_grows kind query lines exported line here =

@@ -26,20 +26,21 @@ use Rattle.eval_world.specs.Outcomes.{Step}
 use Rattle.eval_world.specs.Worlds.{top}
 use Rattle.eval_world.specs.declared.here.Here.{Here}
 use Rattle.class_eval.specs.Evaluating.{at_depth, value_at, block_at, node_of, has_nodes, node_owner, node_rule, chosen}
-use Rattle.class_eval.specs.Evaluating.{nodes_by, nodes_rule, main_rule, class_number, class_given, class_within, class_at}
-use Rattle.class_eval.specs.Evaluating.{instance_at}
+use Rattle.class_eval.specs.Evaluating.{nodes_by, nodes_rule, main_rule, class_number, class_given, class_within}
+use Rattle.class_eval.specs.Evaluating.{class_at, instance_at}
 use Rattle.class_eval.specs.Meaning.{value_by, value_rule, deep, one_more, within}
 use Rattle.class_eval.specs.Postfixes.{PostfixLayer, postfix_by, postfix_rule, postfixes_from, postfixed_rule}
-use Rattle.class_eval.specs.Statements.{valued, unvalued, operand_by, operand_rule, chained_by, chain_rule, statement_by}
-use Rattle.class_eval.specs.Statements.{statement_rule, or_before, statements_from}
+use Rattle.class_eval.specs.Statements.{valued, unvalued, operand_by, operand_rule, chained_by, chain_rule}
+use Rattle.class_eval.specs.Statements.{statement_by, statement_rule, or_before, statements_from}
 use Rattle.class_eval.specs.TypeNames.{there_by, named_by, type_named_rule}
 use Rattle.world_laws.specs.Growing.{Grows, GrowsInner}
 use Rattle.world_laws.proofs.OfCalls.{call_grows, method_grows, words_grow}
 use Rattle.world_laws.proofs.OfChains.{links_grow}
 use Rattle.world_laws.proofs.OfClasses.{class_declared_grows, once_grows, class_grows, instance_grows, run_grows}
 use Rattle.world_laws.proofs.OfClasses.{enter_reaches}
-use Rattle.world_laws.proofs.OfForms.{type_grows, list_grows, hash_grows, interpolated_grows, prefix_grows, binary_grows}
-use Rattle.world_laws.proofs.OfForms.{assigned_grows, if_grows, unless_grows, case_grows, selected_grows, accessed_grows}
+use Rattle.world_laws.proofs.OfForms.{type_grows, list_grows, hash_grows, interpolated_grows, prefix_grows}
+use Rattle.world_laws.proofs.OfForms.{binary_grows, assigned_grows, if_grows, unless_grows, case_grows, selected_grows}
+use Rattle.world_laws.proofs.OfForms.{accessed_grows}
 use Rattle.world_laws.proofs.OfCollectors.{collector_grows}
 use Rattle.world_laws.proofs.OfOverrides.{override_grows, defaults_grow, target_grows}
 use Rattle.world_laws.proofs.OfResources.{resource_grows}
@@ -84,7 +85,8 @@ module _ (inner : Inner) (g : GrowsInner inner) where
       Grows (postfixes_from inner v ps line here)
   unfolding postfixes_from
   postfixes_grow v [] line here = pure_grows
-  postfixes_grow v (p ∷ ps) line here = and_then (postfix_grows v p line here) (λ more. postfixes_grow more ps line here)
+  postfixes_grow v (p ∷ ps) line here =
+      and_then (postfix_grows v p line here) (λ more. postfixes_grow more ps line here)
 
   postfixed_grows : (e : Expr) (ps : List Postfix) (line : ℕ) (here : Here) →
       Grows (postfixed_rule inner e ps line here)

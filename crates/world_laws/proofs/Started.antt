@@ -43,7 +43,8 @@ pub start_placed : (w : World) (m : Environment) (node : Name) (facts : Datum) �
 start_placed w m node facts is = subst IsPlaced (sym is) (placed_first m node facts)
 
 -- after the main manifest
-pub main_placed : (w v : World) (u : Unit {0}) (main : File) (node : List ℕ) → IsPlaced w → main_rule main node w ≡ Ok (u, v) →
+pub main_placed : (w v : World) (u : Unit {0}) (main : File) (node : List ℕ) → IsPlaced w →
+    main_rule main node w ≡ Ok (u, v) →
     IsPlaced v
 main_placed w v u main node placed is =
     let extends : Extends w v = subst (Reaches w) is ((main_grows main node).reaches w) in extends.placed placed

@@ -1,5 +1,5 @@
--- How the world of a compile grows: nothing that was put into it is taken out, and nothing replaced but which parameters
--- are kept of a declaration.
+-- How the world of a compile grows: nothing that was put into it is taken out, and nothing replaced but which
+-- parameters are kept of a declaration.
 use Rattle.std.specs.Prelude.{◌≡◌, ◌≤◌, ℕ, Bool, List, [], ◌∷◌, ◌++◌, length, Some, IsSome, IsTrue, slice_get}
 use Rattle.pp_values.specs.Datum.{Datum}
 use Rattle.override_rules.specs.Defaults.{default_in, defaults_for, parent_of}

@@ -1,6 +1,7 @@
 -- The machine that a JSON value says in any spelling, as the member `machine` of a bundle, or the path of what is wrong
 -- with it. Of several such paths it is the first in the order of the members: what fails, and then the state.
-use Rattle.std.specs.Prelude.{◌≡◌, ⊤, ℕ, is_some, List, [], ◌∷◌, ◌++◌, length, codes, decimal, Option, Some, None, Result, Ok, Err, if◌then◌else◌}
+use Rattle.std.specs.Prelude.{◌≡◌, ⊤, ℕ, is_some, List, [], ◌∷◌, ◌++◌, length, codes, decimal, Option, Some, None}
+use Rattle.std.specs.Prelude.{Result, Ok, Err, if◌then◌else◌}
 use Rattle.std.specs.FinMap.{put}
 use Rattle.std.specs.Option.{ok_or}
 use Rattle.serde_json.specs.Data.{Data, Items, no_items, item, Members, no_members, member}

@@ -1,6 +1,7 @@
 -- The text of a report: compact JSON, with the members of each object in byte order. There are two versions of this
 -- form: the second is written, and both are read.
-use Rattle.std.specs.Prelude.{◌≡◌, ◌⊎◌, IsTrue, ℕ, Bool, true, false, not, ◌&&◌, ◌||◌, nat_lt, List, length, Option, None, Some, map, codes}
+use Rattle.std.specs.Prelude.{◌≡◌, ◌⊎◌, IsTrue, ℕ, Bool, true, false, not, ◌&&◌, ◌||◌, nat_lt, List, length, Option}
+use Rattle.std.specs.Prelude.{None, Some, map, codes}
 use Rattle.std.specs.List.{count_by, list_all}
 use Rattle.serde_json.specs.Data.{Data, null, boolean, string, array, object, no_members, member}
 use Rattle.serde_json.specs.View.{items_of}
@@ -98,7 +99,8 @@ first_object changed failed node lines =
 
 unfoldable pub first_data : Report → Data
 first_data r =
-    first_object (count_by has_changed r.lines) (count_by has_failed r.lines) r.node (array (items_of (map line_data r.lines)))
+    first_object (count_by has_changed r.lines) (count_by has_failed r.lines) r.node
+    (array (items_of (map line_data r.lines)))
 
 abbrev pub is_first : Report → Bool
 is_first r = list_all (λ l. not (was_noop l)) r.lines

@@ -9,7 +9,8 @@ use Rattle.agent_machine.specs.declared.call_text.CallText.{CallText}
 -- the piece, whatever follows it, compares so with the other text; or it begins the other text, and what follows the
 -- piece is to be compared with the rest
 abbrev pub Meets : List ℕ → List ℕ → Result (Bor (List ℕ)) Ordering → Type 0
-Meets piece other result = MatchResult result (λ rest. (more : List ℕ) → text_cmp (piece ++ more) other ≡ text_cmp more rest.now)
+Meets piece other result =
+    MatchResult result (λ rest. (more : List ℕ) → text_cmp (piece ++ more) other ≡ text_cmp more rest.now)
     (λ order. (more : List ℕ) → text_cmp (piece ++ more) other ≡ order)
 
 -- the text of the pieces

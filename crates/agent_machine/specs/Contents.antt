@@ -1,5 +1,6 @@
 -- The content of a machine that tells it, and what its calls do.
-use Rattle.std.specs.Prelude.{ℕ, ◌+◌, ◌-◌, ◌^◌, min, nat_eq, Bool, true, false, ◌||◌, ◌&&◌, not, if◌then◌else◌, List, ◌++◌, codes}
+use Rattle.std.specs.Prelude.{ℕ, ◌+◌, ◌-◌, ◌^◌, min, nat_eq, Bool, true, false, ◌||◌, ◌&&◌, not, if◌then◌else◌, List}
+use Rattle.std.specs.Prelude.{◌++◌, codes}
 use Rattle.std.specs.List.{list_any}
 use Rattle.pp_values.specs.Datum.{Datum}
 use Rattle.pp_values.specs.Rising.{has_text}
@@ -61,7 +62,8 @@ write_answer what name c = if write_fails what name c then wrote.Failed else wro
 
 -- another state, without a call
 abbrev pub with_state : State → Content → Content
-with_state state c = record { document = record { failing = c.document.failing; state = state }; calls = c.calls; failing = c.failing }
+with_state state c =
+    record { document = record { failing = c.document.failing; state = state }; calls = c.calls; failing = c.failing }
 
 -- the content after a write
 abbrev pub after_write : Reference → List ℕ → Datum → Content → Content

@@ -16,7 +16,8 @@ coded_document =
 abbrev pub coded_content : Coded Content
 coded_content =
     code_by (MachineDoc × (ℕ × List ℕ)) (coded× coded_document (coded× coded_ℕ (coded_list coded_ℕ)))
-    (λ c. (c.document, (c.calls, c.failing))) (λ p. record { document = p.0; calls = p.1.0; failing = p.1.1 }) (λ _. refl)
+    (λ c. (c.document, (c.calls, c.failing))) (λ p. record { document = p.0; calls = p.1.0; failing = p.1.1 })
+    (λ _. refl)
 
 abbrev pub coded_told : Coded Told
 coded_told =

@@ -1,5 +1,6 @@
 -- What contracts see of a machine, and what its calls do.
-use Rattle.std.specs.Prelude.{◌≡◌, ◌≢◌, ℕ, ◌≤◌, Bool, true, false, if◌then◌else◌, List, Option, Some, option_map, MatchOption}
+use Rattle.std.specs.Prelude.{◌≡◌, ◌≢◌, ℕ, ◌≤◌, Bool, true, false, if◌then◌else◌, List, Option, Some, option_map}
+use Rattle.std.specs.Prelude.{MatchOption}
 use Rattle.pp_values.specs.Datum.{Datum}
 use Rattle.pp_values.specs.declared.reference.Reference.{Reference}
 use Rattle.agent_machine.specs.declared.holds.Holds.{Holds}
@@ -7,7 +8,8 @@ use Rattle.agent_machine.specs.declared.holds.Holds.TheVariants as holds
 use Rattle.agent_machine.specs.declared.wrote.Wrote.{Wrote}
 use Rattle.agent_machine.specs.declared.wrote.Wrote.TheVariants as wrote
 use Rattle.agent_machine.specs.declared.machine_doc.MachineDoc.{MachineDoc}
-use Rattle.agent_machine.specs.Contents.{Content, next_count, fails, asked, holds_answer, refresh_answer, write_answer, after_write, with_state, puts, loaded}
+use Rattle.agent_machine.specs.Contents.{Content, next_count, fails, asked, holds_answer, refresh_answer, write_answer}
+use Rattle.agent_machine.specs.Contents.{after_write, with_state, puts, loaded}
 use Rattle.agent_machine.specs.States.{has, written}
 
 -- A machine tells its content, or leaves it open; and it counts faults.
@@ -49,7 +51,8 @@ Writes what name value wrote.Done before after =
     × (after.content ≡ option_map (after_write what name value) before.content) × (before.faults ≤ after.faults)
 Writes what name value wrote.Failed before after =
     IfTold before (λ c. write_answer what name c ≡ wrote.Failed)
-    × (after.content ≡ option_map (after_write what name value) before.content) × (next_count before.faults ≤ after.faults)
+    × (after.content ≡ option_map (after_write what name value) before.content)
+    × (next_count before.faults ≤ after.faults)
 Writes what name value wrote.Memory before after =
     IfTold before (λ c. puts what name value c ≡ true)
     × (after.content ≡ before.content) × (before.faults ≤ after.faults)
@@ -61,7 +64,8 @@ pub record Loads (document : MachineDoc) (before after : Told) : Type 0 where
 
 -- a machine in memory before its first call
 abbrev pub new_machine : MachineDoc → List ℕ → Told
-new_machine document failing = record { content = Some (record { document = document; calls = 0; failing = failing }); faults = 0 }
+new_machine document failing =
+    record { content = Some (record { document = document; calls = 0; failing = failing }); faults = 0 }
 
 -- whether the next call of a machine that tells its content fails
 abbrev pub FailsNext : List ℕ → Bool → Told → Type 0
@@ -69,7 +73,8 @@ FailsNext call failed m = IfTold m (λ c. failed ≡ fails call c)
 
 -- one call more, which failed or not
 abbrev pub counted : Bool → Told → Told
-counted failed m = record { content = option_map asked m.content; faults = (if failed then next_count m.faults else m.faults) }
+counted failed m =
+    record { content = option_map asked m.content; faults = (if failed then next_count m.faults else m.faults) }
 
 -- whether a resource has a property at a value
 abbrev pub Has : Reference → List ℕ → Datum → Bool → Told → Type 0

@@ -35,7 +35,8 @@ coded_status = code_by ℕ coded_ℕ number_of status_of status_back
 abbrev pub coded_line : Coded ReportLine
 coded_line =
     code_by ((Reference × Status) × (List (List ℕ) × (Bool × Option (List ℕ))))
-    (coded× (coded× coded_reference coded_status) (coded× (coded_list coded_text) (coded× coded_bool (coded_option coded_text))))
+    (coded× (coded× coded_reference coded_status)
+    (coded× (coded_list coded_text) (coded× coded_bool (coded_option coded_text))))
     (λ l. ((l.item, l.status), (l.changes, (l.refreshed, l.fault))))
     (λ p. record { item = p.0.0; status = p.0.1; changes = p.1.0; refreshed = p.1.1.0; fault = p.1.1.1 }) (λ _. refl)
 

@@ -1,5 +1,6 @@
 -- What a machine has recorded: properties by the text of a reference, such as `File[/a]`.
-use Rattle.std.specs.Prelude.{ℕ, Bool, true, false, ◌&&◌, not, if◌then◌else◌, List, [], Option, None, Some, unwrap_or, codes}
+use Rattle.std.specs.Prelude.{ℕ, Bool, true, false, ◌&&◌, not, if◌then◌else◌, List, [], Option, None, Some, unwrap_or}
+use Rattle.std.specs.Prelude.{codes}
 use Rattle.std.specs.FinMap.{find, put}
 use Rattle.std.specs.BTreeMap.{is_at}
 use Rattle.std.specs.Map.{remove_entry, set_value}

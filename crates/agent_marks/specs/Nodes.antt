@@ -47,7 +47,8 @@ pub record Pushing (old : List Bool) (before targets : List ℕ) (marks : List B
 
 -- What is marked was marked before, or arrows lead to it; and what arrows lead to next is marked, or still to be
 -- followed from the stack.
-pub record Reaching (arrows : List (ℕ × ℕ)) (old : List Bool) (from : ℕ) (marks : List Bool) (stack : List ℕ) : Type 0 where
+pub record Reaching (arrows : List (ℕ × ℕ)) (old : List Bool) (from : ℕ) (marks : List Bool) (stack : List ℕ)
+    : Type 0 where
   pub long : length marks ≡ length old
   pub keeps : (v : ℕ) → Marked old v → Marked marks v
   pub start : Marked marks from

@@ -40,7 +40,8 @@ pub record IsNew (count : ℕ) (R : ℕ → ℕ → Type 0) (m : Marking) : Type
 
 -- The table has the targets of each node, what is marked has all marked that it leads to, and the stack is empty, with
 -- room for all nodes that are not marked.
-pub record IsMarking (count : ℕ) (arrows : List (ℕ × ℕ)) (table : List (Vec ℕ Global)) (nodes : List Bool) (stack : List ℕ) (room : ℕ) : Type 0 where
+pub record IsMarking (count : ℕ) (arrows : List (ℕ × ℕ)) (table : List (Vec ℕ Global)) (nodes : List Bool)
+    (stack : List ℕ) (room : ℕ) : Type 0 where
   pub below : AllBelow arrows (nodes_of count)
   pub wide : length table ≡ nodes_of count
   pub lists : (u : ℕ) (d : Vec ℕ Global) → u < length table → (get_or table u d).items ≡ targets arrows u

@@ -1,5 +1,6 @@
 -- The run over a catalog, and what is told where there is none.
-use Rattle.std.specs.Prelude.{◌≡◌, ◌⊎◌, ℕ, List, [], ◌∷◌, ◌++◌, length, option_map, option_to_list, slice_get, Result, MatchResult}
+use Rattle.std.specs.Prelude.{◌≡◌, ◌⊎◌, ℕ, List, [], ◌∷◌, ◌++◌, length, option_map, option_to_list, slice_get, Result}
+use Rattle.std.specs.Prelude.{MatchResult}
 use Rattle.pp_values.specs.declared.reference.Reference.{Reference}
 use Rattle.rel_graph.specs.Before.{Before, Direct}
 use Rattle.rel_graph.specs.Chains.{Paired}
@@ -40,7 +41,8 @@ pub record IsRun (c : Catalog) (report : Report) (before after : Told) : Type 0 
   pub ordered : IsOrdered c.resources c.edges order
   pub node : report.node ≡ c.node
   pub lines :
-      IsRunOf (Before (containment c.resources) (relations c.edges)) (Direct (containment c.resources) (signalling c.edges))
+      IsRunOf (Before (containment c.resources) (relations c.edges))
+      (Direct (containment c.resources) (signalling c.edges))
       (tasks_at c.resources order) report.lines before after
 
 -- a run that a write broke off, for which there was no memory
@@ -48,7 +50,8 @@ pub record IsCutRun (c : Catalog) (before after : Told) : Type 0 where
   pub order : List ℕ
   pub ordered : IsOrdered c.resources c.edges order
   pub broken :
-      IsBrokenRun (Before (containment c.resources) (relations c.edges)) (Direct (containment c.resources) (signalling c.edges))
+      IsBrokenRun (Before (containment c.resources) (relations c.edges))
+      (Direct (containment c.resources) (signalling c.edges))
       (tasks_at c.resources order) before after
 
 -- With a cycle the machine is not called. Memory was wanted before the first call, or for a write.

@@ -27,7 +27,8 @@ SpreadsIf false at before after = after ≡ before
 abbrev pub IsLineBy : Marking → Marking → ℕ → Task → ReportLine → Told → Told → Type 0
 IsLineBy blocked signalled at task line before after =
     (IsMarked blocked at × (line ≡ skipped_line task.what) × (after ≡ before))
-    ⊎ (¬ (IsMarked blocked at) × ((due : Bool) × ((due ≡ true) ↔ IsMarked signalled at) × IsTurn task due line before after))
+    ⊎ (¬ (IsMarked blocked at)
+    × ((due : Bool) × ((due ≡ true) ↔ IsMarked signalled at) × IsTurn task due line before after))
 
 abbrev pub LineGives : Marking → Marking → ℕ → Task → Result ReportLine Memory → Told → Told → Type 0
 LineGives blocked signalled at task result before after =
@@ -40,7 +41,8 @@ pub record AreMarks (P : ReportLine → Bool) (R : ℕ → ℕ → Type 0) (turn
   pub marked : (x : ℕ) → IsMarked marks x ↔ Reaches P R turned x
 
 -- a run so far
-pub record Going (Comes Signals : ℕ → ℕ → Type 0) (tasks left : List (ℕ × Task)) (lines : List ReportLine) (blocked signalled : Marking) (before now : Told) : Type 0 where
+pub record Going (Comes Signals : ℕ → ℕ → Type 0) (tasks left : List (ℕ × Task)) (lines : List ReportLine)
+    (blocked signalled : Marking) (before now : Told) : Type 0 where
   pub turned : List Turned
   pub whose : map (λ t. (t.at, t.task)) turned ++ left ≡ tasks
   pub told : map (λ t. t.line) turned ≡ lines

@@ -25,7 +25,8 @@ abbrev pub OrderGives : List Held → List Edge → Result (List ℕ) RunStop �
 OrderGives resources edges result = MatchResult result (IsOrdered resources edges) (IsStop resources edges)
 
 -- The turns in their order, and the marks before the first one.
-pub record IsPrepared (resources : List Held) (edges : List Edge) (plan : List Planned) (blocked signalled : Marking) : Type 0 where
+pub record IsPrepared (resources : List Held) (edges : List Edge) (plan : List Planned)
+    (blocked signalled : Marking) : Type 0 where
   pub order : List ℕ
   pub ordered : IsOrdered resources edges order
   pub planned : map planned_pair plan ≡ tasks_at resources order

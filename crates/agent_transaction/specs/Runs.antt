@@ -1,5 +1,6 @@
 -- A run over a catalog: each resource's turn, in order.
-use Rattle.std.specs.Prelude.{◌≡◌, ◌⊎◌, ◌↔◌, ℕ, suc, Bool, true, false, ◌||◌, List, [], ◌∷◌, ◌++◌, map, if◌then◌else◌, Option, option_map, option_and_then, option_to_list, slice_get, Result, MatchResult}
+use Rattle.std.specs.Prelude.{◌≡◌, ◌⊎◌, ◌↔◌, ℕ, suc, Bool, true, false, ◌||◌, List, [], ◌∷◌, ◌++◌, map, if◌then◌else◌}
+use Rattle.std.specs.Prelude.{Option, option_map, option_and_then, option_to_list, slice_get, Result, MatchResult}
 use Rattle.std.specs.List.{Contains}
 use Rattle.pp_values.specs.declared.memory.Memory.{Memory}
 use Rattle.rel_graph.specs.Graphs.{edge_pair}

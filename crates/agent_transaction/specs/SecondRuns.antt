@@ -49,8 +49,8 @@ abbrev pub is_state : State → Bool
 is_state state = is_sorted text_cmp state
 
 -- A run that settled all has left nothing to be done: a run of the same catalog that finds the state that it left, and
--- in which no call fails, has unchanged lines alone, and leaves the document as it was. (Where a call fails, the line of
--- its resource is failed. An `exec` and a `notify` are run each time.)
+-- in which no call fails, has unchanged lines alone, and leaves the document as it was. (Where a call fails, the line
+-- of its resource is failed. An `exec` and a `notify` are run each time.)
 abbrev pub SecondRunChangesNothing : Type 0
 SecondRunChangesNothing = (c : Catalog) (first second : Report) (found left again end : Content) →
     IsCatalog c.resources c.edges → IsTrue (list_all (λ h. not (is_run h)) c.resources) →

@@ -28,7 +28,8 @@ SetsBy noop what s holds.Failed result before after = (result ≡ step.Failed (h
 -- It is asked whether a property holds, and one that differs is written.
 abbrev pub SetsRight : Bool → Reference → Setting → Step → Told → Told → Type 0
 SetsRight noop what s result before after =
-    (answer : Holds) × (asked : Told) × Asks what s.0 s.1 answer before asked × SetsBy noop what s answer result asked after
+    (answer : Holds) × (asked : Told) × Asks what s.0 s.1 answer before asked
+    × SetsBy noop what s answer result asked after
 
 -- Something is run by one refresh. With `noop` it is only told that it would be.
 abbrev pub Runs : Bool → Reference → Step → Told → Told → Type 0
@@ -46,4 +47,5 @@ RunsBy noop what s holds.Failed result before after = (result ≡ step.Failed (h
 -- It is run unless the file holds the property.
 abbrev pub RunsUnless : Bool → Reference → Reference → Setting → Step → Told → Told → Type 0
 RunsUnless noop what file s result before after =
-    (answer : Holds) × (asked : Told) × Asks file s.0 s.1 answer before asked × RunsBy noop what s answer result asked after
+    (answer : Holds) × (asked : Told) × Asks file s.0 s.1 answer before asked
+    × RunsBy noop what s answer result asked after

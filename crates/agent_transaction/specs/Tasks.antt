@@ -1,5 +1,6 @@
 -- What the turn of a resource has to do, by the resource's kind and attributes.
-use Rattle.std.specs.Prelude.{ℕ, Bool, true, false, not, ◌&&◌, if◌then◌else◌, List, [], ◌∷◌, Option, None, Some, option_map, codes}
+use Rattle.std.specs.Prelude.{ℕ, Bool, true, false, not, ◌&&◌, if◌then◌else◌, List, [], ◌∷◌, Option, None, Some}
+use Rattle.std.specs.Prelude.{option_map, codes}
 use Rattle.pp_values.specs.Datum.{Datum, flag, text}
 use Rattle.pp_values.specs.Settings.{Setting}
 use Rattle.pp_values.specs.declared.reference.Reference.{Reference}
@@ -48,7 +49,8 @@ exec_work false creates = run_unless creates
 
 -- what is done first: the properties are set right, or something is run
 abbrev pub work_of : NativeType → List Setting → Work
-work_of native.Exec attributes = exec_work (is_true (set_in attributes (codes "refreshonly"))) (set_in attributes (codes "creates"))
+work_of native.Exec attributes =
+    exec_work (is_true (set_in attributes (codes "refreshonly"))) (set_in attributes (codes "creates"))
 work_of native.Notify attributes = work.Run
 work_of n attributes = work.Set (looked_at (row n).properties attributes)
 

@@ -21,7 +21,8 @@ use Rattle.agent_transaction.specs.Steps.{SetsRight, Runs, RunsUnless}
 -- What becomes of the rest after a step: the first call that fails ends it, and so does want of memory.
 abbrev pub Goes : Step → (List (List ℕ) → Ended → Told → Type 0) → List (List ℕ) → Ended → Told → Told → Type 0
 Goes step.Kept Rest changes end now after = Rest changes end after
-Goes (step.Changed name) Rest changes end now after = (more : List (List ℕ)) × (changes ≡ name ∷ more) × Rest more end after
+Goes (step.Changed name) Rest changes end now after =
+    (more : List (List ℕ)) × (changes ≡ name ∷ more) × Rest more end after
 Goes (step.Failed fault) Rest changes end now after = (changes ≡ []) × (end ≡ ended.Failed fault) × (after ≡ now)
 Goes step.Memory Rest changes end now after = (changes ≡ []) × (end ≡ ended.Memory) × (after ≡ now)
 
@@ -49,7 +50,8 @@ Single R changes end before after = (result : Step) × R result before after × 
 abbrev pub Works : Bool → Reference → Work → List (List ℕ) → Ended → Told → Told → Type 0
 Works noop what (work.Set ss) changes end before after = SetsAll noop what ss changes end before after
 Works noop what work.Run changes end before after = Single (Runs noop what) changes end before after
-Works noop what (work.RunUnless file s) changes end before after = Single (RunsUnless noop what file s) changes end before after
+Works noop what (work.RunUnless file s) changes end before after =
+    Single (RunsUnless noop what file s) changes end before after
 Works noop what work.Idle changes end before after = IsOver before changes end after
 
 -- One refresh where signals ask for it, however many there are: whether it was refreshed, or else which call failed.
@@ -66,7 +68,8 @@ Finishes due what ended.Memory result before after = ⊥
 
 abbrev pub FinishGives : Bool → Reference → Ended → Result (Result Bool (List ℕ)) Memory → Told → Told → Type 0
 FinishGives due what end result before after =
-    MatchResult result (λ refreshed. Finishes due what end refreshed before after) (λ _. (end ≡ ended.Memory) × (after ≡ before))
+    MatchResult result (λ refreshed. Finishes due what end refreshed before after)
+    (λ _. (end ≡ ended.Memory) × (after ≡ before))
 
 -- without a failure: what was changed, and what would have been
 abbrev pub calm_status : Bool → List (List ℕ) → Status
@@ -107,7 +110,8 @@ pub record IsTurn (task : Task) (signalled : Bool) (line : ReportLine) (before a
 
 -- a turn that a write broke off, for which there was no memory
 abbrev pub IsBroken : Task → Told → Told → Type 0
-IsBroken task before after = (changes : List (List ℕ)) × Works task.noop task.what task.work changes ended.Memory before after
+IsBroken task before after =
+    (changes : List (List ℕ)) × Works task.noop task.what task.work changes ended.Memory before after
 
 abbrev pub TurnGives : Task → Bool → Result ReportLine Memory → Told → Told → Type 0
 TurnGives task signalled result before after =

@@ -5,7 +5,8 @@ use Rattle.pp_values.specs.Datum.{Datum, undef, text, list, members_of}
 use Rattle.pp_values.specs.Equal.{equal}
 use Rattle.pp_values.specs.Settings.{Setting}
 use Rattle.res_core.specs.AttributeViews.{set_in}
-use Rattle.res_core.specs.Criteria.{Criterion, Criteria, all, by_title, by_tag, by_attribute, negation, conjunction, disjunction, no_criteria, one_more}
+use Rattle.res_core.specs.Criteria.{Criterion, Criteria, all, by_title, by_tag, by_attribute, negation, conjunction}
+use Rattle.res_core.specs.Criteria.{disjunction, no_criteria, one_more}
 use Rattle.res_core.specs.TagNames.{is_tagged}
 
 -- a tag is a text, in letters of either case; no other value is one

@@ -1,7 +1,8 @@
 -- Which tag all that a query matches has.
 use Rattle.std.specs.Prelude.{ℕ, List, Option, None, Some}
 use Rattle.pp_values.specs.Datum.{Datum, text}
-use Rattle.res_core.specs.Criteria.{Criterion, Criteria, all, by_title, by_tag, by_attribute, negation, conjunction, disjunction, no_criteria, one_more}
+use Rattle.res_core.specs.Criteria.{Criterion, Criteria, all, by_title, by_tag, by_attribute, negation, conjunction}
+use Rattle.res_core.specs.Criteria.{disjunction, no_criteria, one_more}
 
 abbrev pub text_in : Datum → Option (List ℕ)
 text_in (text t) = Some t

@@ -1,6 +1,7 @@
 -- Whether a query asks for an attribute.
 use Rattle.std.specs.Prelude.{Bool, true, false, ◌||◌}
-use Rattle.res_core.specs.Criteria.{Criterion, Criteria, all, by_title, by_tag, by_attribute, negation, conjunction, disjunction, no_criteria, one_more}
+use Rattle.res_core.specs.Criteria.{Criterion, Criteria, all, by_title, by_tag, by_attribute, negation, conjunction}
+use Rattle.res_core.specs.Criteria.{disjunction, no_criteria, one_more}
 
 -- Where it doesn't, a resource matches or not whatever its attributes are.
 abbrev mutual

@@ -1,5 +1,5 @@
--- All operators over two values: the table of those that ask nothing of types, and beside it `in` and access with a data
--- type on the left.
+-- All operators over two values: the table of those that ask nothing of types, and beside it `in` and access with a
+-- data type on the left.
 use Rattle.std.specs.Prelude.{Bool, true, false, Result, Ok}
 use Rattle.std.specs.List.{list_any}
 use Rattle.pp_values.specs.declared.fault.Fault.{Fault}

@@ -1,4 +1,5 @@
--- The faults of steps, at the place of the expression: operands that an operator, or arguments that a function, does not take.
+-- The faults of steps, at the place of the expression: operands that an operator, or arguments that a function, does
+-- not take.
 use Rattle.std.specs.Prelude.{ℕ, List, Option, None, Some, Result, Ok, Err}
 use Rattle.pp_values.specs.declared.fault.Fault.{Fault}
 use Rattle.pp_values.specs.declared.fault.What.TheVariants as what

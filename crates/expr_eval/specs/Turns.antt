@@ -1,6 +1,7 @@
--- What a function calls its lambda with, turn by turn. Another number of parameters, or of arguments, and a value that is
--- neither a list nor a hash are a fault that names the function, also where there is nothing to go through.
-use Rattle.std.specs.Prelude.{ℕ, suc, ◌==◌, if◌then◌else◌, Option, None, Some, option_map, Result, List, [], ◌∷◌, length, map, codes, pos}
+-- What a function calls its lambda with, turn by turn. Another number of parameters, or of arguments, and a value that
+-- is neither a list nor a hash are a fault that names the function, also where there is nothing to go through.
+use Rattle.std.specs.Prelude.{ℕ, suc, ◌==◌, if◌then◌else◌, Option, None, Some, option_map, Result, List, [], ◌∷◌}
+use Rattle.std.specs.Prelude.{length, map, codes, pos}
 use Rattle.pp_values.specs.declared.fault.Fault.{Fault}
 use Rattle.pp_values.specs.declared.place.Place.{Place}
 use Rattle.pp_values.specs.Datum.{Datum, int, list, hash, Pair, members_of, pairs_of}

@@ -1,5 +1,5 @@
--- Data types as values. What a type's name gives is the type without arguments; `[ ]` gives a type its arguments, in the
--- place of those that it had. A class with a name, and a kind of resource with a title, are references.
+-- Data types as values. What a type's name gives is the type without arguments; `[ ]` gives a type its arguments, in
+-- the place of those that it had. A class with a name, and a kind of resource with a title, are references.
 use Rattle.std.specs.Prelude.{ℕ, Option, None, Some, Result, Ok, Err, List, [], ◌∷◌, codes}
 use Rattle.pp_values.specs.declared.fault.Fault.{Fault}
 use Rattle.pp_values.specs.declared.place.Place.{Place}

@@ -121,7 +121,7 @@ fn add_kept(
             [given, after @ ..] => {
                 rest = after;
                 if is_true(given) {
-                    out.push(copied(alloc, key, value)?)?;
+                    out.push(copy_pair(alloc, key, value)?)?;
                 }
             }
             [] => return Ok(()),
@@ -130,7 +130,7 @@ fn add_kept(
     Ok(())
 }
 
-fn copied(alloc: Global, key: &Value, value: &Value) -> Result<(Value, Value), Memory>
+fn copy_pair(alloc: Global, key: &Value, value: &Value) -> Result<(Value, Value), Memory>
     ensures { IfOk result (λ p. (view p.0 ≡ view key.now) × (view p.1 ≡ view value.now)) }
 {
     let key = copy(alloc, key)?;

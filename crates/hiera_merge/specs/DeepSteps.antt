@@ -1,5 +1,6 @@
 -- The steps in which the code joins in depth.
-use Rattle.std.specs.Prelude.{◌≡◌, ⊤, ℕ, zero, suc, ◌+◌, Bool, true, false, if◌then◌else◌, IsTrue, Option, None, Some, List, [], ◌∷◌, ◌++◌, map}
+use Rattle.std.specs.Prelude.{◌≡◌, ⊤, ℕ, zero, suc, ◌+◌, Bool, true, false, if◌then◌else◌, IsTrue, Option, None, Some}
+use Rattle.std.specs.Prelude.{List, [], ◌∷◌, ◌++◌, map}
 use Rattle.std.specs.List.{list_any}
 use Rattle.pp_values.specs.Datum.{Datum, list, hash, Pair, data_of, members_of, entries_of}
 use Rattle.pp_values.specs.Keys.{same_key, are_distinct, value_at, without_key}

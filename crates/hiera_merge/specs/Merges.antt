@@ -1,8 +1,10 @@
 -- The values that several sources have for one key, the highest first, as one value.
-use Rattle.std.specs.Prelude.{Bool, true, false, not, if◌then◌else◌, List, [], ◌∷◌, ◌++◌, Option, Some, None, option_map, unwrap_or}
+use Rattle.std.specs.Prelude.{Bool, true, false, not, if◌then◌else◌, List, [], ◌∷◌, ◌++◌, Option, Some, None}
+use Rattle.std.specs.Prelude.{option_map, unwrap_or}
 use Rattle.std.specs.List.{list_any, list_all, fold}
 use Rattle.pp_funcs.specs.Lists.{flat, flat_members, with_new}
-use Rattle.pp_values.specs.Datum.{Datum, list, hash, Entries, no_entries, entry, Pair, data_of, members_of, entries_of, pairs_of}
+use Rattle.pp_values.specs.Datum.{Datum, list, hash, Entries, no_entries, entry, Pair, data_of, members_of, entries_of}
+use Rattle.pp_values.specs.Datum.{pairs_of}
 use Rattle.pp_values.specs.Keys.{value_at, with_pair}
 use Rattle.hiera_merge.specs.declared.merge.Merge.{Merge}
 use Rattle.hiera_merge.specs.declared.merge.Merge.TheVariants as by

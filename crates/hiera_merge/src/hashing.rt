@@ -8,13 +8,13 @@ use pp_values::{Memory, Pairs, Value, copy};
 use std::alloc::Global;
 
 /// Up to how many pairs each is put after a look at all that are there.
-const FEW: usize = 16;
+const PAIRS_WITHOUT_TABLE: usize = 16;
 
 /// The pairs of these hashes. The lower's keys stand first, in their places, and the higher's values win.
 pub fn hash_merge(alloc: Global, high: &Value, lower: &[Value]) -> Result<Pairs, Memory>
     ensures { IfOk result (λ ps. ps ≡ hash_merge (view high.now ∷ views lower.now)) }
 {
-    if count_of(high).saturating_add(count_of_all(lower)) <= FEW {
+    if count_of(high).saturating_add(count_of_all(lower)) <= PAIRS_WITHOUT_TABLE {
         few_merged(alloc, high, lower)
     } else {
         many_merged(alloc, high, lower)

@@ -13,7 +13,7 @@ use pp_values::{Memory, Value, Values, copy};
 use std::alloc::Global;
 
 /// Up to how many members each is compared with all before it.
-const FEW: usize = 16;
+const COMPARED_MEMBERS: usize = 16;
 
 /// The members of all these values, those of lists within them too, each once.
 pub fn united(alloc: Global, high: &Value, lower: &[Value]) -> Result<Values, Memory>
@@ -29,7 +29,7 @@ pub fn united(alloc: Global, high: &Value, lower: &[Value]) -> Result<Values, Me
 pub fn each_once(alloc: Global, members: Vec<Value>) -> Result<Values, Memory>
     ensures { IfOk result (λ l. l ≡ fold with_new [] (views members.items)) }
 {
-    if members.len() <= FEW {
+    if members.len() <= COMPARED_MEMBERS {
         few_once(alloc, members)
     } else {
         many_once(alloc, members.as_slice())
@@ -93,7 +93,7 @@ fn add_each<'a>(members: &mut Vec<&'a Value>, items: &'a [Value]) -> Result<(), 
 fn without_repeats(alloc: Global, members: &[&Value]) -> Result<Values, Memory>
     ensures { IfOk result (λ l. l ≡ fold with_new [] (behind members.now)) }
 {
-    if members.len() <= FEW {
+    if members.len() <= COMPARED_MEMBERS {
         few_without_repeats(alloc, members)
     } else {
         many_without_repeats(alloc, members)

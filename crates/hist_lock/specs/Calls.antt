@@ -5,7 +5,9 @@ use Rattle.list_sums.specs.Counts.{times}
 
 -- of two lists one begins the other, and the third is the longer one
 abbrev pub IsLonger : {E : Type 0} → List E → List E → List E → Type 0
-IsLonger one other longer = (length other ≤ length one → (longer ≡ one) × IsPrefix other one) × (length one < length other → (longer ≡ other) × IsPrefix one other)
+IsLonger one other longer =
+    (length other ≤ length one → (longer ≡ one) × IsPrefix other one)
+    × (length one < length other → (longer ≡ other) × IsPrefix one other)
 
 -- how often these numbers have this author
 abbrev pub stands : List ℕ → Option ℕ → ℕ

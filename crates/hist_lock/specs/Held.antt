@@ -29,12 +29,14 @@ module _ {E : Type 0} where
   abbrev pub held : Held E → ℕ
   held p = length p.numbers
 
-  -- a pass of this lock without the turn, which accounts for so many of its 65,536 authors, those that can still be made included
+  -- a pass of this lock without the turn, which accounts for so many of its 65,536 authors, those that can still be
+  -- made included
   abbrev pub IsShare : LockId → ℕ → Held E → Type 0
   IsShare lock count p = (p.lock ≡ lock) × (p.turn ≡ false) × (p.room + held p ≡ count)
 
   abbrev pub first_pass : LockId → List E → Held E
-  first_pass lock now = record { lock = lock; front = now; calls = []; numbers = 0 ∷ []; room = 65535; author = 0; turn = false }
+  first_pass lock now =
+      record { lock = lock; front = now; calls = []; numbers = 0 ∷ []; room = 65535; author = 0; turn = false }
 
   abbrev pub taking : Held E → List E → Held E
   taking p now = record p { front = now; turn = true }
@@ -51,7 +53,16 @@ module _ {E : Type 0} where
   splitting p = record p { room = p.room - 1 }
 
   abbrev pub split_off : Held E → Held E
-  split_off p = record { lock = p.lock; front = p.front; calls = []; numbers = (65536 - p.room) ∷ []; room = 0; author = 65536 - p.room; turn = false }
+  split_off p =
+      record {
+        lock = p.lock;
+        front = p.front;
+        calls = [];
+        numbers = (65536 - p.room) ∷ [];
+        room = 0;
+        author = 65536 - p.room;
+        turn = false;
+      }
 
   abbrev pub note_of : Held E → Noted E
   note_of p = record { lock = p.lock; front = p.front }
@@ -60,4 +71,5 @@ module _ {E : Type 0} where
   meeting p front = record p { front = front }
 
   abbrev pub joining : Held E → Held E → List E → Held E
-  joining p q front = record p { front = front; calls = p.calls ++ q.calls; numbers = p.numbers ++ q.numbers; room = p.room + q.room }
+  joining p q front =
+      record p { front = front; calls = p.calls ++ q.calls; numbers = p.numbers ++ q.numbers; room = p.room + q.room }

@@ -23,7 +23,8 @@ pub record Fits {E : Type 0} (author : E → Option ℕ) (served : ℕ) (now : L
   pub calls : AreCalls author v.calls v.numbers now
   pub seen : (k : ℕ) → 0 < times k v.calls → k < length v.front
 
-pub record Turned {V E : Type 0} (entries : V → List E) (author : E → Option ℕ) (s : State (Option V) (View E)) : Type 0 where
+pub record Turned {V E : Type 0} (entries : V → List E) (author : E → Option ℕ) (s : State (Option V) (View E))
+    : Type 0 where
   pub served : ℕ
   pub drawn : ℕ
   -- the list now
@@ -40,4 +41,5 @@ pub record Turned {V E : Type 0} (entries : V → List E) (author : E → Option
   pub known : (k : ℕ) (e : E) (a : ℕ) → slice_get now k ≡ Some e → author e ≡ Some a → a < total held_of s.views
   pub each : (i : ℕ) (v : View E) → get_elem? s.views i ≡ some v → Fits author served now (total room_of s.views) v
   -- the value is at home and stands for the list now, or it is out with the one view that has the turn
-  pub place : ((value : V) × (s.homes ≡ some (Some value) ∷ []) × (entries value ≡ now) × (total holding s.views ≡ 0)) ⊎ ((s.homes ≡ none ∷ []) × (total holding s.views ≡ 1))
+  pub place : ((value : V) × (s.homes ≡ some (Some value) ∷ []) × (entries value ≡ now) × (total holding s.views ≡ 0))
+      ⊎ ((s.homes ≡ none ∷ []) × (total holding s.views ≡ 1))

@@ -25,10 +25,21 @@ module _ {E : Type 0} where
 
   -- the view of the first pass, of a note, and of a pass that was joined into another
   abbrev pub first_view : List E → View E
-  first_view now = record { waits = false; ticket = 0; holds = false; front = now; room = 65535; numbers = 0 ∷ []; calls = []; met = [] }
+  first_view now =
+      record {
+        waits = false;
+        ticket = 0;
+        holds = false;
+        front = now;
+        room = 65535;
+        numbers = 0 ∷ [];
+        calls = [];
+        met = [];
+      }
 
   abbrev pub note_view : List E → View E
-  note_view front = record { waits = false; ticket = 0; holds = false; front = front; room = 0; numbers = []; calls = []; met = [] }
+  note_view front =
+      record { waits = false; ticket = 0; holds = false; front = front; room = 0; numbers = []; calls = []; met = [] }
 
   abbrev pub spent : View E
   spent = note_view []

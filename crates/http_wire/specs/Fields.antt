@@ -1,5 +1,6 @@
 -- What the fields of a head say, each of them given as its name and its value without the white space around it.
-use Rattle.std.specs.Prelude.{ℕ, ◌+◌, ◌*◌, ◌-◌, ◌^◌, Bool, ◌==◌, ◌&&◌, ◌||◌, if◌then◌else◌, nat_lt, List, [], ◌∷◌, map, codes, Option, None, Some, option_and_then}
+use Rattle.std.specs.Prelude.{ℕ, ◌+◌, ◌*◌, ◌-◌, ◌^◌, Bool, ◌==◌, ◌&&◌, ◌||◌, if◌then◌else◌, nat_lt, List, [], ◌∷◌, map}
+use Rattle.std.specs.Prelude.{codes, Option, None, Some, option_and_then}
 use Rattle.std.specs.List.{list_any, slice_split}
 use Rattle.std.specs.Char.{is_ascii_digit}
 use Rattle.std.specs.Str.{str_eq_ignore_ascii_case}
@@ -24,8 +25,8 @@ first (x ∷ xs) = Some x
 
 -- ---- how long the body is
 
--- A number with one more digit. There is none where the byte is no digit, or where the number no longer fits 32 bits: more
--- digits make no number smaller.
+-- A number with one more digit. There is none where the byte is no digit, or where the number no longer fits 32 bits:
+-- more digits make no number smaller.
 abbrev pub with_digit : ℕ → ℕ → Option ℕ
 with_digit n b = if is_ascii_digit b && nat_lt (n * 10 + (b - 48)) (2 ^ 32) then Some (n * 10 + (b - 48)) else None
 
@@ -51,7 +52,8 @@ length_unless_encoded (Some encoding) lengths = None
 
 -- how many bytes the body has; none where the fields are faulty
 abbrev pub body_length : List NameAndValue → Option ℕ
-body_length fields = length_unless_encoded (first (values (codes "transfer-encoding") fields)) (values (codes "content-length") fields)
+body_length fields =
+    length_unless_encoded (first (values (codes "transfer-encoding") fields)) (values (codes "content-length") fields)
 
 -- ---- whether the connection closes
 

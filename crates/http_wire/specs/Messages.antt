@@ -1,6 +1,7 @@
 -- The requests at the front of bytes, and why bytes have no further one.
 use Rattle.std.specs.Prelude.{◌≡◌, ◌≢◌, ℕ, ◌<◌, ◌≤◌, ◌⊎◌, List, [], ◌∷◌, ◌++◌, length, take, Option, None, Some}
-use Rattle.httparse.specs.Grammar.{RequestHead, IsRequestHead, print_request, HasNoRequest, NeverHasRequest, MayBecomeRequest, EndsInTarget}
+use Rattle.httparse.specs.Grammar.{RequestHead, IsRequestHead, print_request, HasNoRequest, NeverHasRequest}
+use Rattle.httparse.specs.Grammar.{MayBecomeRequest, EndsInTarget}
 use Rattle.http_wire.specs.Fields.{fields_of, body_length, closes, seen}
 use Rattle.http_wire.specs.declared.request.HttpRequest.{HttpRequest}
 use Rattle.http_wire.specs.declared.request.H.{H}
@@ -52,9 +53,11 @@ Begins bytes (r ∷ rs) rest = (back : List ℕ) × HasNext bytes r back × Begi
 
 -- a head stands at the front, and within the limit
 abbrev pub HasHead : List ℕ → RequestHead → List ℕ → Type 0
-HasHead bytes head back = IsRequestHead head × (length (print_request head) ≤ most_head) × (bytes ≡ print_request head ++ back)
+HasHead bytes head back =
+    IsRequestHead head × (length (print_request head) ≤ most_head) × (bytes ≡ print_request head ++ back)
 
--- no head is whole, and some bytes can follow that make one, or the target is still being read, of which nothing is decided
+-- no head is whole, and some bytes can follow that make one, or the target is still being read, of which nothing is
+-- decided
 abbrev pub IsOpenHead : List ℕ → Type 0
 IsOpenHead bytes = HasNoRequest bytes × MayBecomeRequest bytes
 
@@ -68,7 +71,8 @@ IsCrowded bytes = (head : RequestHead) × (back : List ℕ) × HasHead bytes hea
 -- the head is whole, and what its fields say of the length of the body is this
 abbrev pub Announces : List ℕ → Option ℕ → List ℕ → Type 0
 Announces bytes said back =
-    (head : RequestHead) × HasHead bytes head back × (length head.fields ≤ most_fields) × (body_length (fields_of head) ≡ said)
+    (head : RequestHead) × HasHead bytes head back × (length head.fields ≤ most_fields)
+    × (body_length (fields_of head) ≡ said)
 
 -- the head is whole, and some bytes of its body are not there yet
 abbrev pub IsOpenBody : List ℕ → Type 0

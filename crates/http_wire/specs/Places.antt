@@ -2,7 +2,8 @@
 use Rattle.std.specs.Prelude.{ℕ, Bool, true, false, ◌==◌, if◌then◌else◌, List, [], ◌∷◌}
 use Rattle.httparse.specs.Grammar.{is_token_byte, is_uri_byte}
 use Rattle.http_wire.specs.declared.places.Place.{Place}
-use Rattle.http_wire.specs.declared.places.Place.TheVariants.{Blank, BlankReturn, Method, Target, Line, LineStart, LineReturn, Ended}
+use Rattle.http_wire.specs.declared.places.Place.TheVariants.{Blank, BlankReturn, Method, Target, Line, LineStart}
+use Rattle.http_wire.specs.declared.places.Place.TheVariants.{LineReturn, Ended}
 
 -- what a byte of a line leads to
 abbrev pub in_line : ℕ → Place
@@ -17,8 +18,8 @@ in_method b = if is_token_byte b then Method else if b == 32 then Target else in
 abbrev pub at_line_start : ℕ → Place
 at_line_start b = if b == 10 then Ended else if b == 13 then LineReturn else Line
 
--- Past the method and the target lines are told apart alone. What fits no method and no target is taken for a part of a line,
--- so the parser is asked at its end at the latest.
+-- Past the method and the target lines are told apart alone. What fits no method and no target is taken for a part of a
+-- line, so the parser is asked at its end at the latest.
 abbrev pub next : Place → ℕ → Place
 next Blank b = in_blank b
 next BlankReturn b = if b == 10 then Blank else Line

@@ -1,10 +1,12 @@
 -- What reading a request does to what was read, and to the source.
-use Rattle.std.specs.Prelude.{◌≡◌, ◌≢◌, ℕ, ◌+◌, ◌<◌, ◌≤◌, ◌⊎◌, List, [], ◌++◌, length, take, drop, Option, Some, None, Result, Ok, Err}
+use Rattle.std.specs.Prelude.{◌≡◌, ◌≢◌, ℕ, ◌+◌, ◌<◌, ◌≤◌, ◌⊎◌, List, [], ◌++◌, length, take, drop, Option, Some, None}
+use Rattle.std.specs.Prelude.{Result, Ok, Err}
 use Rattle.site_io.specs.Stream.{Stream, Rose, HasRead, HasFailed}
 use Rattle.httparse.specs.Grammar.{RequestHead, print_request, HasNoRequest}
 use Rattle.httparse.specs.Spans.{RequestExceeds}
 use Rattle.http_wire.specs.Fields.{NameAndValue, fields_of, body_length, closes, seen}
-use Rattle.http_wire.specs.Messages.{most_head, most_fields, HasHead, HasNext, HasNone, IsOpenHead, IsNoHead, IsCrowded, IsOpen, Refuses}
+use Rattle.http_wire.specs.Messages.{most_head, most_fields, HasHead, HasNext, HasNone, IsOpenHead, IsNoHead, IsCrowded}
+use Rattle.http_wire.specs.Messages.{IsOpen, Refuses}
 use Rattle.http_wire.specs.declared.request.HttpRequest.{HttpRequest}
 use Rattle.http_wire.specs.declared.request.H.TheVariants as h
 use Rattle.http_wire.specs.declared.request.WireStop.{WireStop}
@@ -39,8 +41,8 @@ StopsBy unread rest stop.ReadFault before after =
     HasGathered HasNone unread rest before after × IsOpen rest × Rose before.faults after.faults
 StopsBy unread rest stop.Memory before after = (more : List ℕ) × HasRead more before after
 
--- What is answered, by the bytes at hand: those that had been read before, and those that were read now. No byte is read where
--- a request is at hand.
+-- What is answered, by the bytes at hand: those that had been read before, and those that were read now. No byte is
+-- read where a request is at hand.
 abbrev pub ReadsNext : List ℕ → List ℕ → Result (Option HttpRequest) WireStop → Stream → Stream → Type 0
 ReadsNext unread rest (Ok (Some request)) before after =
     (bytes : List ℕ) × HasGathered HasNone unread bytes before after × HasNext bytes request rest
@@ -51,7 +53,8 @@ ReadsNext unread rest (Err why) before after = StopsBy unread rest why before af
 -- ---- steps
 
 -- what is kept of a head with these parts
-pub record IsKept (method path : List ℕ) (minor : ℕ) (fields : List NameAndValue) (size : ℕ) (kept : Head) : Type 0 where
+pub record IsKept (method path : List ℕ) (minor : ℕ) (fields : List NameAndValue) (size : ℕ) (kept : Head)
+    : Type 0 where
   pub method_is : kept.method ≡ method
   pub path_is : kept.path ≡ path
   pub seen_is : kept.seen ≡ seen fields
@@ -87,10 +90,12 @@ LooksWithin room bytes None = RequestExceeds room bytes
 
 -- what reading the bytes of a head came to
 abbrev pub Gathers : List ℕ → List ℕ → Gathered → Stream → Stream → Type 0
-Gathers unread rest (gathered.Found kept) before after = HasGathered HasNone unread rest before after × IsHeadOf rest kept
+Gathers unread rest (gathered.Found kept) before after =
+    HasGathered HasNone unread rest before after × IsHeadOf rest kept
 Gathers unread rest gathered.Never before after =
     HasGathered HasNone unread rest before after × (IsNoHead (take most_head rest) ⊎ IsCrowded rest)
-Gathers unread rest gathered.Full before after = HasGathered HasNone unread rest before after × (most_head ≤ length rest)
+Gathers unread rest gathered.Full before after =
+    HasGathered HasNone unread rest before after × (most_head ≤ length rest)
 Gathers unread rest gathered.Ended before after =
     HasGathered HasNone unread rest before after × (length rest < most_head) × (after.left ≡ Some [])
 Gathers unread rest gathered.Failed before after =

@@ -70,7 +70,7 @@ fn kept(
 }
 
 /// What a head that the parser found comes to.
-fn found(alloc: Global, bytes: &[u8], request: &Request<'_, '_>, size: usize) -> Look
+fn look_at_head(alloc: Global, bytes: &[u8], request: &Request<'_, '_>, size: usize) -> Look
     requires found { HoldsSomeRequest bytes.now request.now size }
     requires short { length bytes.now ≤ most_head }
     ensures { Looks bytes.now result }
@@ -108,7 +108,7 @@ fn look_within<'b>(alloc: Global, bytes: &'b [u8], room: &mut [Header<'b>]) -> O
 {
     let mut request = Request::new(room);
     match request.parse(bytes) {
-        Ok(Status::Complete(size)) => Some(found(alloc, bytes, &request, size)),
+        Ok(Status::Complete(size)) => Some(look_at_head(alloc, bytes, &request, size)),
         Ok(Status::Partial) => Some(Look::Open),
         Err(Error::TooManyHeaders) => None,
         Err(_invalid) => Some(unfinished(bytes)),

@@ -1,6 +1,7 @@
 -- Data whose text can be read back: numbers are integers of 64 bits, and the names of each object rise.
 use Rattle.std.specs.Prelude.{ℕ, Bool, true, ◌&&◌, List, [], ◌∷◌}
-use Rattle.serde_json.specs.Data.{Num, unsigned, negative, float, Data, null, boolean, number, string, array, object, Items, no_items, item, Members, no_members, member}
+use Rattle.serde_json.specs.Data.{Num, unsigned, negative, float, Data, null, boolean, number, string, array, object}
+use Rattle.serde_json.specs.Data.{Items, no_items, item, Members, no_members, member}
 use Rattle.pp_values.specs.Rising.{is_rising}
 use Rattle.json_documents.specs.SmallNumbers.{is_small}
 

@@ -1,7 +1,8 @@
 -- What each value of the language is that a document has a form of.
 use Rattle.std.specs.Prelude.{◌^◌, nat_lt, Bool, true, false, ◌&&◌, ◌||◌, ℤ, pos, negsuc, List}
 use Rattle.std.specs.List.{list_all}
-use Rattle.pp_values.specs.Datum.{Datum, undef, flag, int, text, list, hash, reference, kind, default, Data, no_data, datum, Entries, no_entries, entry, pairs_of}
+use Rattle.pp_values.specs.Datum.{Datum, undef, flag, int, text, list, hash, reference, kind, default, Data, no_data}
+use Rattle.pp_values.specs.Datum.{datum, Entries, no_entries, entry, pairs_of}
 use Rattle.pp_values.specs.Keys.{are_distinct}
 use Rattle.pp_values.specs.Kinds.{is_kind}
 use Rattle.pp_values.specs.Settings.{Setting}

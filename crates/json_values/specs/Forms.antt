@@ -1,9 +1,11 @@
 -- Which value has a form, and which value a form is of.
-use Rattle.std.specs.Prelude.{◌≡◌, ⊤, ℕ, Bool, true, false, ◌&&◌, not, if◌then◌else◌, List, [], ◌∷◌, Option, Some, None, option_map, option_and_then, Result, Ok, Err, codes}
+use Rattle.std.specs.Prelude.{◌≡◌, ⊤, ℕ, Bool, true, false, ◌&&◌, not, if◌then◌else◌, List, [], ◌∷◌, Option, Some, None}
+use Rattle.std.specs.Prelude.{option_map, option_and_then, Result, Ok, Err, codes}
 use Rattle.std.specs.Str.{bytes_eq}
 use Rattle.serde_json.specs.Data as j
 use Rattle.serde_json.specs.Find.{as_i64}
-use Rattle.pp_values.specs.Datum.{Datum, undef, flag, int, text, list, hash, reference, kind, default, Data, no_data, datum, Entries, no_entries, entry, Pair, pairs_of}
+use Rattle.pp_values.specs.Datum.{Datum, undef, flag, int, text, list, hash, reference, kind, default, Data, no_data}
+use Rattle.pp_values.specs.Datum.{datum, Entries, no_entries, entry, Pair, pairs_of}
 use Rattle.pp_values.specs.Keys.{are_distinct}
 use Rattle.pp_values.specs.Kinds.{kind_of}
 use Rattle.pp_values.specs.Plain.{is_plain_value}
@@ -63,7 +65,8 @@ three ps = None
 
 abbrev pub is_reference : Pair → Pair → Pair → Bool
 is_reference m k t =
-    is_text (codes "__ptype") m.0 && (is_text (codes "Ref") m.1 && (is_text (codes "kind") k.0 && is_text (codes "title") t.0))
+    is_text (codes "__ptype") m.0
+    && (is_text (codes "Ref") m.1 && (is_text (codes "kind") k.0 && is_text (codes "title") t.0))
 
 abbrev pub reference_in : Pair × (Pair × Pair) → Option Datum
 reference_in ms = guard (is_reference ms.0 ms.1.0 ms.1.1) (reference_of ms.1.0.1 ms.1.1.1)

@@ -2,7 +2,8 @@
 use Rattle.std.specs.Prelude.{◌≡◌, ⊤, ℤ, Option, Some, None, option_map, Result, Ok, Err}
 use Rattle.serde_json.specs.Data as j
 use Rattle.serde_json.specs.Find.{as_i64}
-use Rattle.pp_values.specs.Datum.{Datum, undef, flag, int, text, list, hash, Data, no_data, datum, Entries, no_entries, entry}
+use Rattle.pp_values.specs.Datum.{Datum, undef, flag, int, text, list, hash, Data, no_data, datum, Entries, no_entries}
+use Rattle.pp_values.specs.Datum.{entry}
 use Rattle.json_values.specs.declared.stops.Numbers.{Numbers}
 use Rattle.json_values.specs.declared.stops.Numbers.TheVariants as numbers
 use Rattle.json_values.specs.declared.stops.DataStop.{DataStop}

@@ -1,7 +1,8 @@
 -- A value as JSON.
 use Rattle.std.specs.Prelude.{ℕ, Bool, true, false, ◌&&◌, not, if◌then◌else◌, nat_eq, List, [], ◌∷◌, codes}
 use Rattle.std.specs.List.{starts_with}
-use Rattle.serde_json.specs.Data.{Data, null, boolean, number, string, array, object, Items, no_items, item, Members, no_members, member, put}
+use Rattle.serde_json.specs.Data.{Data, null, boolean, number, string, array, object, Items, no_items, item, Members}
+use Rattle.serde_json.specs.Data.{no_members, member, put}
 use Rattle.serde_json.specs.Find.{of_integer}
 use Rattle.pp_values.specs.Datum as d
 use Rattle.pp_values.specs.Datum.{Datum, Pair, Entries, no_entries, entry}
@@ -26,7 +27,8 @@ is_plain (entry k v es) = false
 -- a reference: its kind in lower case, its title as it is
 unfoldable pub reference_form : List ℕ → List ℕ → Data
 reference_form kind title =
-    object (member (codes "__ptype") (string (codes "Ref")) (member (codes "kind") (string kind) (member (codes "title") (string title) no_members)))
+    object (member (codes "__ptype") (string (codes "Ref"))
+    (member (codes "kind") (string kind) (member (codes "title") (string title) no_members)))
 
 -- a hash whose keys are no names in order: its keys and values in turn
 unfoldable pub long_form : Data → Data

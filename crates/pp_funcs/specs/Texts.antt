@@ -1,5 +1,6 @@
 -- Functions of texts. Letters and white space are ASCII's; all other characters stay as they are.
-use Rattle.std.specs.Prelude.{ℕ, ◌==◌, nat_le, Bool, ◌||◌, ◌&&◌, if◌then◌else◌, Result, Ok, Err, List, [], ◌∷◌, ◌++◌, codes}
+use Rattle.std.specs.Prelude.{ℕ, ◌==◌, nat_le, Bool, ◌||◌, ◌&&◌, if◌then◌else◌, Result, Ok, Err, List, [], ◌∷◌, ◌++◌}
+use Rattle.std.specs.Prelude.{codes}
 use Rattle.std.specs.List.{flat_map, join_by}
 use Rattle.std.specs.Str.{str_to_ascii_uppercase, str_to_ascii_lowercase}
 use Rattle.pp_values.specs.Datum.{Datum, text}

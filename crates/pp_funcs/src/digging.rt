@@ -14,7 +14,7 @@ pub fn dig(alloc: Global, args: &[Value]) -> Result<Value, Halt>
     ensures { Gives result (dig (views args.now)) }
 {
     match args {
-        [whole, keys @ ..] => match found(whole, keys) {
+        [whole, keys @ ..] => match find_within(whole, keys) {
             Ok(value) => Ok(copy_or_undef(alloc, value)?),
             Err(refusal) => Err(Halt::Refused(refusal)),
         },
@@ -23,7 +23,7 @@ pub fn dig(alloc: Global, args: &[Value]) -> Result<Value, Halt>
 }
 
 /// The value that the keys lead to, if there is one.
-fn found<'a>(whole: &'a Value, keys: &[Value]) -> Result<Option<&'a Value>, Refusal>
+fn find_within<'a>(whole: &'a Value, keys: &[Value]) -> Result<Option<&'a Value>, Refusal>
     ensures { Finds result (in_turn further (view whole.now) (views keys.now)) }
 {
     let mut value = whole;

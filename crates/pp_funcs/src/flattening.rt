@@ -55,10 +55,10 @@ fn flattened(alloc: Global, items: &[Value]) -> Result<Values, Memory>
 {
     let mut found = Vec::new(alloc);
     add_flat(&mut found, items)?;
-    copied(alloc, found.as_slice())
+    copy_members(alloc, found.as_slice())
 }
 
-fn copied(alloc: Global, items: &[&Value]) -> Result<Values, Memory>
+fn copy_members(alloc: Global, items: &[&Value]) -> Result<Values, Memory>
     ensures { IfOk result (λ l. l ≡ behind items.now) }
 {
     let mut out = Values::new(alloc);

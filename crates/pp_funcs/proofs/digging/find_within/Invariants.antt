@@ -3,7 +3,7 @@ use Rattle.std.proofs.Common.{◌≡◌, drop}
 use Rattle.pp_values.specs.Answers.{in_turn}
 use Rattle.pp_values.specs.Views.{view, views}
 use Rattle.pp_funcs.specs.Digging.{further}
-use Rattle.pp_funcs.proofs.digging.found.Given as goal
+use Rattle.pp_funcs.proofs.digging.find_within.Given as goal
 
 abbrev pub invariant-loop-key : goal.invariant-loop-key
 invariant-loop-key l =

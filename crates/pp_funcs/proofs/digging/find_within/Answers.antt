@@ -8,7 +8,7 @@ use Rattle.pp_values.specs.Datum.{Datum, undef}
 use Rattle.pp_values.specs.Views.{view}
 use Rattle.pp_funcs.specs.declared.refusal.Refusal.{Refusal}
 use Rattle.pp_funcs.proofs.Steps.{goes_on, finds_none, refuses, ends}
-use Rattle.pp_funcs.proofs.digging.found.Goals as goal
+use Rattle.pp_funcs.proofs.digging.find_within.Goals as goal
 
 abbrev told : Option (Bor Value) → Result Datum Refusal
 told o = Ok (unwrap_or (option_map (λ v. view v.now) o) undef)

@@ -1,5 +1,6 @@
 -- White space, comments and lines. A text is the list of its bytes.
-use Rattle.std.specs.Prelude.{ℕ, zero, suc, ◌+◌, ◌-◌, Bool, false, ◌&&◌, ◌||◌, if◌then◌else◌, ◌==◌, List, [], ◌∷◌, drop, slice_index, Option, Some, None}
+use Rattle.std.specs.Prelude.{ℕ, zero, suc, ◌+◌, ◌-◌, Bool, false, ◌&&◌, ◌||◌, if◌then◌else◌, ◌==◌, List, [], ◌∷◌, drop}
+use Rattle.std.specs.Prelude.{slice_index, Option, Some, None}
 use Rattle.std.specs.Char.{is_ascii_alphanumeric}
 use Rattle.std.specs.List.{prefix_len}
 
@@ -29,8 +30,8 @@ abbrev pub some_or_zero : Option ℕ → ℕ
 some_or_zero None = 0
 some_or_zero (Some n) = n
 
--- The length of the white space or the comment at the front of a text, or 0 where there is none. A comment goes from `#`
--- to the end of its line, or from `/*` to the first `*/` behind it.
+-- The length of the white space or the comment at the front of a text, or 0 where there is none. A comment goes from
+-- `#` to the end of its line, or from `/*` to the first `*/` behind it.
 unfoldable pub blank_len : List ℕ → ℕ
 blank_len z =
     if is_white (slice_index z 0) then prefix_len is_white z

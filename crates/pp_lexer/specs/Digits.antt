@@ -1,5 +1,6 @@
 -- What digits say.
-use Rattle.std.specs.Prelude.{ℕ, ℤ, ◌+◌, ◌*◌, pos, Bool, ◌&&◌, if◌then◌else◌, ◌==◌, nat_lt, nat_le, List, [], ◌∷◌, length, drop, slice_index, Option, Some, None, option_and_then}
+use Rattle.std.specs.Prelude.{ℕ, ℤ, ◌+◌, ◌*◌, pos, Bool, ◌&&◌, if◌then◌else◌, ◌==◌, nat_lt, nat_le, List, [], ◌∷◌}
+use Rattle.std.specs.Prelude.{length, drop, slice_index, Option, Some, None, option_and_then}
 use Rattle.std.specs.Char.{is_ascii_digit, digit_value}
 
 -- the greatest number, 2^63 - 1

@@ -1,5 +1,6 @@
 -- What texts say: their bytes, with escapes in place of what they stand for.
-use Rattle.std.specs.Prelude.{◌≡◌, ℕ, zero, suc, ◌+◌, ◌-◌, ◌<◌, ◌≤◌, ◌&&◌, ◌||◌, if◌then◌else◌, ◌==◌, nat_lt, nat_le, List, [], ◌∷◌, ◌++◌, length, take, drop, slice_index, Option, Some, None, MatchOption}
+use Rattle.std.specs.Prelude.{◌≡◌, ℕ, zero, suc, ◌+◌, ◌-◌, ◌<◌, ◌≤◌, ◌&&◌, ◌||◌, if◌then◌else◌, ◌==◌, nat_lt, nat_le}
+use Rattle.std.specs.Prelude.{List, [], ◌∷◌, ◌++◌, length, take, drop, slice_index, Option, Some, None, MatchOption}
 use Rattle.std.specs.Char.{encode_utf8, is_ascii_hexdigit}
 use Rattle.std.specs.List.{prefix_len}
 use lib.Utf8.{scalar}
@@ -62,7 +63,8 @@ unfoldable pub double : List ℕ → Escape
 double z =
     if slice_index z 0 == 117 then unicode (drop 1 z)
     else (if slice_index z 0 == 10 then escape_of None 1
-    else (if slice_index z 0 == 13 && slice_index z 1 == 10 then escape_of None 2 else naming 1 (double_letter (slice_index z 0))))
+    else (if slice_index z 0 == 13 && slice_index z 1 == 10 then escape_of None 2
+    else naming 1 (double_letter (slice_index z 0))))
 
 -- ---- a whole text
 

@@ -57,4 +57,5 @@ is_on_line _ = false
 -- what stands on one line, and a comment from `#` on, in which a line feed is the last byte
 pub record HasLines (text : List ℕ) (f : Found) : Type 0 where
   pub one : is_on_line f ≡ true → (line : ℕ) → line_at line text ≡ line
-  pub comment : f ≡ found.Blank → slice_index text 0 ≡ 35 → (line : ℕ) → line_at line text ≡ line_after line (slice_index text (length text - 1))
+  pub comment : f ≡ found.Blank → slice_index text 0 ≡ 35 → (line : ℕ) →
+      line_at line text ≡ line_after line (slice_index text (length text - 1))

@@ -1,5 +1,6 @@
 -- Punctuation.
-use Rattle.std.specs.Prelude.{◌≡◌, ℕ, ◌-◌, Bool, true, ◌&&◌, if◌then◌else◌, nat_eq, nat_lt, List, [], ◌∷◌, length, map, slice_index}
+use Rattle.std.specs.Prelude.{◌≡◌, ℕ, ◌-◌, Bool, true, ◌&&◌, if◌then◌else◌, nat_eq, nat_lt, List, [], ◌∷◌, length, map}
+use Rattle.std.specs.Prelude.{slice_index}
 use Rattle.std.specs.List.{list_all, starts_with}
 use Rattle.pp_lexer.specs.Fronts.{mark, bad}
 use Rattle.pp_lexer.specs.declared.front.Front.{Front}
@@ -11,7 +12,8 @@ abbrev pub first_mark : List (List ℕ × Kind) → List ℕ → Front
 first_mark [] z = bad z
 first_mark (m ∷ ms) z = if starts_with nat_eq z m.0 then mark m.1 (length m.0) else first_mark ms z
 
--- The punctuation at the front of a text: the first of the table, in which no mark stands behind one that it begins with.
+-- The punctuation at the front of a text: the first of the table, in which no mark stands behind one that it begins
+-- with.
 unfoldable pub punctuation : List ℕ → Front
 punctuation = first_mark (map (λ m. (m.0.now, m.1)) MARKS)
 

@@ -9,7 +9,8 @@ use Rattle.pp_lexer.specs.declared.front.Found.TheVariants as found
 
 -- All letters, digits and `_` that follow a digit belong to its number.
 unfoldable pub number : List ℕ → Front
-number z = let len = prefix_len is_word z in number_of z len (if is_fraction (drop len z) then None else number_value (take len z))
+number z = let len = prefix_len is_word z in
+    number_of z len (if is_fraction (drop len z) then None else number_value (take len z))
   where
     number_of : List ℕ → ℕ → Option ℕ → Front
     number_of z len None = bad z

@@ -12,4 +12,7 @@ pub record Token : Type 0 where
 
 -- how a proof tells tokens apart, where it tells their kinds apart
 abbrev pub token_code : Coded Kind → Coded Token
-token_code kinds = code_by (Kind × (List ℕ × (ℕ × ℤ))) (coded× kinds (coded× (coded_list coded_ℕ) (coded× coded_ℕ coded_ℤ))) (λ t. (t.kind, (t.text, (t.line, t.number)))) (λ p. record { kind = p.0; text = p.1.0; line = p.1.1.0; number = p.1.1.1 }) (λ _. refl)
+token_code kinds =
+    code_by (Kind × (List ℕ × (ℕ × ℤ))) (coded× kinds (coded× (coded_list coded_ℕ) (coded× coded_ℕ coded_ℤ)))
+    (λ t. (t.kind, (t.text, (t.line, t.number))))
+    (λ p. record { kind = p.0; text = p.1.0; line = p.1.1.0; number = p.1.1.1 }) (λ _. refl)

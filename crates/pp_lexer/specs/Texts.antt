@@ -1,5 +1,6 @@
 -- Texts in quotes: where they and their parts end.
-use Rattle.std.specs.Prelude.{ℕ, ◌+◌, Bool, true, false, ◌&&◌, ◌||◌, if◌then◌else◌, ◌==◌, List, [], ◌∷◌, drop, length, slice_index, Option, Some, None}
+use Rattle.std.specs.Prelude.{ℕ, ◌+◌, Bool, true, false, ◌&&◌, ◌||◌, if◌then◌else◌, ◌==◌, List, [], ◌∷◌, drop, length}
+use Rattle.std.specs.Prelude.{slice_index, Option, Some, None}
 use Rattle.pp_lexer.specs.Fronts.{front, mark}
 use Rattle.pp_lexer.specs.Words.{begins_word, word_len}
 use Rattle.pp_lexer.specs.declared.front.Found.TheVariants as found

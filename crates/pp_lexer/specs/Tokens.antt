@@ -1,5 +1,6 @@
 -- The tokens of a text. A text is the list of its bytes.
-use Rattle.std.specs.Prelude.{ℕ, ℤ, pos, zero, suc, ◌-◌, Bool, true, false, not, if◌then◌else◌, ◌==◌, List, [], ◌∷◌, ◌++◌, length, take, drop, slice_index, slice_get, Option, Some, None, Result, Ok, Err}
+use Rattle.std.specs.Prelude.{ℕ, ℤ, pos, zero, suc, ◌-◌, Bool, true, false, not, if◌then◌else◌, ◌==◌, List, [], ◌∷◌}
+use Rattle.std.specs.Prelude.{◌++◌, length, take, drop, slice_index, slice_get, Option, Some, None, Result, Ok, Err}
 use Rattle.std.specs.Char.{is_ascii_digit}
 use Rattle.pp_values.specs.declared.fault.Fault.{Fault}
 use Rattle.pp_values.specs.declared.fault.What.TheVariants.{Syntax}
@@ -46,7 +47,8 @@ in_code z =
 -- `[` directly behind a token, `}` that ends an interpolation, and `|` before `{` are kinds of their own.
 abbrev pub kind_in_place : Mode → List Open → List ℕ → Kind → Kind
 kind_in_place modes.AfterToken nest behind kinds.OpenBracket = kinds.TightBracket
-kind_in_place mode nest behind kinds.CloseBrace = if in_interpolation nest then kinds.InterpolationEnd else kinds.CloseBrace
+kind_in_place mode nest behind kinds.CloseBrace =
+    if in_interpolation nest then kinds.InterpolationEnd else kinds.CloseBrace
 kind_in_place mode nest behind kinds.Bar = if meets_brace 0 behind then kinds.LastBar else kinds.Bar
 kind_in_place mode nest behind kind = kind
 
@@ -109,14 +111,15 @@ abbrev pub at_end : Mode → ℕ → List Token
 at_end modes.Inside line = token kinds.Unclosed [] line ∷ []
 at_end _ line = []
 
--- The tokens from a place on, by its line, what is behind it and the open braces. The number counts the bytes that are left
--- of what stands before.
+-- The tokens from a place on, by its line, what is behind it and the open braces. The number counts the bytes that are
+-- left of what stands before.
 abbrev pub tokens_from : ℕ → Mode → List Open → ℕ → List ℕ → List Token
 tokens_from line mode nest left [] = at_end mode line
 tokens_from line mode nest (suc left) (b ∷ z) = tokens_from (line_after line b) mode nest left z
 tokens_from line mode nest zero (b ∷ z) =
     let f = front_at mode nest (b ∷ z) in
-    emitted line f.found (take f.len (b ∷ z)) ++ tokens_from (line_after line b) (mode_after f.found) (open_after f.found nest) (f.len - 1) z
+    emitted line f.found (take f.len (b ∷ z))
+    ++ tokens_from (line_after line b) (mode_after f.found) (open_after f.found nest) (f.len - 1) z
 
 unfoldable pub tokens : List ℕ → List Token
 tokens = tokens_from 1 modes.AfterBlank [] 0

@@ -1,5 +1,6 @@
 -- Names, types and variables.
-use Rattle.std.specs.Prelude.{ℕ, ◌+◌, Bool, true, false, ◌&&◌, ◌||◌, if◌then◌else◌, ◌==◌, List, [], ◌∷◌, take, drop, length, map, slice_index}
+use Rattle.std.specs.Prelude.{ℕ, ◌+◌, Bool, true, false, ◌&&◌, ◌||◌, if◌then◌else◌, ◌==◌, List, [], ◌∷◌, take, drop}
+use Rattle.std.specs.Prelude.{length, map, slice_index}
 use Rattle.std.specs.Char.{is_ascii_lowercase, is_ascii_uppercase}
 use Rattle.std.specs.List.{list_any}
 use Rattle.std.specs.Str.{bytes_eq}
@@ -13,8 +14,8 @@ use Rattle.pp_lexer.specs.declared.words.TheConstants.{WORDS}
 use Rattle.pp_lexer.specs.declared.words.WordSort.{WordSort}
 use Rattle.pp_lexer.specs.declared.words.WordSort.TheVariants as sorts
 
--- A segment of a type begins with a capital, and one of a name or a variable with a lower-case letter or `_`. It goes on
--- with letters, digits and `_`.
+-- A segment of a type begins with a capital, and one of a name or a variable with a lower-case letter or `_`. It goes
+-- on with letters, digits and `_`.
 abbrev pub begins_segment : WordSort → ℕ → Bool
 begins_segment sorts.Type b = is_ascii_uppercase b
 begins_segment sorts.Name b = is_ascii_lowercase b || b == 95
@@ -26,9 +27,11 @@ takes_dash sorts.Variable = false
 takes_dash sorts.Name = true
 takes_dash sorts.Type = true
 
--- Whether this byte belongs to a word, by those behind it. `::` stands between segments, and may stand before the first.
+-- Whether this byte belongs to a word, by those behind it. `::` stands between segments, and may stand before the
+-- first.
 abbrev pub continues_word : WordSort → ℕ → List ℕ → Bool
-continues_word sort b z = is_word b || (takes_dash sort && b == 45 && is_word (slice_index z 0)) || (b == 58 && slice_index z 0 == 58 && begins_segment sort (slice_index z 1))
+continues_word sort b z = is_word b || (takes_dash sort && b == 45 && is_word (slice_index z 0))
+    || (b == 58 && slice_index z 0 == 58 && begins_segment sort (slice_index z 1))
 
 -- The place behind a word. The flag says that the next byte is the second of `::`.
 abbrev pub word_end : WordSort → Bool → ℕ → List ℕ → ℕ
@@ -37,7 +40,9 @@ word_end sort true at (b ∷ z) = word_end sort false (at + 1) z
 word_end sort false at (b ∷ z) = if continues_word sort b z then word_end sort (b == 58) (at + 1) z else at
 
 abbrev pub begins_word : WordSort → List ℕ → Bool
-begins_word sort z = begins_segment sort (slice_index z 0) || (slice_index z 0 == 58 && slice_index z 1 == 58 && begins_segment sort (slice_index z 2))
+begins_word sort z =
+    begins_segment sort (slice_index z 0)
+    || (slice_index z 0 == 58 && slice_index z 1 == 58 && begins_segment sort (slice_index z 2))
 
 -- the length of a word that begins here
 abbrev pub word_len : WordSort → List ℕ → ℕ
@@ -70,4 +75,5 @@ variable_kind z = if list_any (λ b. b == 58) z then kinds.QualifiedVariable els
 unfoldable pub variable : List ℕ → Front
 variable z =
     let len = word_len sorts.Variable (drop 1 z) in
-    if begins_word sorts.Variable (drop 1 z) then front (found.Dollar (variable_kind (take len (drop 1 z)))) (len + 1) else bad z
+    if begins_word sorts.Variable (drop 1 z) then front (found.Dollar (variable_kind (take len (drop 1 z)))) (len + 1)
+    else bad z

@@ -7,7 +7,7 @@ use crate::tokens::Tokens;
 use std::marker::Model;
 
 /// After as many tokens their memory is given back.
-const SOME: usize = 4096;
+const TOKENS_BETWEEN_RETURNS: usize = 4096;
 
 /// The tokens of a file that are left. What was taken gives its memory back, so that a long text does not hold all of its
 /// tokens until its tree is there.
@@ -59,7 +59,7 @@ impl<'a> Queue<'a> {
     pub fn take(&mut self) -> Option<Token<'a>>
         ensures { MatchOption result ((self.old ≡ []) × (self.new ≡ [])) (λ t. self.old ≡ t ∷ self.new) }
     {
-        if self.behind.len() % SOME == 0 {
+        if self.behind.len() % TOKENS_BETWEEN_RETURNS == 0 {
             self.behind.shrink_to_fit();
         }
         self.behind.pop()

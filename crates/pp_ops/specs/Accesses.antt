@@ -1,5 +1,6 @@
 -- Access to a list or a hash: `value[arguments]`.
-use Rattle.std.specs.Prelude.{ℕ, suc, ◌+◌, ◌-◌, nat_lt, if◌then◌else◌, Option, None, Result, Ok, Err, List, [], ◌∷◌, length, ℤ, pos, negsuc, slice_get}
+use Rattle.std.specs.Prelude.{ℕ, suc, ◌+◌, ◌-◌, nat_lt, if◌then◌else◌, Option, None, Result, Ok, Err, List, [], ◌∷◌}
+use Rattle.std.specs.Prelude.{length, ℤ, pos, negsuc, slice_get}
 use Rattle.std.specs.Option.{unwrap_or}
 use Rattle.std.proofs.Common.{take, drop}
 use Rattle.pp_values.specs.Datum.{Datum, undef, int, list, hash, Pair, members_of, pairs_of}

@@ -1,5 +1,6 @@
 -- Integers of 64 bits: a result beyond them is a refusal, division rounds down, and `%` has the divisor's sign.
-use Rattle.std.specs.Prelude.{ℕ, zero, suc, ◌-◌, ◌/◌, ◌%◌, ◌^◌, nat_lt, Bool, true, false, if◌then◌else◌, Option, None, Some, Result, Ok, Err, ℤ, pos, negsuc, neg_ℤ, ◌*ℤ◌}
+use Rattle.std.specs.Prelude.{ℕ, zero, suc, ◌-◌, ◌/◌, ◌%◌, ◌^◌, nat_lt, Bool, true, false, if◌then◌else◌, Option, None}
+use Rattle.std.specs.Prelude.{Some, Result, Ok, Err, ℤ, pos, negsuc, neg_ℤ, ◌*ℤ◌}
 use Rattle.pp_values.specs.Datum.{Datum, int}
 use Rattle.pp_ops.specs.declared.refusal.Refusal.{Refusal}
 use Rattle.pp_ops.specs.declared.refusal.Refusal.TheVariants.{Operand, Range, Zero}

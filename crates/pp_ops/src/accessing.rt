@@ -80,10 +80,10 @@ fn part(alloc: Global, items: &[Value], from: i64, count: i64) -> Result<Values,
 {
     let end = end_within(from, count, items.len());
     let first = first_place(from, items.len()).min(end);
-    copied(alloc, &items[first..end])
+    copy_members(alloc, &items[first..end])
 }
 
-fn copied(alloc: Global, items: &[Value]) -> Result<Values, Memory>
+fn copy_members(alloc: Global, items: &[Value]) -> Result<Values, Memory>
     ensures { IfOk result (λ l. l ≡ views items.now) }
 {
     let mut out = Values::new(alloc);

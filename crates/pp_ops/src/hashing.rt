@@ -96,11 +96,11 @@ fn add_pair(
 ) -> Result<(), Memory>
     ensures { OnOk result (pair_views out.new.items ≡ pair_views out.old.items ++ (view key.now, view value.now) ∷ []) }
 {
-    out.push(copied(alloc, key, value)?)?;
+    out.push(copy_pair(alloc, key, value)?)?;
     Ok(())
 }
 
-fn copied(alloc: Global, key: &Value, value: &Value) -> Result<(Value, Value), Memory>
+fn copy_pair(alloc: Global, key: &Value, value: &Value) -> Result<(Value, Value), Memory>
     ensures { IfOk result (λ p. (view p.0 ≡ view key.now) × (view p.1 ≡ view value.now)) }
 {
     let key = copy(alloc, key)?;

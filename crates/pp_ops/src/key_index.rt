@@ -13,7 +13,7 @@ use std::alloc::Global;
 use std::collections::BTreeMap;
 
 /// Up to how many pairs are gone over for each key that is asked for.
-const FEW: usize = 8;
+const PAIRS_WITHOUT_INDEX: usize = 8;
 
 /// The values of a hash by key.
 #[derive(Drop)]
@@ -34,7 +34,7 @@ impl<'a> Keyed<'a> {
     pub fn new(alloc: Global, pairs: &'a Pairs, count: usize) -> Result<Keyed<'a>, Memory>
         ensures { IfOk result (λ t. (k : Datum) → told t k ≡ value_at k pairs.now) }
     {
-        if pairs.len() <= FEW || count <= FEW {
+        if pairs.len() <= PAIRS_WITHOUT_INDEX || count <= PAIRS_WITHOUT_INDEX {
             return Ok(Keyed::Few(pairs));
         }
         Ok(Keyed::Many(KeyIndex::of_pairs(alloc, pairs.as_slice())?))

@@ -1,6 +1,8 @@
 -- Words for the trees that a definition makes: one for each struct, which takes the fields in their order.
--- A struct that contains itself is rolled up from the record of its fields, and `out-Expr` and its like open one level again.
--- The variants of an enum are the constructors of its `TheVariants`, as `Rattle.pp_tree.specs.declared.expr.Form.TheVariants`.
+-- A struct that contains itself is rolled up from the record of its fields, and `out-Expr` and its like open one level
+-- again.
+-- The variants of an enum are the constructors of its `TheVariants`, as
+-- `Rattle.pp_tree.specs.declared.expr.Form.TheVariants`.
 use Rattle.std.specs.Prelude.{ℕ, Bool, List, Option}
 use Rattle.pp_tree.specs.declared.collector.Collector.{Collector, roll-Collector}
 use Rattle.pp_tree.specs.declared.collector.Comparison.{Comparison}
@@ -78,13 +80,15 @@ param kind name default at = record { kind = kind; name = name; default = defaul
 
 -- conditions
 abbrev pub if_of : Expr → Block → List Elsif → Option Block → If
-if_of condition block elsifs otherwise = roll-If (record { condition = condition; block = block; elsifs = elsifs; otherwise = otherwise })
+if_of condition block elsifs otherwise =
+    roll-If (record { condition = condition; block = block; elsifs = elsifs; otherwise = otherwise })
 
 abbrev pub elsif : Expr → Block → Elsif
 elsif condition block = roll-Elsif (record { condition = condition; block = block })
 
 abbrev pub unless_of : Expr → Block → Option Block → Unless
-unless_of condition block otherwise = roll-Unless (record { condition = condition; block = block; otherwise = otherwise })
+unless_of condition block otherwise =
+    roll-Unless (record { condition = condition; block = block; otherwise = otherwise })
 
 abbrev pub case_of : Expr → List CaseOption → Case
 case_of control options = roll-Case (record { control = control; options = options })
@@ -126,7 +130,8 @@ defaults kind attributes at = record { kind = kind; attributes = attributes; at 
 
 -- collectors
 abbrev pub collector : Text → Bool → Option Query → Attributes → ℕ → Collector
-collector kind exported query attributes at = roll-Collector (record { kind = kind; exported = exported; query = query; attributes = attributes; at = at })
+collector kind exported query attributes at =
+    roll-Collector (record { kind = kind; exported = exported; query = query; attributes = attributes; at = at })
 
 abbrev pub query : List Conjunction → Query
 query conjunctions = roll-Query (record { conjunctions = conjunctions })
@@ -142,7 +147,8 @@ abbrev pub name_at : Text → ℕ → Name
 name_at text at = record { text = text; at = at }
 
 abbrev pub class_of : Name → List (Param Expr) → Option Name → Block → ℕ → Class
-class_of name params inherits block at = record { name = name; params = params; inherits = inherits; block = block; at = at }
+class_of name params inherits block at =
+    record { name = name; params = params; inherits = inherits; block = block; at = at }
 
 abbrev pub define_of : Name → List (Param Expr) → Block → ℕ → Define
 define_of name params block at = record { name = name; params = params; block = block; at = at }

@@ -1,5 +1,6 @@
--- One level of a tree: what a definition by cases on a form, a statement, an operand or a test goes by. `out-Form` and its like
--- open it, and the cases are the constructors of `Form-F` and its like. What stands within it is of the types of the tree again.
+-- One level of a tree: what a definition by cases on a form, a statement, an operand or a test goes by. `out-Form` and
+-- its like open it, and the cases are the constructors of `Form-F` and its like. What stands within it is of the types
+-- of the tree again.
 use Rattle.pp_tree.specs.declared.collector.Collector.{Collector}
 use Rattle.pp_tree.specs.declared.collector.Conjunction.{Conjunction}
 use Rattle.pp_tree.specs.declared.collector.Query.{Query}
@@ -23,13 +24,21 @@ use Rattle.pp_tree.specs.declared.statement.Statement.{Statement}
 pub use Rattle.pp_tree.specs.declared.statement.Statement.{out-Statement}
 
 abbrev pub FormLayer : Type 0
-FormLayer = Form-F Test Form Postfix Operand Statement Collector Conjunction Query Case CaseOption Elsif If Unless Call Expr Lambda
+FormLayer =
+    Form-F Test Form Postfix Operand Statement Collector Conjunction Query Case CaseOption Elsif If Unless Call Expr
+    Lambda
 
 abbrev pub StatementLayer : Type 0
-StatementLayer = Statement-F Test Form Postfix Operand Statement Collector Conjunction Query Case CaseOption Elsif If Unless Call Expr Lambda
+StatementLayer =
+    Statement-F Test Form Postfix Operand Statement Collector Conjunction Query Case CaseOption Elsif If Unless Call
+    Expr Lambda
 
 abbrev pub OperandLayer : Type 0
-OperandLayer = Operand-F Test Form Postfix Operand Statement Collector Conjunction Query Case CaseOption Elsif If Unless Call Expr Lambda
+OperandLayer =
+    Operand-F Test Form Postfix Operand Statement Collector Conjunction Query Case CaseOption Elsif If Unless Call Expr
+    Lambda
 
 abbrev pub TestLayer : Type 0
-TestLayer = Test-F Test Form Postfix Operand Statement Collector Conjunction Query Case CaseOption Elsif If Unless Call Expr Lambda
+TestLayer =
+    Test-F Test Form Postfix Operand Statement Collector Conjunction Query Case CaseOption Elsif If Unless Call Expr
+    Lambda

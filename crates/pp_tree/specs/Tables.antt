@@ -1,5 +1,6 @@
 -- The table of a file's definitions.
-use Rattle.std.specs.Prelude.{ℕ, suc, List, [], ◌∷◌, ◌++◌, ◌≡◌, Option, None, Some, Result, Ok, Err, is_some, if◌then◌else◌, map}
+use Rattle.std.specs.Prelude.{ℕ, suc, List, [], ◌∷◌, ◌++◌, ◌≡◌, Option, None, Some, Result, Ok, Err, is_some}
+use Rattle.std.specs.Prelude.{if◌then◌else◌, map}
 use Rattle.std.specs.Map.{lookup}
 use Rattle.std.specs.BTreeMap.{BTreeMap, get}
 use Rattle.std.specs.Option.{option_map}
@@ -54,7 +55,8 @@ all_rows (x ∷ xs) = rows_of x ++ all_rows xs
 unfoldable pub table_from : Entries → List Row → Result Entries TableStop
 table_from done [] = Ok done
 table_from done (r ∷ rs) =
-    if is_some (lookup (same_name r.name) done) then Err (Doubled r.at) else table_from (done ++ (r.name, r.definition) ∷ []) rs
+    if is_some (lookup (same_name r.name) done) then Err (Doubled r.at)
+    else table_from (done ++ (r.name, r.definition) ∷ []) rs
 
 unfoldable pub table_of : List Definition → Result Entries TableStop
 table_of definitions = table_from [] (all_rows definitions)

@@ -4,12 +4,15 @@ use Rattle.std.specs.Prelude.{ℕ, Bool, true, false, not, ◌&&◌, ◌||◌, L
 use Rattle.std.specs.List.{list_all, list_any}
 use Rattle.std.specs.Str.{bytes_eq}
 use Rattle.pp_values.specs.Datum as d
-use Rattle.pp_values.specs.Datum.{Datum, flag, int, text, list, hash, reference, kind, Data, no_data, datum, Entries, no_entries, entry, Pair, members_of, pairs_of}
+use Rattle.pp_values.specs.Datum.{Datum, flag, int, text, list, hash, reference, kind, Data, no_data, datum, Entries}
+use Rattle.pp_values.specs.Datum.{no_entries, entry, Pair, members_of, pairs_of}
 use Rattle.pp_values.specs.Sort.{Sort}
 use Rattle.pp_types.specs.declared.range.Range.{Range}
 use Rattle.pp_types.specs.Ranges.{is_in_range}
 use Rattle.pp_types.specs.Lengths.{has_length}
-use Rattle.pp_types.specs.Forms.{Form, any, undef, default, boolean, integer, string, enum, data_, array, hash as hash_form, variant, not_undef, tuple, type_, Forms, no_forms, and_form, form, reference_form}
+use Rattle.pp_types.specs.Forms.{Form, any, undef, default, boolean, integer, string, enum, data_, array}
+use Rattle.pp_types.specs.Forms.{hash as hash_form, variant, not_undef, tuple, type_, Forms, no_forms, and_form, form}
+use Rattle.pp_types.specs.Forms.{reference_form}
 use Rattle.pp_types.specs.Includes.{includes}
 
 abbrev pub is_undef : Datum → Bool

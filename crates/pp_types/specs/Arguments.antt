@@ -1,5 +1,6 @@
 -- The arguments that a type takes; where there are others, it takes none.
-use Rattle.std.specs.Prelude.{ℕ, ℤ, pos, if◌then◌else◌, int_lt, List, [], ◌∷◌, Option, None, Some, option_map, Result, Ok, Err, codes}
+use Rattle.std.specs.Prelude.{ℕ, ℤ, pos, if◌then◌else◌, int_lt, List, [], ◌∷◌, Option, None, Some, option_map, Result}
+use Rattle.std.specs.Prelude.{Ok, Err, codes}
 use Rattle.std.specs.Str.{bytes_eq}
 use Rattle.pp_values.specs.declared.bounds.Bound.{Bound}
 use Rattle.pp_values.specs.declared.bounds.Bound.TheVariants.{Default, Number}
@@ -49,7 +50,8 @@ bounds_of z ds = ordered z (given_bounds ds)
 
 -- the type of a reference's kind and title
 abbrev pub reference_type : Reference → Sort
-reference_type r = of (if bytes_eq r.kind (codes "class") then n.class else n.kind_of_resource r.kind) (text r.title none)
+reference_type r =
+    of (if bytes_eq r.kind (codes "class") then n.class else n.kind_of_resource r.kind) (text r.title none)
 
 -- a type, or a reference, which counts as the type of its kind and title
 abbrev pub type_of : Datum → Option Sort

@@ -161,7 +161,8 @@ abbrev mutual
   given_forms (bound b xs) = no_forms
   given_forms (text t xs) = no_forms
 
--- a size by which a recursion over a form ends; a `NotUndef` weighs more, since within it the other type is made optional
+-- a size by which a recursion over a form ends; a `NotUndef` weighs more, since within it the other type is made
+-- optional
 abbrev mutual
   pub form_size : Form → ℕ
   form_size (array t r) = form_size t + 1

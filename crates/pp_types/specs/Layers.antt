@@ -2,7 +2,8 @@
 use Rattle.std.specs.Prelude.{[], ◌∷◌, option_map}
 use Rattle.pp_values.specs.PTypes.{sort}
 use Rattle.pp_values.specs.Sort.{types_arguments}
-use Rattle.pp_types.specs.declared.seen.Seen.{Seen, Given, OrUndef', Reference, Any, Undef, Boolean, Integer, String, Array, Hash, Data}
+use Rattle.pp_types.specs.declared.seen.Seen.{Seen, Given, OrUndef', Reference, Any, Undef, Boolean, Integer, String}
+use Rattle.pp_types.specs.declared.seen.Seen.{Array, Hash, Data}
 use Rattle.pp_types.specs.declared.layer.Choices.{Choices}
 use Rattle.pp_types.specs.declared.layer.Choices.TheVariants as choices
 use Rattle.pp_types.specs.declared.layer.Layer.{Layer}
@@ -11,7 +12,8 @@ use Rattle.pp_types.specs.declared.data.DataPart.{DataPart}
 use Rattle.pp_types.specs.declared.data.DataPart.TheVariants as part
 use Rattle.pp_types.specs.Ranges.{all_integers, any_count}
 use Rattle.pp_types.specs.Forms as f
-use Rattle.pp_types.specs.Forms.{Form, Forms, form, optional, reference_form, forms_of, all_arrays, all_hashes, given_forms, array_of_data, hash_of_data}
+use Rattle.pp_types.specs.Forms.{Form, Forms, form, optional, reference_form, forms_of, all_arrays, all_hashes}
+use Rattle.pp_types.specs.Forms.{given_forms, array_of_data, hash_of_data}
 
 abbrev pub seen_form : Seen → Form
 seen_form (Given t) = form (sort t.now)

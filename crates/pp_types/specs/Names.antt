@@ -1,6 +1,7 @@
 -- The names of types: segments joined by `::`, each of which begins with a capital and goes on with letters, digits and
 -- `_`; `-` may stand between two of these. A leading `::` is dropped. All letters are ASCII.
-use Rattle.std.specs.Prelude.{ℕ, ◌==◌, Bool, true, false, ◌||◌, if◌then◌else◌, Option, None, Some, List, [], ◌∷◌, codes, map, take, drop}
+use Rattle.std.specs.Prelude.{ℕ, ◌==◌, Bool, true, false, ◌||◌, if◌then◌else◌, Option, None, Some, List, [], ◌∷◌, codes}
+use Rattle.std.specs.Prelude.{map, take, drop}
 use Rattle.std.specs.Char.{is_ascii_alphanumeric, is_ascii_uppercase}
 use Rattle.std.specs.Str.{bytes_eq, str_to_ascii_lowercase}
 use Rattle.pp_types.specs.declared.data_type.DataType.{DataType}
@@ -16,7 +17,8 @@ is_word b = is_ascii_alphanumeric b || b == 95
 
 abbrev pub read_next : Read → ℕ → Option Read
 read_next read.Nothing b = if is_ascii_uppercase b then Some read.Word else None
-read_next read.Word b = if is_word b then Some read.Word else (if b == 45 then Some read.Dash else (if b == 58 then Some read.Colon else None))
+read_next read.Word b = if is_word b then Some read.Word
+    else (if b == 45 then Some read.Dash else (if b == 58 then Some read.Colon else None))
 read_next read.Dash b = if is_word b then Some read.Word else None
 read_next read.Colon b = if b == 58 then Some read.Nothing else None
 

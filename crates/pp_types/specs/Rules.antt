@@ -3,7 +3,9 @@ use Rattle.std.specs.Prelude.{ℕ, Bool, true, false, not, ◌&&◌, ◌||◌, O
 use Rattle.std.specs.Cmp.Lexicographic.{pointwise}
 use Rattle.std.specs.List.{list_all, list_any}
 use Rattle.std.specs.Str.{bytes_eq}
-use Rattle.pp_types.specs.Forms.{Form, any, undef, default, boolean, integer, string, enum, data_, array, hash, variant, not_undef, tuple, type_, catalog_entry, class, resource, kind_of_resource, Forms, no_forms, and_form, list_of, optional, data_types}
+use Rattle.pp_types.specs.Forms.{Form, any, undef, default, boolean, integer, string, enum, data_, array, hash, variant}
+use Rattle.pp_types.specs.Forms.{not_undef, tuple, type_, catalog_entry, class, resource, kind_of_resource, Forms}
+use Rattle.pp_types.specs.Forms.{no_forms, and_form, list_of, optional, data_types}
 use Rattle.pp_types.specs.Ranges.{is_in_range, is_within, same_range}
 use Rattle.pp_types.specs.Lengths.{has_length}
 

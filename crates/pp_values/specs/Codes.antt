@@ -5,14 +5,16 @@ use Rattle.std.specs.Coded.{Coded, code_by, coded×, coded_ℕ, coded_ℤ, coded
 use base.Stored.{Gv, gnil, gnum, gcons}
 use Rattle.pp_values.specs.declared.reference.Reference.{Reference}
 use Rattle.pp_values.specs.SortCodes.{head, tail, tag, Tagged, coded_sort}
-use Rattle.pp_values.specs.Datum.{Datum, undef, flag, int, text, list, hash, reference, kind, default, Data, no_data, datum, Entries, no_entries, entry, Pair}
+use Rattle.pp_values.specs.Datum.{Datum, undef, flag, int, text, list, hash, reference, kind, default, Data, no_data}
+use Rattle.pp_values.specs.Datum.{datum, Entries, no_entries, entry, Pair}
 
 abbrev pub coded_text : Coded (List ℕ)
 coded_text = coded_list coded_ℕ
 
 abbrev pub coded_reference : Coded Reference
 coded_reference =
-    code_by (List ℕ × List ℕ) (coded× coded_text coded_text) (λ r. (r.kind, r.title)) (λ p. record { kind = p.0; title = p.1 }) (λ _. refl)
+    code_by (List ℕ × List ℕ) (coded× coded_text coded_text) (λ r. (r.kind, r.title))
+    (λ p. record { kind = p.0; title = p.1 }) (λ _. refl)
 
 abbrev mutual
   pub datum_code : Datum → Gv
@@ -49,7 +51,8 @@ mutual
 
   pub data_inj : (x y : Data) → data_code x ≡ data_code y → x ≡ y
   data_inj no_data no_data p = refl
-  data_inj (datum a xs) (datum b ys) p = λ i. datum (datum_inj a b (ap (λ g. head (tail g)) p) i) (data_inj xs ys (ap (λ g. tail (tail g)) p) i)
+  data_inj (datum a xs) (datum b ys) p =
+      λ i. datum (datum_inj a b (ap (λ g. head (tail g)) p) i) (data_inj xs ys (ap (λ g. tail (tail g)) p) i)
   data_inj x y p = absurd (subst (Tagged (tag (data_code x))) p tt)
 
   pub entries_inj : (x y : Entries) → entries_code x ≡ entries_code y → x ≡ y

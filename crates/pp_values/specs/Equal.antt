@@ -5,7 +5,8 @@ use Rattle.std.specs.Ordering.{int_eq}
 use Rattle.std.specs.Str.{str_eq_ignore_ascii_case}
 use Rattle.pp_values.specs.References.{same_reference}
 use Rattle.pp_values.specs.Sort.{same_type}
-use Rattle.pp_values.specs.Datum.{Datum, undef, flag, int, text, list, hash, reference, kind, default, Data, no_data, datum, Entries, no_entries, entry, Pair, pairs_of}
+use Rattle.pp_values.specs.Datum.{Datum, undef, flag, int, text, list, hash, reference, kind, default, Data, no_data}
+use Rattle.pp_values.specs.Datum.{datum, Entries, no_entries, entry, Pair, pairs_of}
 use Rattle.pp_values.specs.Keys.{value_at}
 
 -- there is a value, and it passes

@@ -1,8 +1,9 @@
--- Facts: a hash whose keys are texts in rising byte order, and whose members are Undef, truth values, integers, texts, lists of
--- such members, and such hashes.
+-- Facts: a hash whose keys are texts in rising byte order, and whose members are Undef, truth values, integers, texts,
+-- lists of such members, and such hashes.
 use Rattle.std.specs.Prelude.{ℕ, Bool, true, false, ◌&&◌, List}
 use Rattle.std.specs.Ordering.{is_lt}
-use Rattle.pp_values.specs.Datum.{Datum, undef, flag, int, text, list, hash, Data, no_data, datum, Entries, no_entries, entry}
+use Rattle.pp_values.specs.Datum.{Datum, undef, flag, int, text, list, hash, Data, no_data, datum, Entries, no_entries}
+use Rattle.pp_values.specs.Datum.{entry}
 use Rattle.pp_values.specs.Rising.{text_cmp}
 
 -- the first of the keys, if there is one, is a text above this one

@@ -1,6 +1,7 @@
 -- Plain values: those with no data type and no `default` within. Documents have a form of them, and of no others.
 use Rattle.std.specs.Prelude.{Bool, true, false, ◌&&◌}
-use Rattle.pp_values.specs.Datum.{Datum, undef, flag, int, text, list, hash, reference, kind, default, Data, no_data, datum, Entries, no_entries, entry}
+use Rattle.pp_values.specs.Datum.{Datum, undef, flag, int, text, list, hash, reference, kind, default, Data, no_data}
+use Rattle.pp_values.specs.Datum.{datum, Entries, no_entries, entry}
 
 abbrev mutual
   pub is_plain_value : Datum → Bool

@@ -1,11 +1,15 @@
 -- The codes by which a proof tells data types apart.
-use Rattle.std.specs.Prelude.{◌≡◌, ℕ, ◌==◌, Bool, true, false, cond, List, [], ◌∷◌, ℤ, Option, None, Some, refl, slice_index_or}
+use Rattle.std.specs.Prelude.{◌≡◌, ℕ, ◌==◌, Bool, true, false, cond, List, [], ◌∷◌, ℤ, Option, None, Some, refl}
+use Rattle.std.specs.Prelude.{slice_index_or}
 use Rattle.std.proofs.Common.{ap, subst}
 use Rattle.std.specs.Coded.{Coded, code_by, coded×, coded_ℕ, coded_ℤ, coded_list, coded_option}
 use base.Stored.{Gv, gnil, gnum, gcons}
 use Rattle.pp_values.specs.declared.bounds.Bound.{Bound}
 use Rattle.pp_values.specs.declared.bounds.Bound.TheVariants.{Default, Number}
-use Rattle.pp_values.specs.Sort.{Name, any, undef, default, boolean, integer, numeric, string, enum, scalar, data_, array, hash, collection, optional, variant, not_undef, tuple, type_, catalog_entry, class, resource, kind_of_resource, name_number, named_kind, Sort, of, Arguments, none, kind, bound, text}
+use Rattle.pp_values.specs.Sort.{Name, any, undef, default, boolean, integer, numeric, string, enum, scalar, data_}
+use Rattle.pp_values.specs.Sort.{array, hash, collection, optional, variant, not_undef, tuple, type_, catalog_entry}
+use Rattle.pp_values.specs.Sort.{class, resource, kind_of_resource, name_number, named_kind, Sort, of, Arguments, none}
+use Rattle.pp_values.specs.Sort.{kind, bound, text}
 
 -- the parts of a pair, its first number, and that this number is n
 abbrev pub head : Gv → Gv
@@ -35,7 +39,9 @@ Tagged n g = Holds (n == tag g)
 
 -- the names without a kind, in the order of their numbers
 abbrev pub plain_names : List Name
-plain_names = any ∷ undef ∷ default ∷ boolean ∷ integer ∷ numeric ∷ string ∷ enum ∷ scalar ∷ data_ ∷ array ∷ hash ∷ collection ∷ optional ∷ variant ∷ not_undef ∷ tuple ∷ type_ ∷ catalog_entry ∷ class ∷ resource ∷ []
+plain_names =
+    any ∷ undef ∷ default ∷ boolean ∷ integer ∷ numeric ∷ string ∷ enum ∷ scalar ∷ data_ ∷ array ∷ hash ∷ collection
+    ∷ optional ∷ variant ∷ not_undef ∷ tuple ∷ type_ ∷ catalog_entry ∷ class ∷ resource ∷ []
 
 abbrev pub name_from : ℕ × List ℕ → Name
 name_from p = cond (p.0 == 21) (kind_of_resource p.1) (slice_index_or plain_names p.0 any)
@@ -65,7 +71,8 @@ name_back resource = refl
 name_back (kind_of_resource k) = refl
 
 abbrev pub coded_name : Coded Name
-coded_name = code_by (ℕ × List ℕ) (coded× coded_ℕ (coded_list coded_ℕ)) (λ n. (name_number n, named_kind n)) name_from name_back
+coded_name =
+    code_by (ℕ × List ℕ) (coded× coded_ℕ (coded_list coded_ℕ)) (λ n. (name_number n, named_kind n)) name_from name_back
 
 abbrev pub bound_parts : Bound → Option ℤ
 bound_parts Default = None
@@ -98,9 +105,13 @@ mutual
 
   pub arguments_inj : (x y : Arguments) → arguments_code x ≡ arguments_code y → x ≡ y
   arguments_inj none none p = refl
-  arguments_inj (kind s xs) (kind t ys) p = λ i. kind (sort_inj s t (ap (λ g. head (tail g)) p) i) (arguments_inj xs ys (ap (λ g. tail (tail g)) p) i)
-  arguments_inj (bound a xs) (bound b ys) p = λ i. bound (coded_bound.inj a b (ap (λ g. head (tail g)) p) i) (arguments_inj xs ys (ap (λ g. tail (tail g)) p) i)
-  arguments_inj (text a xs) (text b ys) p = λ i. text ((coded_list coded_ℕ).inj a b (ap (λ g. head (tail g)) p) i) (arguments_inj xs ys (ap (λ g. tail (tail g)) p) i)
+  arguments_inj (kind s xs) (kind t ys) p =
+      λ i. kind (sort_inj s t (ap (λ g. head (tail g)) p) i) (arguments_inj xs ys (ap (λ g. tail (tail g)) p) i)
+  arguments_inj (bound a xs) (bound b ys) p =
+      λ i. bound (coded_bound.inj a b (ap (λ g. head (tail g)) p) i) (arguments_inj xs ys (ap (λ g. tail (tail g)) p) i)
+  arguments_inj (text a xs) (text b ys) p =
+      λ i. text ((coded_list coded_ℕ).inj a b (ap (λ g. head (tail g)) p) i)
+      (arguments_inj xs ys (ap (λ g. tail (tail g)) p) i)
   arguments_inj x y p = absurd (subst (Tagged (tag (arguments_code x))) p tt)
 
 abbrev pub coded_sort : Coded Sort

@@ -3,7 +3,9 @@ use Rattle.std.specs.Prelude.{ℕ, List, [], ◌++◌, codes}
 use Rattle.std.specs.Fmt.{signed_decimal}
 use Rattle.pp_values.specs.declared.bounds.Bound.{Bound}
 use Rattle.pp_values.specs.declared.bounds.Bound.TheVariants.{Default, Number}
-use Rattle.pp_values.specs.Sort.{Name, any, undef, default, boolean, integer, numeric, string, enum, scalar, data_, array, hash, collection, optional, variant, not_undef, tuple, type_, catalog_entry, class, resource, kind_of_resource, Sort, of, Arguments, none, kind, bound, text}
+use Rattle.pp_values.specs.Sort.{Name, any, undef, default, boolean, integer, numeric, string, enum, scalar, data_}
+use Rattle.pp_values.specs.Sort.{array, hash, collection, optional, variant, not_undef, tuple, type_, catalog_entry}
+use Rattle.pp_values.specs.Sort.{class, resource, kind_of_resource, Sort, of, Arguments, none, kind, bound, text}
 use Rattle.pp_values.specs.Words.{quoted, kind_text}
 
 abbrev pub name_text : Name → List ℕ

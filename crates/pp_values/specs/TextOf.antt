@@ -1,7 +1,8 @@
 -- The text of a value where it is interpolated.
 use Rattle.std.specs.Prelude.{ℕ, ◌+◌, if◌then◌else◌, List, [], ◌++◌, codes}
 use Rattle.std.specs.Fmt.{signed_decimal}
-use Rattle.pp_values.specs.Datum.{Datum, undef, flag, int, text, list, hash, reference, kind, default, Data, no_data, datum, Entries, no_entries, entry}
+use Rattle.pp_values.specs.Datum.{Datum, undef, flag, int, text, list, hash, reference, kind, default, Data, no_data}
+use Rattle.pp_values.specs.Datum.{datum, Entries, no_entries, entry}
 use Rattle.pp_values.specs.Words.{before, quoted_reference_text}
 use Rattle.pp_values.specs.SortText.{type_text}
 

@@ -1,7 +1,8 @@
 -- The steps of an order that is listed: each resource begins, is listed and ends. What stands in a container begins
 -- after it and ends before it, and what an edge leads to begins once the earlier resource has ended. So an edge between
 -- two containers is one pair of steps, however much they contain.
-use Rattle.std.specs.Prelude.{◌≡◌, ◌⊎◌, ℕ, ◌+◌, ◌*◌, ◌<◌, Bool, false, List, length, get_or, slice_index, slice_index_or}
+use Rattle.std.specs.Prelude.{◌≡◌, ◌⊎◌, ℕ, ◌+◌, ◌*◌, ◌<◌, Bool, false, List, length, get_or, slice_index}
+use Rattle.std.specs.Prelude.{slice_index_or}
 use Rattle.std.specs.List.{Contains}
 use Rattle.std.specs.declared.alloc.Global.{Global}
 use Rattle.std.specs.declared.vec.Vec.{Vec}

@@ -66,7 +66,7 @@ fn no_points(alloc: Global, count: u32) -> Result<Points, AllocError> {
     Ok(Points { arrows, last })
 }
 
-fn put(points: &mut Points, from: usize, to: usize) -> Result<(), AllocError> {
+fn put_arrow(points: &mut Points, from: usize, to: usize) -> Result<(), AllocError> {
     let before = number_at(points.last.as_slice(), from);
     points.arrows.push(Arrow { to, before })?;
     let number = points.arrows.len();
@@ -77,7 +77,7 @@ fn put(points: &mut Points, from: usize, to: usize) -> Result<(), AllocError> {
 /// A resource begins before it ends.
 fn put_resources(points: &mut Points, count: u32) -> Result<(), AllocError> {
     for at in 0..count {
-        put(points, begin(at), end(at))?;
+        put_arrow(points, begin(at), end(at))?;
     }
     Ok(())
 }
@@ -85,8 +85,8 @@ fn put_resources(points: &mut Points, count: u32) -> Result<(), AllocError> {
 /// What is contained begins after its container and ends before it.
 fn put_containers(points: &mut Points, containers: &[(u32, u32)]) -> Result<(), AllocError> {
     for pair in containers {
-        put(points, begin(pair.0), begin(pair.1))?;
-        put(points, end(pair.1), end(pair.0))?;
+        put_arrow(points, begin(pair.0), begin(pair.1))?;
+        put_arrow(points, end(pair.1), end(pair.0))?;
     }
     Ok(())
 }
@@ -94,7 +94,7 @@ fn put_containers(points: &mut Points, containers: &[(u32, u32)]) -> Result<(), 
 /// What comes later begins after what comes earlier has ended.
 fn put_edges(points: &mut Points, edges: &[(u32, u32)]) -> Result<(), AllocError> {
     for edge in edges {
-        put(points, end(edge.0), begin(edge.1))?;
+        put_arrow(points, end(edge.0), begin(edge.1))?;
     }
     Ok(())
 }

@@ -19,7 +19,8 @@ pub data Asked : Type 0 where
 -- the codes by which a proof tells them apart
 abbrev pub coded_wanted : Coded Wanted
 coded_wanted =
-    code_by (List ℕ × (Option Datum × ℕ)) (coded× coded_text (coded× (coded_option coded_datum) coded_ℕ)) (λ w. (w.node, (w.facts, w.seen)))
+    code_by (List ℕ × (Option Datum × ℕ)) (coded× coded_text (coded× (coded_option coded_datum) coded_ℕ))
+    (λ w. (w.node, (w.facts, w.seen)))
     (λ p. record { node = p.0; facts = p.1.0; seen = p.1.1 }) (λ _. refl)
 
 abbrev cases : Asked → Wanted ⊎ List ℕ

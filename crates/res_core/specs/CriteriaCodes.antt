@@ -5,7 +5,8 @@ use Rattle.std.specs.Coded.{Coded, coded_list}
 use base.Stored.{Gv, gnil, gnum, gcons}
 use Rattle.pp_values.specs.SortCodes.{head, tail, tag, Tagged}
 use Rattle.pp_values.specs.Codes.{coded_text, coded_datum}
-use Rattle.res_core.specs.Criteria.{Criterion, Criteria, all, by_title, by_tag, by_attribute, negation, conjunction, disjunction, no_criteria, one_more}
+use Rattle.res_core.specs.Criteria.{Criterion, Criteria, all, by_title, by_tag, by_attribute, negation, conjunction}
+use Rattle.res_core.specs.Criteria.{disjunction, no_criteria, one_more}
 
 abbrev mutual
   pub criterion_code : Criterion → Gv
@@ -27,7 +28,8 @@ mutual
   criterion_inj (by_title a) (by_title b) p = λ i. by_title (coded_datum.inj a b (ap tail p) i)
   criterion_inj (by_tag a) (by_tag b) p = λ i. by_tag (coded_datum.inj a b (ap tail p) i)
   criterion_inj (by_attribute m a) (by_attribute n b) p =
-      λ i. by_attribute (coded_text.inj m n (ap (λ g. head (tail g)) p) i) (coded_datum.inj a b (ap (λ g. tail (tail g)) p) i)
+      λ i. by_attribute (coded_text.inj m n (ap (λ g. head (tail g)) p) i)
+      (coded_datum.inj a b (ap (λ g. tail (tail g)) p) i)
   criterion_inj (negation a) (negation b) p = λ i. negation (criterion_inj a b (ap tail p) i)
   criterion_inj (conjunction a) (conjunction b) p = λ i. conjunction (criteria_inj a b (ap tail p) i)
   criterion_inj (disjunction a) (disjunction b) p = λ i. disjunction (criteria_inj a b (ap tail p) i)

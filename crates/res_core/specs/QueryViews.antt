@@ -3,7 +3,8 @@ use Rattle.std.specs.Prelude.{List, map}
 use Rattle.pp_values.specs.Views.{view}
 use Rattle.res_core.specs.declared.query.Query.{Query}
 use Rattle.res_core.specs.declared.query.Query.TheVariants as v
-use Rattle.res_core.specs.Criteria.{Criterion, all, by_title, by_tag, by_attribute, negation, conjunction, disjunction, criteria_of}
+use Rattle.res_core.specs.Criteria.{Criterion, all, by_title, by_tag, by_attribute, negation, conjunction, disjunction}
+use Rattle.res_core.specs.Criteria.{criteria_of}
 
 abbrev pub criterion : Query → Criterion
 criterion v.All = all

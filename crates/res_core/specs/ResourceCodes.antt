@@ -10,5 +10,7 @@ coded_texts = coded_list coded_text
 
 abbrev pub coded_resource : Coded Resource
 coded_resource =
-    code_by ((List ℕ × List ℕ) × (List Setting × List (List ℕ))) (coded× (coded× coded_text coded_text) (coded× coded_settings coded_texts))
-    (λ r. ((r.kind, r.title), (r.attributes, r.tags))) (λ p. record { kind = p.0.0; title = p.0.1; attributes = p.1.0; tags = p.1.1 }) (λ _. refl)
+    code_by ((List ℕ × List ℕ) × (List Setting × List (List ℕ)))
+    (coded× (coded× coded_text coded_text) (coded× coded_settings coded_texts))
+    (λ r. ((r.kind, r.title), (r.attributes, r.tags)))
+    (λ p. record { kind = p.0.0; title = p.0.1; attributes = p.1.0; tags = p.1.1 }) (λ _. refl)

@@ -1,5 +1,6 @@
 -- Which tags a resource has.
-use Rattle.std.specs.Prelude.{◌≡◌, ◌↔◌, ℕ, Bool, true, false, IsTrue, not, ◌&&◌, ◌||◌, ◌==◌, if◌then◌else◌, List, [], ◌∷◌, ◌++◌, map, filter}
+use Rattle.std.specs.Prelude.{◌≡◌, ◌↔◌, ℕ, Bool, true, false, IsTrue, not, ◌&&◌, ◌||◌, ◌==◌, if◌then◌else◌, List, []}
+use Rattle.std.specs.Prelude.{◌∷◌, ◌++◌, map, filter}
 use Rattle.std.specs.List.{list_all, list_any, onto_first}
 use Rattle.std.specs.Char.{to_ascii_lowercase, is_ascii_alphanumeric, is_ascii_uppercase}
 use Rattle.std.specs.Str.{str_eq_ignore_ascii_case}
@@ -62,4 +63,5 @@ abbrev pub TagsAreTheSet : Type 0
 TagsAreTheSet =
     (kind title : List ℕ) (given container ts : List (List ℕ)) →
     (ts ≡ tags kind title given container)
-    ↔ (IsTrue (is_rising ts) × ((t : List ℕ) → has_text ts t ≡ has_text (map lowered (names kind title given container)) t))
+    ↔ (IsTrue (is_rising ts)
+    × ((t : List ℕ) → has_text ts t ≡ has_text (map lowered (names kind title given container)) t))

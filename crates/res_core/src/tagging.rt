@@ -157,7 +157,7 @@ fn lowered(alloc: Global, name: &str) -> Result<Text, Memory>
     Text::from_str(alloc, tag.as_str())
 }
 
-fn put(alloc: Global, all: &mut Vec<Text>, name: &str) -> Result<(), Memory>
+fn put_tag(alloc: Global, all: &mut Vec<Text>, name: &str) -> Result<(), Memory>
     ensures { OnOk result (all.new.items ≡ all.old.items ++ lowered name.now ∷ []) }
 {
     all.push(lowered(alloc, name)?)?;
@@ -168,7 +168,7 @@ fn put_all(alloc: Global, all: &mut Vec<Text>, names: &[Text]) -> Result<(), Mem
     ensures { OnOk result (all.new.items ≡ all.old.items ++ map lowered names.now) }
 {
     for name in names {
-        put(alloc, all, name.as_str())?;
+        put_tag(alloc, all, name.as_str())?;
     }
     Ok(())
 }
@@ -187,7 +187,7 @@ fn put_title(alloc: Global, all: &mut Vec<Text>, title: &str) -> Result<(), Memo
 fn put_with_segments(alloc: Global, all: &mut Vec<Text>, name: &str) -> Result<(), Memory>
     ensures { OnOk result (AddsTexts all.old.items all.new.items (map lowered (with_segments name.now))) }
 {
-    put(alloc, all, name)?;
+    put_tag(alloc, all, name)?;
     if let Some((first, others)) = name.split_once("::") {
         put_if_filled(alloc, all, first)?;
         put_segments(alloc, all, others)?;
@@ -215,5 +215,5 @@ fn put_if_filled(alloc: Global, all: &mut Vec<Text>, segment: &str) -> Result<()
     if segment.is_empty() {
         return Ok(());
     }
-    put(alloc, all, segment)
+    put_tag(alloc, all, segment)
 }

@@ -6,8 +6,8 @@ use Rattle.std.proofs.Crossing.{crosses}
 use Rattle.res_core.specs.contracts.requests.Requests as requests
 use Rattle.site_core.specs.declared.language.Language.{Ghosts}
 use Rattle.work_pool.proofs.claims.Claims.TheSendSync as claims
-use Rattle.site_batch.proofs.worked.Worked.TheSendSync as worked_are
-use Rattle.site_batch.specs.contracts.worked.Worked as worked
+use Rattle.site_batch.proofs.finished.Finished.TheSendSync as finished_are
+use Rattle.site_batch.specs.contracts.finished.Finished as finished
 use Rattle.site_core.proofs.reply.ReplyOf.TheSendSync as reply_are
 use Rattle.site_core.specs.contracts.reply.ReplyOf as reply
 use Rattle.work_pool.proofs.claims.ClaimSeat.TheSendSync as seat
@@ -32,7 +32,7 @@ pub reply_send : (C F : RattleType) → IsSend C → IsSend F → IsSend (reply.
 reply_send C F catalog fault = search (sendable, reply_are.the_send) depth 20 fits 4000
 
 pub worked_send : (L S C F : RattleType) (g : Ghosts L.Denot S.Denot C.Denot F.Denot) → IsSend S → IsSync S →
-    IsSend C → IsSend F → IsSend (worked.the_row (pass.the_row L S C F g) (reply.the_row C F))
+    IsSend C → IsSend F → IsSend (finished.the_row (pass.the_row L S C F g) (reply.the_row C F))
 worked_send L S C F g send sync catalog fault =
-    worked_are.the_send (pass.the_row L S C F g) (reply.the_row C F) (pass_send L S C F g send sync)
+    finished_are.the_send (pass.the_row L S C F g) (reply.the_row C F) (pass_send L S C F g send sync)
     (reply_send C F catalog fault)

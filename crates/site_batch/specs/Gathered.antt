@@ -13,14 +13,14 @@ use Rattle.shared_site.specs.Shows.{Terms}
 use Rattle.shared_site.specs.Known.{Known, held}
 use Rattle.work_pool.specs.Seats.{ClaimsId, Claimant}
 use Rattle.site_batch.specs.declared.answered.Answered.{Answered}
-use Rattle.site_batch.specs.declared.worked.Worked.{Worked}
+use Rattle.site_batch.specs.declared.finished.Finished.{Finished}
 use Rattle.site_core.specs.Each.{Each}
 use Rattle.site_batch.specs.Shares.{Share}
 use Rattle.site_batch.specs.Work.{HasWorked}
 
 -- a pass and a seat that were worked with, and the answers, or none for want of memory
 abbrev pub Out : Type 0 → Type 0 → Type 0
-Out S T = Worked (Known S) T
+Out S T = Finished (Known S) T
 
 module _ {T : Type 0} where
   abbrev pub kept : Option (Vec (Answered T) Global) → List (Answered T)
@@ -40,7 +40,8 @@ module _ {S T : Type 0} where
   IsOf id claims out = (out.pass.site ≡ id) × (out.seat.claims ≡ claims)
 
   -- these pass and seat stand for those of all outs, and these are all answers
-  pub record AreGathered (outs : List (Out S T)) (pass : Known S) (seat : Claimant) (answers : List (Answered T)) : Type 0 where
+  pub record AreGathered (outs : List (Out S T)) (pass : Known S) (seat : Claimant) (answers : List (Answered T)) : Type
+      0 where
     pub fronts : Each (λ out. IsPrefix out.pass.front pass.front) outs
     pub terms : (terms : Terms) → Each (λ out. out.pass.terms ≡ terms) outs → pass.terms ≡ terms
     pub own : (k : ℕ) → times k pass.own ≡ total (λ out. times k out.pass.own) outs
@@ -55,4 +56,5 @@ module _ {S T : Type 0} where
 abbrev pub AreWorked : {S C F : Type 0} → Meaning S C F → Listed S → List (Asked S) → List (Share S) →
     List (Out S (ReplyOf C F)) → Type 0
 AreWorked meaning listed requests shares outs =
-    AllZip (λ share out. HasWorked meaning listed requests share.0 share.1 out.pass out.seat (shown out.answers)) shares outs
+    AllZip (λ share out. HasWorked meaning listed requests share.0 share.1 out.pass out.seat (shown out.answers)) shares
+    outs

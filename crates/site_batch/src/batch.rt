@@ -18,7 +18,7 @@ ghost use Rattle.std.specs.List.{AllZip};
 
 use crate::gather::gather;
 use crate::order::in_order;
-use crate::worker::{Work, Worker};
+use crate::worker::{FinishedOf, Worker};
 use pp_values::memory::Memory;
 use res_core::requests::Requests;
 use shared_site::{SharedSite, SitePass};
@@ -170,7 +170,7 @@ fn work<L: Language + Drop + Sync, G: Gate + Sync, R: Threads + Wait + Sync>(
     requests: &Requests,
     gate: &G,
     shares: Shares<L>,
-) -> Result<Vec<Work<L>>, Memory>
+) -> Result<Vec<FinishedOf<L>>, Memory>
 where
     L::Site: Send + Sync,
     L::Catalog: Send,
@@ -200,7 +200,7 @@ fn run_jobs<'a, L: Language + Drop + Sync, G: Gate + Sync, R: Threads + Wait + S
     rt: &R,
     alloc: Global,
     jobs: Vec<Worker<'a, L, G>>,
-) -> Result<Vec<Work<L>>, Memory>
+) -> Result<Vec<FinishedOf<L>>, Memory>
 where
     L::Site: Send + Sync,
     L::Catalog: Send,

@@ -4,8 +4,8 @@ ghost use Rattle.site_core.specs.Each.{Each};
 ghost use Rattle.site_batch.specs.Gathered.{IsOf, AreGathered};
 
 use crate::answered::Answered;
-use crate::worked::Worked;
-use crate::worker::Work;
+use crate::finished::Finished;
+use crate::worker::FinishedOf;
 use pp_values::memory::Memory;
 use shared_site::{SharedSite, SitePass};
 use site_core::language::Language;
@@ -16,7 +16,7 @@ use work_pool::{ClaimSeat, Claims};
 pub fn gather<L: Language + Drop>(
     site: &SharedSite<L>,
     claims: &Claims,
-    mut works: Vec<Work<L>>,
+    mut works: Vec<FinishedOf<L>>,
 ) -> Result<(SitePass<L>, ClaimSeat, Vec<Answered<Reply<L>>>), Memory>
     requires { Each (IsOf site.now claims.now) works.items }
     ensures gathered { IfOk result (λ r. AreGathered works.items r.0 r.1 r.2.items) }
@@ -25,7 +25,7 @@ pub fn gather<L: Language + Drop>(
     let Some(first) = works.pop() else {
         return Err(Memory);
     };
-    let Worked {
+    let Finished {
         mut pass,
         mut seat,
         answers: kept,
@@ -34,7 +34,7 @@ pub fn gather<L: Language + Drop>(
         return Err(Memory);
     };
     while let Some(next) = works.pop() {
-        let Worked {
+        let Finished {
             pass: other,
             seat: spent,
             answers: given,

@@ -3,9 +3,9 @@
 
 mod answered;
 pub mod batch;
+mod finished;
 mod gather;
 mod order;
-mod worked;
 mod worker;
 
 pub use batch::{BatchResult, MOST_WORKERS, resume_batch, run_batch};

@@ -42,12 +42,12 @@ fn filled<T: Drop>(
     ensures { AreFilled count answers.items result.items }
 {
     while let Some(answer) = answers.pop() {
-        put(&mut slots, answer.index as usize, answer.reply);
+        put_reply(&mut slots, answer.index as usize, answer.reply);
     }
     slots
 }
 
-fn put<T: Drop>(slots: &mut Vec<Option<T>>, place: usize, reply: T)
+fn put_reply<T: Drop>(slots: &mut Vec<Option<T>>, place: usize, reply: T)
     requires { place < length slots.old.items }
     ensures { slots.new.items ≡ slice_set slots.old.items place (Some reply) }
 {

@@ -6,7 +6,7 @@ ghost use Rattle.site_core.specs.Asked.{asks};
 ghost use Rattle.shared_site.specs.Known.{IsAnswered};
 
 use crate::answered::Answered;
-use crate::worked::Worked;
+use crate::finished::Finished;
 use res_core::request::Request;
 use res_core::requests::Requests;
 use shared_site::{SharedSite, SitePass};
@@ -35,19 +35,19 @@ pub struct Worker<'a, L: Language, G> {
 }
 
 /// What a worker comes back with.
-pub type Work<L> = Worked<SitePass<L>, Reply<L>>;
+pub type FinishedOf<L> = Finished<SitePass<L>, Reply<L>>;
 
 impl<'a, L: Language + Drop, G: Gate> WaitingJob for Worker<'a, L, G> {
     ghost use Rattle.std.specs.Prelude.{option_map};
     ghost use Rattle.site_core.specs.Asked.{all_asks};
     ghost use Rattle.site_batch.specs.Work.{HasWorked};
 
-    type Out = Work<L>;
+    type Out = FinishedOf<L>;
 
     ghost promise = { λ w out. HasWorked L.meaning L.listed (all_asks w.requests.now) w.pass w.seat out.pass
         out.seat (option_map (λ answers. answers.items) out.answers) };
 
-    fn run<R: Wait>(self, rt: &R) -> Work<L> {
+    fn run<R: Wait>(self, rt: &R) -> FinishedOf<L> {
         let Worker {
             alloc,
             site,
@@ -64,14 +64,14 @@ impl<'a, L: Language + Drop, G: Gate> WaitingJob for Worker<'a, L, G> {
             let reply = answer(rt, alloc, site, &mut pass, request, gate);
             pass.keeps();
             let Ok(()) = answers.push(Answered { index, reply }) else {
-                return Worked {
+                return Finished {
                     pass,
                     seat,
                     answers: None,
                 };
             };
         }
-        Worked {
+        Finished {
             pass,
             seat,
             answers: Some(answers),

@@ -1,5 +1,6 @@
 -- Which reply a request may have under a history.
-use Rattle.std.specs.Prelude.{◌≡◌, ℕ, ◌+◌, ◌≤◌, ◌<◌, List, [], ◌∷◌, ◌++◌, length, slice_get, Option, Some, None, Result, Ok, Err}
+use Rattle.std.specs.Prelude.{◌≡◌, ℕ, ◌+◌, ◌≤◌, ◌<◌, List, [], ◌∷◌, ◌++◌, length, slice_get, Option, Some, None, Result}
+use Rattle.std.specs.Prelude.{Ok, Err}
 use Rattle.pp_values.specs.Datum.{Datum}
 use Rattle.res_core.specs.declared.export_set.ExportSet.{ExportSet}
 use Rattle.res_core.specs.Asked.{Wanted}
@@ -33,7 +34,8 @@ pub record IsFresh {S : Type 0} (h : List (Event S)) (s seen k : ℕ) : Type 0 w
   pub high : k ≤ length h
 
 -- after the first k entries the request has these facts, and this is what the site means for its node
-pub record Means {S C F : Type 0} (meaning : Meaning S C F) (listed : Listed S) (h : List (Event S)) (k : ℕ) (w : Wanted)
+pub record Means {S C F : Type 0} (meaning : Meaning S C F) (listed : Listed S) (h : List (Event S)) (k : ℕ)
+    (w : Wanted)
     (facts : Datum) (answer : Result (C × ExportSet) F) : Type 0 where
   pub site : S
   pub site_is : site_at h k ≡ Some site

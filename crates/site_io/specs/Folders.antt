@@ -1,5 +1,6 @@
 -- What contracts see of a tree of files, and what its calls do.
-use Rattle.std.specs.Prelude.{◌≡◌, ℕ, ◌<◌, ◌≤◌, ◌==◌, Bool, true, false, ◌||◌, if◌then◌else◌, nat_eq, nat_lt, codes, List, [], ◌∷◌, ◌++◌, length, drop, Option, Some, None, option_and_then, IsTrue, IfSome}
+use Rattle.std.specs.Prelude.{◌≡◌, ℕ, ◌<◌, ◌≤◌, ◌==◌, Bool, true, false, ◌||◌, if◌then◌else◌, nat_eq, nat_lt, codes}
+use Rattle.std.specs.Prelude.{List, [], ◌∷◌, ◌++◌, length, drop, Option, Some, None, option_and_then, IsTrue, IfSome}
 use Rattle.std.specs.BTreeMap.{is_at}
 use Rattle.std.specs.Map.{lookup}
 use Rattle.std.specs.List.{starts_with, ends_with, position_or_len, before_first}
@@ -10,7 +11,8 @@ use Rattle.site_io.specs.declared.tree.Content.{Content}
 use Rattle.site_io.specs.declared.tree.Content.TheVariants as content
 use Rattle.site_io.specs.Stream.{Rose}
 
--- A path, and the bytes of the file there: none where it is listed and there is no file, as at a link that leads nowhere.
+-- A path, and the bytes of the file there: none where it is listed and there is no file, as at a link that leads
+-- nowhere.
 abbrev pub Held : Type 0
 Held = List ℕ × Option (List ℕ)
 

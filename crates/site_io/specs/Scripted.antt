@@ -28,7 +28,8 @@ pub record IsNoCall (before after : Scripted) : Type 0 where
 
 -- the stream of a source in memory, from which these bytes were read and those are left
 abbrev pub source_stream : ℕ → List ℕ → List ℕ → Stream
-source_stream faults read left = record { faults = faults; left = Some left; read = Some read; written = None; shut = None }
+source_stream faults read left =
+    record { faults = faults; left = Some left; read = Some read; written = None; shut = None }
 
 -- the stream of a sink in memory, to which these bytes were written
 abbrev pub sink_stream : ℕ → List ℕ → Stream
@@ -53,7 +54,8 @@ abbrev pub new_source : List ℕ → List ℕ → Scripted
 new_source bytes failing = record { stream = source_stream 0 [] bytes; calls = 0; failing = failing }
 
 abbrev pub new_sink : ℕ → List ℕ → ScriptedSink
-new_sink room failing = record { scripted = record { stream = sink_stream 0 []; calls = 0; failing = failing }; room = room }
+new_sink room failing =
+    record { scripted = record { stream = sink_stream 0 []; calls = 0; failing = failing }; room = room }
 
 -- a connection with these bytes to be read and this room, before its first call
 abbrev pub new_conn : List ℕ → ℕ → List ℕ → ScriptedSink

@@ -1,5 +1,6 @@
 -- What contracts see of a listener in memory.
-use Rattle.std.specs.Prelude.{◌≡◌, ℕ, Bool, true, false, if◌then◌else◌, nat_eq, List, [], map, reverse, Option, Some, option_map}
+use Rattle.std.specs.Prelude.{◌≡◌, ℕ, Bool, true, false, if◌then◌else◌, nat_eq, List, [], map, reverse, Option, Some}
+use Rattle.std.specs.Prelude.{option_map}
 use Rattle.std.specs.List.{list_any}
 use Rattle.site_io.specs.declared.connection.Accept.{Accept}
 use Rattle.site_io.specs.declared.connection.Accept.TheVariants as accept
@@ -51,4 +52,8 @@ is_failed_accept accept.Failed = true
 -- a listener with these connections, before its first call
 abbrev pub new_listener : List Stream → List ℕ → ScriptedNet
 new_listener waiting failing =
-    record { net = record { faults = 0; told = Some (record { waiting = waiting; given = [] }) }; calls = 0; failing = failing }
+    record {
+      net = record { faults = 0; told = Some (record { waiting = waiting; given = [] }) };
+      calls = 0;
+      failing = failing;
+    }

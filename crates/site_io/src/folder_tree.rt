@@ -140,7 +140,7 @@ fn put_entry<R: Files + AllocGlobal + Clone + Drop>(
 {
     match entry {
         Ok(entry) => match name_of(system, alloc, entry)? {
-            Some(name) => Ok(put(name, names)?),
+            Some(name) => Ok(put_name(name, names)?),
             None => Ok(()),
         },
         Err(error) => Err(stop_of(error)),
@@ -148,7 +148,7 @@ fn put_entry<R: Files + AllocGlobal + Clone + Drop>(
 }
 
 #[tactic(auto, using(crate::proofs::Trees::rising_put))]
-fn put(name: Text, names: &mut BTreeSet<Text>) -> Result<(), Memory>
+fn put_name(name: Text, names: &mut BTreeSet<Text>) -> Result<(), Memory>
     requires { IsTrue (is_rising names.old.keys) }
     ensures { OnOk result (IsTrue (is_rising names.new.keys)) }
 {

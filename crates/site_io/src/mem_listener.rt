@@ -139,11 +139,11 @@ impl Listener for MemListener {
         ensures quiet { IsNoTurn self.old self.new }
     {
         let place = (number - 1) as usize;
-        put(&mut self.given, place, connection);
+        put_connection(&mut self.given, place, connection);
     }
 }
 
-fn put(given: &mut Vec<Option<MemConn>>, place: usize, connection: MemConn)
+fn put_connection(given: &mut Vec<Option<MemConn>>, place: usize, connection: MemConn)
     requires { place < length given.old.items }
     ensures items { given.new.items ≡ slice_set given.old.items place (Some connection) }
     ensures len { vec_len given.new ≡ vec_len given.old }

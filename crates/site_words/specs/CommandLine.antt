@@ -1,5 +1,5 @@
--- The command line as `clap` is told of it: each command with its positional words in order, and its options, which have one
--- value each and may stand once.
+-- The command line as `clap` is told of it: each command with its positional words in order, and its options, which
+-- have one value each and may stand once.
 use Rattle.std.specs.Prelude.{List, ℕ, Option, Some, true, codes}
 use Rattle.clap.specs.Words.{App, Rule, Shape, Text, new_app, new_rule, with_rule, with_subcommand}
 use Rattle.clap.specs.declared.builder.action.ArgAction.TheVariants.{Set}
@@ -30,7 +30,8 @@ abbrev pub sequence_line : App
 sequence_line = new_app (codes "sequence")
 
 abbrev pub lookup_line : App
-lookup_line = with_rule (with_rule (with_rule (with_rule (new_app (codes "lookup")) (positional NODE.now)) (positional KEY.now))
+lookup_line =
+    with_rule (with_rule (with_rule (with_rule (new_app (codes "lookup")) (positional NODE.now)) (positional KEY.now))
     (optional MERGE.now)) (optional DIR.now)
 
 abbrev pub apply_line : App
@@ -43,7 +44,9 @@ abbrev pub batch_line : App
 batch_line = with_rule (new_app (codes "batch")) (optional WORKERS.now)
 
 abbrev pub serve_line : App
-serve_line = with_rule (with_rule (with_rule (new_app (codes "serve")) (positional PORT.now)) (positional COUNT.now)) (needed DIR.now)
+serve_line =
+    with_rule (with_rule (with_rule (new_app (codes "serve")) (positional PORT.now)) (positional COUNT.now))
+    (needed DIR.now)
 
 abbrev pub audit_line : App
 audit_line = new_app (codes "audit")
@@ -54,7 +57,8 @@ migrate_line = new_app (codes "migrate")
 -- the words come without the program's name, and the first of them names a command
 abbrev pub bare_line : App
 bare_line = record (new_app (codes "site")) {
-  top = record (new_app (codes "site")).top { no_binary_name = true; disable_help_subcommand = true; subcommand_required = true };
+  top = record (new_app (codes "site")).top
+      { no_binary_name = true; disable_help_subcommand = true; subcommand_required = true };
 }
 
 abbrev pub with_three : App → App → App → App → App

@@ -54,8 +54,8 @@ IsParsedAs words (Err (stop.Refused text)) = fault_of command_line words ≢ []
 IsParsedAs words (Err (stop.BadWord word)) = ⊥
 IsParsedAs words (Err stop.Memory) = ⊤
 
--- Ok is what the words ask for. A refusal comes exactly where `clap` refuses them for another cause than memory, and a bad word
--- exactly where it takes them and that word is the first that breaks its rule.
+-- Ok is what the words ask for. A refusal comes exactly where `clap` refuses them for another cause than memory, and a
+-- bad word exactly where it takes them and that word is the first that breaks its rule.
 abbrev pub Reads : List Text → Result Command WordStop → Type 0
 Reads words (Ok command) = asked_of words ≡ asked_by command
 Reads words (Err (stop.Refused text)) = asked_of words ≡ a.refused

@@ -1,9 +1,10 @@
 -- Numbers among words: decimal digits without a sign and without a leading zero.
-use Rattle.std.specs.Prelude.{ℕ, ◌+◌, ◌-◌, ◌*◌, Bool, ◌&&◌, ◌==◌, nat_le, if◌then◌else◌, List, [], ◌∷◌, Option, Some, None, option_and_then}
+use Rattle.std.specs.Prelude.{ℕ, ◌+◌, ◌-◌, ◌*◌, Bool, ◌&&◌, ◌==◌, nat_le, if◌then◌else◌, List, [], ◌∷◌, Option, Some}
+use Rattle.std.specs.Prelude.{None, option_and_then}
 use Rattle.std.specs.Char.{is_ascii_digit}
 
--- A number with one more digit, where it is at most this. More digits make no number smaller, so this refuses the numbers
--- that are too great as a whole.
+-- A number with one more digit, where it is at most this. More digits make no number smaller, so this refuses the
+-- numbers that are too great as a whole.
 abbrev pub with_digit : ℕ → ℕ → ℕ → Option ℕ
 with_digit most n b =
     if is_ascii_digit b && nat_le (n * 10 + (b - 48)) most then Some (n * 10 + (b - 48)) else None

@@ -1,4 +1,5 @@
--- The rule of the claims: what is true of their one word and all views between any two steps. The word counts the draws.
+-- The rule of the claims: what is true of their one word and all views between any two steps. The word counts the
+-- draws.
 use Rattle.std.specs.Prelude.{◌≡◌, ℕ, ◌+◌, ◌^◌, ◌<◌, ◌≤◌, min, [], ◌∷◌}
 use mathlib.Core.Option.{some}
 use lib.ListN.{get_elem?}

@@ -23,10 +23,13 @@ pub record Claimant : Type 0 where
 abbrev pub first_seat : ClaimsId → Claimant
 first_seat claims = record { claims = claims; numbers = []; known = 0; room = 65535; held = 1 }
 
--- A draw. A number comes that no seat had drawn before, above all that this one has; or none does, since all were drawn, and then a seat that stands for all seats has exactly the numbers below the count, each once.
+-- A draw. A number comes that no seat had drawn before, above all that this one has; or none does, since all were
+-- drawn, and then a seat that stands for all seats has exactly the numbers below the count, each once.
 abbrev pub Draws : Option ℕ → Claimant → Claimant → Type 0
-Draws (Some n) p q = (n < p.claims.count) × (p.known ≤ n) × All (λ m. m < n) p.numbers × (q ≡ record p { numbers = p.numbers ++ n ∷ []; known = n + 1 })
-Draws None p q = (p.claims.count ≤ q.known) × (p.known ≤ q.known) × (q ≡ record p { known = q.known }) × (p.room + p.held ≡ 65536 → (a : ℕ) → times a p.numbers ≡ below p.claims.count a)
+Draws (Some n) p q = (n < p.claims.count) × (p.known ≤ n) × All (λ m. m < n) p.numbers
+    × (q ≡ record p { numbers = p.numbers ++ n ∷ []; known = n + 1 })
+Draws None p q = (p.claims.count ≤ q.known) × (p.known ≤ q.known) × (q ≡ record p { known = q.known })
+    × (p.room + p.held ≡ 65536 → (a : ℕ) → times a p.numbers ≡ below p.claims.count a)
 
 -- the seat that a new one was split from, and the new one
 abbrev pub splitting : Claimant → Claimant
@@ -36,11 +39,24 @@ abbrev pub split_off : Claimant → Claimant
 split_off p = record { claims = p.claims; numbers = []; known = p.known; room = 0; held = 1 }
 
 abbrev pub joining : Claimant → Claimant → Claimant
-joining p q = record p { numbers = p.numbers ++ q.numbers; known = max p.known q.known; room = p.room + q.room; held = p.held + q.held }
+joining p q =
+    record p {
+      numbers = p.numbers ++ q.numbers;
+      known = max p.known q.known;
+      room = p.room + q.room;
+      held = p.held + q.held;
+    }
 
 -- how a seat of the claims stands over a seat of the table
 abbrev pub claimant : Seat (Unit {0}) View → Claimant
-claimant s = record { claims = record { table = s.table_id; count = s.me.0.count }; numbers = s.me.0.numbers; known = s.me.0.known; room = s.me.0.room; held = s.me.0.held }
+claimant s =
+    record {
+      claims = record { table = s.table_id; count = s.me.0.count };
+      numbers = s.me.0.numbers;
+      known = s.me.0.known;
+      room = s.me.0.room;
+      held = s.me.0.held;
+    }
 
 pub record IsClaimant (s : Seat (Unit {0}) View) : Type 0 where
   pub some : 0 < s.me.0.held

@@ -39,4 +39,11 @@ abbrev pub divided : View → View
 divided v = record { count = v.count; numbers = []; known = v.known; room = 0; held = 1; past = 0 }
 
 abbrev pub joined : View → View → View
-joined v w = record v { numbers = v.numbers ++ w.numbers; known = max v.known w.known; room = v.room + w.room; held = v.held + w.held; past = v.past + w.past }
+joined v w =
+    record v {
+      numbers = v.numbers ++ w.numbers;
+      known = max v.known w.known;
+      room = v.room + w.room;
+      held = v.held + w.held;
+      past = v.past + w.past;
+    }

@@ -37,8 +37,8 @@ only_definitions ds = record { statements = []; definitions = ds }
 abbrev pub max_levels : ℕ
 max_levels = 200
 
--- How many levels may be open at once: so many up to the place from which `behind` tokens are left, and so many further ones
--- from there on.
+-- How many levels may be open at once: so many up to the place from which `behind` tokens are left, and so many further
+-- ones from there on.
 pub record Limit : Type 0 where
   pub levels : ℕ
   pub behind : ℕ
@@ -56,17 +56,21 @@ up_to rest further = record { levels = max_levels; behind = length rest; further
 abbrev pub within_limit : Limit → Within
 within_limit l = LevelsTo l.behind l.levels l.further
 
--- What stands in the file at this path, from its first token to its end, within this limit of levels; and the line of the first
--- key that stands a second time in its hash literal, if one does.
+-- What stands in the file at this path, from its first token to its end, within this limit of levels; and the line of
+-- the first key that stands a second time in its hash literal, if one does.
 pub data IsFile (limit : Limit) (path : List ℕ) (ts : List Token) : Found → Option ℕ → Type 0 where
-  main_manifest : (found : Found) (key : Option ℕ) → path ≡ main_path → IsMain (within_limit limit) (start ts) found.statements found.definitions (the_end key) → IsFile limit path ts found key
-  module_file : (ds : List Definition) (key : Option ℕ) → path ≢ main_path → IsModule (within_limit limit) (start ts) ds (the_end key) → IsFile limit path ts (only_definitions ds) key
+  main_manifest : (found : Found) (key : Option ℕ) → path ≡ main_path →
+      IsMain (within_limit limit) (start ts) found.statements found.definitions (the_end key) →
+      IsFile limit path ts found key
+  module_file : (ds : List Definition) (key : Option ℕ) → path ≢ main_path →
+      IsModule (within_limit limit) (start ts) ds (the_end key) → IsFile limit path ts (only_definitions ds) key
 
--- A tree: what stands in the file within the limit of levels, with no key twice, and its definitions by their names, with no
--- name twice.
+-- A tree: what stands in the file within the limit of levels, with no key twice, and its definitions by their names,
+-- with no name twice.
 pub record IsTree (path text : List ℕ) (file : File) : Type 0 where
   pub definitions : List Definition
-  pub stands : IsFile (everywhere max_levels) path (tokens text) (record { statements = file.statements; definitions = definitions }) None
+  pub stands : IsFile (everywhere max_levels) path (tokens text)
+      (record { statements = file.statements; definitions = definitions }) None
   pub table : table_of definitions ≡ Ok file.definitions
 
 -- ---- faults
@@ -93,8 +97,8 @@ first_token (t ∷ ts) = Some t
 abbrev pub SameHead : List Token → List Token → Type 0
 SameHead r s = first_token r ≡ first_token s
 
--- Some file begins with the first tokens and goes on with the next ones. In the first ones it keeps the limit of levels, and
--- behind them it may open any number.
+-- Some file begins with the first tokens and goes on with the next ones. In the first ones it keeps the limit of
+-- levels, and behind them it may open any number.
 pub record GoesOn (path : List ℕ) (front next : List Token) : Type 0 where
   pub way : List Token
   pub further : ℕ
@@ -102,21 +106,27 @@ pub record GoesOn (path : List ℕ) (front next : List Token) : Type 0 where
   pub key : Option ℕ
   pub stands : IsFile (up_to (next ++ way) further) path (front ++ (next ++ way)) found key
 
--- At this place a text leaves the grammar: some file begins with the tokens before it, within the limit of levels, and none
--- goes on with the token that comes next there, or ends there, however many levels it may open.
+-- At this place a text leaves the grammar: some file begins with the tokens before it, within the limit of levels, and
+-- none goes on with the token that comes next there, or ends there, however many levels it may open.
 pub record IsRefused (path : List ℕ) (front rest : List Token) : Type 0 where
-  pub none_goes_on : (other : List Token) (levels : ℕ) (found : Found) (key : Option ℕ) → SameHead rest other → IsFile (everywhere levels) path (front ++ other) found key → ⊥
+  pub none_goes_on : (other : List Token) (levels : ℕ) (found : Found) (key : Option ℕ) → SameHead rest other →
+      IsFile (everywhere levels) path (front ++ other) found key → ⊥
   pub some_goes_on : GoesOn path front []
 
--- With this token the limit of levels is passed: some file that keeps it before the token goes on with it, and none that keeps
--- it up to there, the token included, whatever stands behind.
+-- With this token the limit of levels is passed: some file that keeps it before the token goes on with it, and none
+-- that keeps it up to there, the token included, whatever stands behind.
 pub record IsTooDeep (path : List ℕ) (front : List Token) (t : Token) : Type 0 where
-  pub none_goes_on : (other : List Token) (further : ℕ) (found : Found) (key : Option ℕ) → IsFile (up_to other further) path (front ++ t ∷ other) found key → ⊥
+  pub none_goes_on : (other : List Token) (further : ℕ) (found : Found) (key : Option ℕ) →
+      IsFile (up_to other further) path (front ++ t ∷ other) found key → ⊥
   pub some_goes_on : GoesOn path front (t ∷ [])
 
--- The fault of a text: F1 where it leaves the grammar, F29 at a token with which it passes the limit of levels, and where
--- something stands in the file, F1 at the first key or name that stands there a second time.
+-- The fault of a text: F1 where it leaves the grammar, F29 at a token with which it passes the limit of levels, and
+-- where something stands in the file, F1 at the first key or name that stands there a second time.
 pub data IsFault (path text : List ℕ) : Fault → Type 0 where
-  refused : (front rest : List Token) → tokens text ≡ front ++ rest → IsRefused path front rest → IsFault path text (fault_at path Syntax (line_from (end_line text) rest))
-  too_deep : (front rest : List Token) (t : Token) → tokens text ≡ front ++ t ∷ rest → IsTooDeep path front t → IsFault path text (fault_at path DepthLimit t.line)
-  doubled : (found : Found) (key : Option ℕ) (line : ℕ) → IsFile (everywhere max_levels) path (tokens text) found key → earlier_line key (doubled_name (table_of found.definitions)) ≡ Some line → IsFault path text (fault_at path Syntax line)
+  refused : (front rest : List Token) → tokens text ≡ front ++ rest → IsRefused path front rest →
+      IsFault path text (fault_at path Syntax (line_from (end_line text) rest))
+  too_deep : (front rest : List Token) (t : Token) → tokens text ≡ front ++ t ∷ rest → IsTooDeep path front t →
+      IsFault path text (fault_at path DepthLimit t.line)
+  doubled : (found : Found) (key : Option ℕ) (line : ℕ) → IsFile (everywhere max_levels) path (tokens text) found key →
+      earlier_line key (doubled_name (table_of found.definitions)) ≡ Some line →
+      IsFault path text (fault_at path Syntax line)

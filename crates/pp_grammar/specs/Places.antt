@@ -2,8 +2,8 @@
 use Rattle.std.specs.Prelude.{◌≡◌, ℕ, Bool, true, false, List, [], ◌∷◌, Option, Some, None}
 use Rattle.pp_lexer.specs.declared.kind.Kind.{Kind}
 use Rattle.pp_lexer.specs.Seen.{Token}
-use Rattle.pp_parser.specs.declared.goal.Goal.{Goal}
-use Rattle.pp_parser.specs.declared.goal.Part.{Part}
+use Rattle.pp_parser.specs.declared.inset.Inset.{Inset}
+use Rattle.pp_parser.specs.declared.inset.InsetTree.{InsetTree}
 use Rattle.pp_parser.specs.Input.{Input}
 use Rattle.pp_grammar.specs.Kinds.{is_kind}
 
@@ -41,7 +41,7 @@ pub record Stands (fits : Option Kind → Bool) (i : Input) (t : Token) (j : Inp
 pub record Within : Type 1 where
   -- no level may be opened any more by a token that stands here
   pub is_deepest : Input → Bool
-  pub reads : Goal → Phrase Part
+  pub reads : Inset → Phrase InsetTree
 
 -- one token of this kind, which opens a level
 pub record Opens (N : Within) (k : Kind) (i : Input) (t : Token) (j : Input) : Type 0 where
@@ -51,19 +51,25 @@ pub record Opens (N : Within) (k : Kind) (i : Input) (t : Token) (j : Input) : T
 -- phrases one behind the other, as long as the next token lets the list go on
 pub data Many {A : Type 0} (Item : Phrase A) (goes_on : Option Kind → Bool) : Input → List A → Input → Type 0 where
   none : (i : Input) → goes_on (kind i) ≡ false → Many Item goes_on i [] i
-  more : (i j l : Input) (x : A) (xs : List A) → goes_on (kind i) ≡ true → Item i x j → Many Item goes_on j xs l → Many Item goes_on i (x ∷ xs) l
+  more : (i j l : Input) (x : A) (xs : List A) → goes_on (kind i) ≡ true → Item i x j → Many Item goes_on j xs l →
+      Many Item goes_on i (x ∷ xs) l
 
--- Phrases with a separator between them, and at most one at the end: the list ends where the next token ends it, and behind
--- a phrase that no separator follows.
+-- Phrases with a separator between them, and at most one at the end: the list ends where the next token ends it, and
+-- behind a phrase that no separator follows.
 mutual
-  pub data Separated {A : Type 0} (ends : Option Kind → Bool) (separator : Kind) (Item : Phrase A) : Input → List A → Input → Type 0 where
+  pub data Separated {A : Type 0} (ends : Option Kind → Bool) (separator : Kind) (Item : Phrase A) : Input → List A →
+      Input → Type 0 where
     none : (i : Input) → ends (kind i) ≡ true → Separated ends separator Item i [] i
-    some : (i j : Input) (xs : List A) → ends (kind i) ≡ false → SeparatedSome ends separator Item i xs j → Separated ends separator Item i xs j
+    some : (i j : Input) (xs : List A) → ends (kind i) ≡ false → SeparatedSome ends separator Item i xs j →
+        Separated ends separator Item i xs j
 
   -- one phrase or more
-  pub data SeparatedSome {A : Type 0} (ends : Option Kind → Bool) (separator : Kind) (Item : Phrase A) : Input → List A → Input → Type 0 where
-    last : (i j : Input) (x : A) → Item i x j → is_kind separator (kind j) ≡ false → SeparatedSome ends separator Item i (x ∷ []) j
-    more : (i j l m : Input) (x : A) (xs : List A) (t : Token) → Item i x j → Stands (is_kind separator) j t l → Separated ends separator Item l xs m → SeparatedSome ends separator Item i (x ∷ xs) m
+  pub data SeparatedSome {A : Type 0} (ends : Option Kind → Bool) (separator : Kind) (Item : Phrase A) : Input →
+      List A → Input → Type 0 where
+    last : (i j : Input) (x : A) → Item i x j → is_kind separator (kind j) ≡ false →
+        SeparatedSome ends separator Item i (x ∷ []) j
+    more : (i j l m : Input) (x : A) (xs : List A) (t : Token) → Item i x j → Stands (is_kind separator) j t l →
+        Separated ends separator Item l xs m → SeparatedSome ends separator Item i (x ∷ xs) m
 
 -- a phrase, where the next token begins one, or nothing
 pub data Maybe {A : Type 0} (Item : Phrase A) (begins : Option Kind → Bool) : Input → Option A → Input → Type 0 where

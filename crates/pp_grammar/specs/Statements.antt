@@ -22,13 +22,17 @@ use Rattle.pp_tree.specs.declared.collector.Query.{Query}
 use Rattle.pp_tree.specs.declared.collector.Conjunction.{Conjunction}
 use Rattle.pp_tree.specs.declared.collector.Test.{Test}
 use Rattle.pp_tree.specs.declared.collector.Test.TheVariants as test_form
-use Rattle.pp_tree.specs.Building.{chain as chain_of, link as link_of, words as words_of, resource as resource_of, body as body_of, setting as setting_of, splat as splat_of, reference as reference_of, override as override_of, defaults as defaults_of, collector as collector_of, query as query_of, conjunction as conjunction_of, comparison as comparison_of}
-use Rattle.pp_parser.specs.declared.goal.Goal.TheVariants as goal
-use Rattle.pp_parser.specs.declared.goal.Part.TheVariants as part
+use Rattle.pp_tree.specs.Building.{chain as chain_of, link as link_of, words as words_of, resource as resource_of}
+use Rattle.pp_tree.specs.Building.{body as body_of, setting as setting_of, splat as splat_of, reference as reference_of}
+use Rattle.pp_tree.specs.Building.{override as override_of, defaults as defaults_of, collector as collector_of}
+use Rattle.pp_tree.specs.Building.{query as query_of, conjunction as conjunction_of, comparison as comparison_of}
+use Rattle.pp_parser.specs.declared.inset.Inset.TheVariants as goal
+use Rattle.pp_parser.specs.declared.inset.InsetTree.TheVariants as part
 use Rattle.pp_parser.specs.Input.{Input}
 use Rattle.pp_grammar.specs.Kinds.{is_kind, is_name, is_word, begins_expression, ends_body, names_resource}
 use Rattle.pp_grammar.specs.Operators.{arrow_at}
-use Rattle.pp_grammar.specs.Places.{kind, line_at, Phrase, Stands, Within, Opens, Many, Separated, SeparatedSome, Maybe, Begins}
+use Rattle.pp_grammar.specs.Places.{kind, line_at, Phrase, Stands, Within, Opens, Many, Separated, SeparatedSome, Maybe}
+use Rattle.pp_grammar.specs.Places.{Begins}
 use Rattle.pp_grammar.specs.Expressions.{Inner, IsWhole, IsValue}
 
 -- `=>`, or `+>` where it may stand, and whether it appends
@@ -81,37 +85,47 @@ module _ (N : Within) where
   -- attr = word ("=>" | "+>") expr | "*" "=>" expr
   pub data IsAttribute (may_append : Bool) : Input → Attribute Expr → Input → Type 0 where
     setting : (i j l m : Input) (word arrow : Token) (append : Bool) (x : Expr)
-        → Stands is_word i word j → Stands (assigns may_append append) j arrow l → Inner N false l x m → IsAttribute may_append i (attribute_form.Set (setting_of word.text append x word.line)) m
+        → Stands is_word i word j → Stands (assigns may_append append) j arrow l → Inner N false l x m →
+        IsAttribute may_append i (attribute_form.Set (setting_of word.text append x word.line)) m
     splat : (i j l m : Input) (star arrow : Token) (x : Expr)
-        → Stands (is_kind k.Star) i star j → Stands (is_kind k.Arrow) j arrow l → Inner N false l x m → IsAttribute may_append i (attribute_form.Splat (splat_of x star.line)) m
+        → Stands (is_kind k.Star) i star j → Stands (is_kind k.Arrow) j arrow l → Inner N false l x m →
+        IsAttribute may_append i (attribute_form.Splat (splat_of x star.line)) m
 
   -- "{" [attrs] "}"
   pub data AreAttributes (may_append : Bool) : Input → List (Attribute Expr) → Input → Type 0 where
     attributes : (i j l m : Input) (opener closer : Token) (attrs : List (Attribute Expr))
-        → Opens N k.OpenBrace i opener j → Separated (is_kind k.CloseBrace) k.Comma (IsAttribute may_append) j attrs l → Stands (is_kind k.CloseBrace) l closer m → AreAttributes may_append i attrs m
+        → Opens N k.OpenBrace i opener j → Separated (is_kind k.CloseBrace) k.Comma (IsAttribute may_append) j attrs l →
+        Stands (is_kind k.CloseBrace) l closer m → AreAttributes may_append i attrs m
 
   -- body = expr ":" [attrs]
   pub data IsBody : Input → Body Expr → Input → Type 0 where
     body : (i j l m : Input) (colon : Token) (title : Expr) (attrs : List (Attribute Expr))
-        → Inner N false i title j → Stands (is_kind k.Colon) j colon l → Separated ends_body k.Comma (IsAttribute false) l attrs m → IsBody i (body_of title attrs (line_at i.left)) m
+        → Inner N false i title j → Stands (is_kind k.Colon) j colon l →
+        Separated ends_body k.Comma (IsAttribute false) l attrs m →
+        IsBody i (body_of title attrs (line_at i.left)) m
 
   -- "{" body { ";" body } [";"] "}"
   pub data AreBodies : Input → List (Body Expr) → Input → Type 0 where
     bodies : (i j l m : Input) (opener closer : Token) (bs : List (Body Expr))
-        → Opens N k.OpenBrace i opener j → SeparatedSome (is_kind k.CloseBrace) k.Semicolon IsBody j bs l → Stands (is_kind k.CloseBrace) l closer m → AreBodies i bs m
+        → Opens N k.OpenBrace i opener j → SeparatedSome (is_kind k.CloseBrace) k.Semicolon IsBody j bs l →
+        Stands (is_kind k.CloseBrace) l closer m → AreBodies i bs m
 
   -- resource = ["@" | "@@"] (NAME | "class") "{" .. "}"
   pub data IsResource : Input → Resource Expr → Input → Type 0 where
-    plain : (i j l : Input) (name : Token) (bs : List (Body Expr)) → Stands names_resource i name j → AreBodies j bs l → IsResource i (resource_of resource_form.Plain name.text bs name.line) l
+    plain : (i j l : Input) (name : Token) (bs : List (Body Expr)) → Stands names_resource i name j → AreBodies j bs l →
+        IsResource i (resource_of resource_form.Plain name.text bs name.line) l
     marked : (i j l m : Input) (form : ResourceForm) (mark name : Token) (bs : List (Body Expr))
-        → Stands (marks form) i mark j → Stands names_resource j name l → AreBodies l bs m → IsResource i (resource_of form name.text bs mark.line) m
+        → Stands (marks form) i mark j → Stands names_resource j name l → AreBodies l bs m →
+        IsResource i (resource_of form name.text bs mark.line) m
 
   -- test = word ("==" | "!=") postfix | "(" query ")"
   pub data IsTest : Input → Test → Input → Type 0 where
     comparison : (i j l m : Input) (word mark : Token) (equal : Bool) (x : Expr)
-        → Stands is_word i word j → Stands (compares equal) j mark l → IsValue N false l x m → IsTest i (test_form.Compare (comparison_of word.text equal x word.line)) m
+        → Stands is_word i word j → Stands (compares equal) j mark l → IsValue N false l x m →
+        IsTest i (test_form.Compare (comparison_of word.text equal x word.line)) m
     query : (i j l m : Input) (opener closer : Token) (q : Query)
-        → Opens N k.OpenParen i opener j → N.reads goal.Query j (part.Query q) l → Stands (is_kind k.CloseParen) l closer m → IsTest i (test_form.Query q) m
+        → Opens N k.OpenParen i opener j → N.reads goal.Query j (part.Query q) l →
+        Stands (is_kind k.CloseParen) l closer m → IsTest i (test_form.Query q) m
 
   -- a word and what it joins
   pub data IsJoined {A : Type 0} (word : Kind) (Item : Phrase A) : Input → A → Input → Type 0 where
@@ -119,11 +133,13 @@ module _ (N : Within) where
 
   -- conj = test { "and" test }
   pub data IsConjunction : Input → Conjunction → Input → Type 0 where
-    conjunction : (i j l : Input) (first : Test) (more : List Test) → IsTest i first j → Many (IsJoined k.And IsTest) (is_kind k.And) j more l → IsConjunction i (conjunction_of (first ∷ more)) l
+    conjunction : (i j l : Input) (first : Test) (more : List Test) → IsTest i first j →
+        Many (IsJoined k.And IsTest) (is_kind k.And) j more l → IsConjunction i (conjunction_of (first ∷ more)) l
 
   -- query = conj { "or" conj }
   pub data IsQuery : Input → Query → Input → Type 0 where
-    query : (i j l : Input) (first : Conjunction) (more : List Conjunction) → IsConjunction i first j → Many (IsJoined k.Or IsConjunction) (is_kind k.Or) j more l → IsQuery i (query_of (first ∷ more)) l
+    query : (i j l : Input) (first : Conjunction) (more : List Conjunction) → IsConjunction i first j →
+        Many (IsJoined k.Or IsConjunction) (is_kind k.Or) j more l → IsQuery i (query_of (first ∷ more)) l
 
   abbrev pub InnerQuery : Phrase Query
   InnerQuery i q j = N.reads goal.Query i (part.Query q) j
@@ -135,19 +151,25 @@ module _ (N : Within) where
 
   -- collector = TYPE ("<|" [query] "|>" | "<<|" [query] "|>>") [ "{" [attrs] "}" ]
   pub data IsCollector : Input → Collector → Input → Type 0 where
-    collector : (i j l m n o : Input) (exported : Bool) (type opener closer : Token) (q : Option Query) (attrs : List (Attribute Expr))
-        → Stands (is_kind k.Type) i type j → Opens N (opens_query exported) j opener l → Maybe InnerQuery (λ next. not (is_kind (closes_query exported) next)) l q m
-        → Stands (is_kind (closes_query exported)) m closer n → AreSettings n attrs o → IsCollector i (collector_of type.text exported q attrs type.line) o
+    collector : (i j l m n o : Input) (exported : Bool) (type opener closer : Token) (q : Option Query)
+        (attrs : List (Attribute Expr))
+        → Stands (is_kind k.Type) i type j → Opens N (opens_query exported) j opener l →
+        Maybe InnerQuery (λ next. not (is_kind (closes_query exported) next)) l q m
+        → Stands (is_kind (closes_query exported)) m closer n → AreSettings n attrs o →
+        IsCollector i (collector_of type.text exported q attrs type.line) o
 
   -- reference = TYPE "[" args "]"
   pub data IsReference : Input → Reference Expr → Input → Type 0 where
     reference : (i j l m n : Input) (type opener closer : Token) (xs : List Expr)
-        → Stands (is_kind k.Type) i type j → Opens N k.TightBracket j opener l → SeparatedSome (is_kind k.CloseBracket) k.Comma (Inner N false) l xs m → Stands (is_kind k.CloseBracket) m closer n
+        → Stands (is_kind k.Type) i type j → Opens N k.TightBracket j opener l →
+        SeparatedSome (is_kind k.CloseBracket) k.Comma (Inner N false) l xs m →
+        Stands (is_kind k.CloseBracket) m closer n
         → IsReference i (reference_of type.text xs type.line) n
 
   -- an expression as an operand: a name before `{` and a type before the brackets of a query begin none
   pub data IsExpressionOperand : Input → Expr → Input → Type 0 where
-    expression : (i j : Input) (x : Expr) → (Begins is_name (is_kind k.OpenBrace) i → ⊥) → (Begins (is_kind k.Type) opens_collector i → ⊥) → IsWhole N false false i x j → IsExpressionOperand i x j
+    expression : (i j : Input) (x : Expr) → (Begins is_name (is_kind k.OpenBrace) i → ⊥) →
+        (Begins (is_kind k.Type) opens_collector i → ⊥) → IsWhole N false false i x j → IsExpressionOperand i x j
 
   -- operand = resource | collector | expr; overrides and defaults stand alone
   pub data IsOperand : Input → Operand → Input → Type 0 where
@@ -157,11 +179,13 @@ module _ (N : Within) where
 
   -- ("->" | "~>" | "<-" | "<~") operand
   pub data IsLink : Input → Link Operand → Input → Type 0 where
-    link : (i j l : Input) (t : Token) (arrow : Arrow) (o : Operand) → Stands is_arrow i t j → arrow_at (Some t.kind) ≡ Some arrow → IsOperand j o l → IsLink i (link_of arrow o) l
+    link : (i j l : Input) (t : Token) (arrow : Arrow) (o : Operand) → Stands is_arrow i t j →
+        arrow_at (Some t.kind) ≡ Some arrow → IsOperand j o l → IsLink i (link_of arrow o) l
 
   -- chain = operand { arrow operand }
   pub data IsChain : Input → Statement → Input → Type 0 where
-    chain : (i j l : Input) (first : Operand) (links : List (Link Operand)) → IsOperand i first j → Many IsLink is_arrow j links l
+    chain : (i j l : Input) (first : Operand) (links : List (Link Operand)) → IsOperand i first j →
+        Many IsLink is_arrow j links l
         → IsChain i (statement.Chain (chain_of first links (line_at i.left))) l
 
   -- [args] of a statement function: a name that `{` follows is no argument
@@ -170,22 +194,31 @@ module _ (N : Within) where
 
   pub data AreWords : Input → List Expr → Input → Type 0 where
     none : (i : Input) → (BeginsArgument i → ⊥) → AreWords i [] i
-    last : (i j : Input) (x : Expr) → BeginsArgument i → IsWhole N false false i x j → is_kind k.Comma (kind j) ≡ false → AreWords i (x ∷ []) j
-    more : (i j l m : Input) (t : Token) (x : Expr) (xs : List Expr) → BeginsArgument i → IsWhole N false false i x j → Stands (is_kind k.Comma) j t l → AreWords l xs m → AreWords i (x ∷ xs) m
+    last : (i j : Input) (x : Expr) → BeginsArgument i → IsWhole N false false i x j →
+        is_kind k.Comma (kind j) ≡ false → AreWords i (x ∷ []) j
+    more : (i j l m : Input) (t : Token) (x : Expr) (xs : List Expr) → BeginsArgument i → IsWhole N false false i x j →
+        Stands (is_kind k.Comma) j t l → AreWords l xs m → AreWords i (x ∷ xs) m
 
   -- a type, or a reference, before `{`: it begins defaults or an override
   pub data BeginsAlone (i : Input) : Type 0 where
     type : Begins (is_kind k.Type) (is_kind k.OpenBrace) i → BeginsAlone i
-    reference : (j : Input) (r : Reference Expr) → IsReference i r j → is_kind k.OpenBrace (kind j) ≡ true → BeginsAlone i
+    reference : (j : Input) (r : Reference Expr) → IsReference i r j → is_kind k.OpenBrace (kind j) ≡ true →
+        BeginsAlone i
 
   -- statement = chain | override | defaults | words
   pub data IsStatement : Input → Statement → Input → Type 0 where
-    chain : (i j : Input) (s : Statement) → (Begins (is_kind k.StatementFunction) (λ next. not (calls_or_declares next)) i → ⊥) → (BeginsAlone i → ⊥) → IsChain i s j → IsStatement i s j
-    override : (i j l : Input) (r : Reference Expr) (attrs : List (Attribute Expr)) → IsReference i r j → AreAttributes true j attrs l
-        → IsStatement i (statement.Chain (chain_of (operand.Override (override_of r attrs (line_at i.left))) [] (line_at i.left))) l
-    defaults : (i j l : Input) (t : Token) (attrs : List (Attribute Expr)) → Stands (is_kind k.Type) i t j → AreAttributes false j attrs l
+    chain : (i j : Input) (s : Statement) →
+        (Begins (is_kind k.StatementFunction) (λ next. not (calls_or_declares next)) i → ⊥) → (BeginsAlone i → ⊥) →
+        IsChain i s j → IsStatement i s j
+    override : (i j l : Input) (r : Reference Expr) (attrs : List (Attribute Expr)) → IsReference i r j →
+        AreAttributes true j attrs l
+        → IsStatement i
+        (statement.Chain (chain_of (operand.Override (override_of r attrs (line_at i.left))) [] (line_at i.left))) l
+    defaults : (i j l : Input) (t : Token) (attrs : List (Attribute Expr)) → Stands (is_kind k.Type) i t j →
+        AreAttributes false j attrs l
         → IsStatement i (statement.Chain (chain_of (operand.Defaults (defaults_of t.text attrs t.line)) [] t.line)) l
-    words : (i j l : Input) (t : Token) (xs : List Expr) → Stands (is_kind k.StatementFunction) i t j → calls_or_declares (kind j) ≡ false → AreWords j xs l
+    words : (i j l : Input) (t : Token) (xs : List Expr) → Stands (is_kind k.StatementFunction) i t j →
+        calls_or_declares (kind j) ≡ false → AreWords j xs l
         → IsStatement i (statement.Words (words_of t.text xs t.line)) l
 
   -- [";"]
@@ -196,4 +229,5 @@ module _ (N : Within) where
   -- { statement [";"] } before "}"
   pub data AreStatements : Input → List Statement → Input → Type 0 where
     none : (i : Input) → is_kind k.CloseBrace (kind i) ≡ true → AreStatements i [] i
-    more : (i j l m : Input) (s : Statement) (ss : List Statement) → is_kind k.CloseBrace (kind i) ≡ false → IsStatement i s j → IsEnd j l → AreStatements l ss m → AreStatements i (s ∷ ss) m
+    more : (i j l m : Input) (s : Statement) (ss : List Statement) → is_kind k.CloseBrace (kind i) ≡ false →
+        IsStatement i s j → IsEnd j l → AreStatements l ss m → AreStatements i (s ∷ ss) m

@@ -2,7 +2,7 @@
 use Rattle.std.proofs.Common.{◌≡◌, ℕ, zero, suc, ◌+◌, ◌-◌, ◌<◌, ◌≤◌, Bool, true, false, if◌then◌else◌, nat_eq, List, [], ◌∷◌, ◌++◌, Option, Ok, Err, refl, sym, ap, ◌∙◌, arith}
 use Rattle.std.proofs.Math.Dec.{eqb-suc-zero}
 use Rattle.pp_lexer.specs.declared.kind.Kind.{Kind}
-use Rattle.pp_parser.specs.declared.goal.Goal.{Goal}
+use Rattle.pp_parser.specs.declared.inset.Inset.{Inset}
 use Rattle.pp_parser.specs.Input.{Input, Parser, and_then, ◌>>=◌, pure, kind, eat, refusal, more_or_done, repeat_from, separated_from}
 use Rattle.pp_parser.specs.Levels.{within, part_by}
 
@@ -13,12 +13,12 @@ unfolding within
 deepest_is zero = refl
 deepest_is (suc n) = sym (eqb-suc-zero n)
 
-pub read_none : (levels : ℕ) (goal : Goal) (i : Input) → levels ≡ 0 → (within levels).read goal i ≡ Err (refusal i)
+pub read_none : (levels : ℕ) (goal : Inset) (i : Input) → levels ≡ 0 → (within levels).read goal i ≡ Err (refusal i)
 unfolding within
 read_none zero goal i e = refl
 read_none (suc n) goal i e = absurd (omega arith)
 
-pub read_within : (levels : ℕ) (goal : Goal) (i : Input) → 0 < levels → (within levels).read goal i ≡ part_by (within (levels - 1)) goal i
+pub read_within : (levels : ℕ) (goal : Inset) (i : Input) → 0 < levels → (within levels).read goal i ≡ part_by (within (levels - 1)) goal i
 unfolding within
 read_within zero goal i some = absurd (omega arith)
 read_within (suc n) goal i some = let e : suc n - 1 ≡ n = omega arith in rw e refl

@@ -1,5 +1,6 @@
 -- Definitions, and what stands at the top of a file.
-use Rattle.std.specs.Prelude.{ℕ, zero, suc, Bool, true, false, if◌then◌else◌, List, [], ◌∷◌, ◌++◌, Option, Some, None, codes}
+use Rattle.std.specs.Prelude.{ℕ, zero, suc, Bool, true, false, if◌then◌else◌, List, [], ◌∷◌, ◌++◌, Option, Some, None}
+use Rattle.std.specs.Prelude.{codes}
 use Rattle.std.specs.Str.{bytes_eq}
 use Rattle.pp_lexer.specs.declared.kind.Kind.{Kind}
 use Rattle.pp_lexer.specs.declared.kind.Kind.TheVariants as k
@@ -15,7 +16,8 @@ use Rattle.pp_tree.specs.Building.{class_of, define_of, node_of, node_name as no
 use Rattle.pp_parser.specs.declared.found.Found.{Found}
 use Rattle.pp_parser.specs.declared.item.Item.{Item}
 use Rattle.pp_parser.specs.declared.item.Item.TheVariants as item
-use Rattle.pp_parser.specs.Input.{Parser, ◌>>=◌, ◌>>◌, ◌<$>◌, pure, peek, here, take, refuse, expect, expect_any, eat, turns, separated}
+use Rattle.pp_parser.specs.Input.{Parser, ◌>>=◌, ◌>>◌, ◌<$>◌, pure, peek, here, take, refuse, expect, expect_any, eat}
+use Rattle.pp_parser.specs.Input.{turns, separated}
 use Rattle.pp_parser.specs.Inner.{Inner, opening, param_in}
 use Rattle.pp_parser.specs.Kinds.{is_name}
 use Rattle.pp_parser.specs.Expressions.{block, is_at}

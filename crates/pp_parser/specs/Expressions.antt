@@ -1,5 +1,6 @@
 -- Expressions. A rule stands on some level; what stands one level further in is asked of `inner`.
-use Rattle.std.specs.Prelude.{ℕ, zero, suc, ◌+◌, ◌-◌, Bool, true, false, if◌then◌else◌, ◌==◌, List, [], ◌∷◌, ◌++◌, Option, Some, None}
+use Rattle.std.specs.Prelude.{ℕ, zero, suc, ◌+◌, ◌-◌, Bool, true, false, if◌then◌else◌, ◌==◌, List, [], ◌∷◌, ◌++◌}
+use Rattle.std.specs.Prelude.{Option, Some, None}
 use Rattle.pp_lexer.specs.declared.kind.Kind.{Kind}
 use Rattle.pp_lexer.specs.declared.kind.Kind.TheVariants as k
 use Rattle.pp_tree.specs.declared.operators.BinaryOperator.{BinaryOperator}
@@ -20,10 +21,13 @@ use Rattle.pp_tree.specs.declared.param.Param.{Param}
 use Rattle.pp_tree.specs.declared.statement.Statement.{Statement}
 use Rattle.pp_tree.specs.declared.conditions.CaseOption.{CaseOption}
 use Rattle.pp_tree.specs.declared.conditions.Elsif.{Elsif}
-use Rattle.pp_tree.specs.Building.{expr_at, line_of, pair, operation, call, lambda, param, elsif, if_of, unless_of, case_of, case_option as option_of_case}
+use Rattle.pp_tree.specs.Building.{expr_at, line_of, pair, operation, call, lambda, param, elsif, if_of, unless_of}
+use Rattle.pp_tree.specs.Building.{case_of, case_option as option_of_case}
 use Rattle.pp_parser.specs.declared.started.Started.{Started}
-use Rattle.pp_parser.specs.Input.{Parser, ◌>>=◌, ◌>>◌, ◌<$>◌, pure, peek, here, take, refuse, expect, expect_any, repeat, separated, separated_some}
-use Rattle.pp_parser.specs.Inner.{Inner, opening, whole_in, operand_in, interpolated_in, param_in, statements_in, case_option_in}
+use Rattle.pp_parser.specs.Input.{Parser, ◌>>=◌, ◌>>◌, ◌<$>◌, pure, peek, here, take, refuse, expect, expect_any}
+use Rattle.pp_parser.specs.Input.{repeat, separated, separated_some}
+use Rattle.pp_parser.specs.Inner.{Inner, opening, whole_in, operand_in, interpolated_in, param_in, statements_in}
+use Rattle.pp_parser.specs.Inner.{case_option_in}
 use Rattle.pp_parser.specs.Keys.{noting}
 use Rattle.pp_parser.specs.Kinds.{is_kind, is_name, is_bar}
 use Rattle.pp_parser.specs.Params.{param_from}
@@ -497,8 +501,8 @@ module _ (inner : Inner) where
   unfoldable pub variable_param : Bool → ℕ → List ℕ → Parser (Param Expr)
   variable_param bars at name = assigned false bars at name >>= param_behind bars at
 
-  -- An expression and a variable, or an expression that is a variable or its assignment. Within bars, only what stands behind
-  -- `=` may end before the last bar.
+  -- An expression and a variable, or an expression that is a variable or its assignment. Within bars, only what stands
+  -- behind `=` may end before the last bar.
   unfoldable pub param_rule : Bool → Parser (Param Expr)
   param_rule bars = do
     at ← here

@@ -7,17 +7,17 @@ use Rattle.pp_tree.specs.declared.param.Param.{Param}
 use Rattle.pp_tree.specs.declared.statement.Statement.{Statement}
 use Rattle.pp_tree.specs.declared.conditions.CaseOption.{CaseOption}
 use Rattle.pp_tree.specs.declared.collector.Query.{Query}
-use Rattle.pp_parser.specs.declared.goal.Goal.{Goal}
-use Rattle.pp_parser.specs.declared.goal.Goal.TheVariants as goal
-use Rattle.pp_parser.specs.declared.goal.Part.{Part}
-use Rattle.pp_parser.specs.declared.goal.Part.TheVariants as part
+use Rattle.pp_parser.specs.declared.inset.Inset.{Inset}
+use Rattle.pp_parser.specs.declared.inset.Inset.TheVariants as goal
+use Rattle.pp_parser.specs.declared.inset.InsetTree.{InsetTree}
+use Rattle.pp_parser.specs.declared.inset.InsetTree.TheVariants as part
 use Rattle.pp_parser.specs.Input.{Parser, ◌>>=◌, pure, refuse, open_level}
 
 pub record Inner : Type 0 where
   -- whether no level may be opened any more
   pub is_deepest : Bool
   -- what is read there for a goal
-  pub read : Goal → Parser Part
+  pub read : Inset → Parser InsetTree
 
 -- a token of this kind, which opens a level
 abbrev pub opening : Inner → Kind → Parser Token
@@ -25,23 +25,23 @@ opening inner k = open_level inner.is_deepest k
 
 -- ---- a goal's part is of the goal's sort
 
-abbrev pub expr_of : Part → Parser Expr
+abbrev pub expr_of : InsetTree → Parser Expr
 expr_of (part.Expr x) = pure x
 expr_of _ = refuse
 
-abbrev pub param_of : Part → Parser (Param Expr)
+abbrev pub param_of : InsetTree → Parser (Param Expr)
 param_of (part.Param x) = pure x
 param_of _ = refuse
 
-abbrev pub block_of : Part → Parser (List Statement)
+abbrev pub block_of : InsetTree → Parser (List Statement)
 block_of (part.Block x) = pure x
 block_of _ = refuse
 
-abbrev pub case_option_of : Part → Parser CaseOption
+abbrev pub case_option_of : InsetTree → Parser CaseOption
 case_option_of (part.CaseOption x) = pure x
 case_option_of _ = refuse
 
-abbrev pub query_of : Part → Parser Query
+abbrev pub query_of : InsetTree → Parser Query
 query_of (part.Query x) = pure x
 query_of _ = refuse
 

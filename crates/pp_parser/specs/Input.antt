@@ -1,6 +1,7 @@
--- What a rule of the grammar reads from, and the steps that every rule is made of. A rule looks at the next token and at no
--- other, and takes tokens from the front, or says where it stops.
-use Rattle.std.specs.Prelude.{◌≡◌, ◌≢◌, ℕ, zero, suc, ◌+◌, Bool, true, false, if◌then◌else◌, List, [], ◌∷◌, ◌++◌, length, Option, Some, None, Result, Ok, Err, refl}
+-- What a rule of the grammar reads from, and the steps that every rule is made of. A rule looks at the next token and
+-- at no other, and takes tokens from the front, or says where it stops.
+use Rattle.std.specs.Prelude.{◌≡◌, ◌≢◌, ℕ, zero, suc, ◌+◌, Bool, true, false, if◌then◌else◌, List, [], ◌∷◌, ◌++◌}
+use Rattle.std.specs.Prelude.{length, Option, Some, None, Result, Ok, Err, refl}
 use Rattle.pp_lexer.specs.declared.kind.Kind.{Kind}
 use Rattle.std.specs.Coded.{Coded, code_by, coded×, coded_ℕ, coded_list, coded_option}
 use Rattle.pp_lexer.specs.contracts.kind.Kind as kinds
@@ -17,7 +18,9 @@ pub record Input : Type 0 where
 
 -- how a proof tells inputs apart
 abbrev pub input_code : Coded Input
-input_code = code_by (List Token × Option ℕ) (coded× (coded_list (token_code kinds.the_row.coded)) (coded_option coded_ℕ)) (λ i. (i.left, i.doubled)) (λ p. record { left = p.0; doubled = p.1 }) (λ _. refl)
+input_code =
+    code_by (List Token × Option ℕ) (coded× (coded_list (token_code kinds.the_row.coded)) (coded_option coded_ℕ))
+    (λ i. (i.left, i.doubled)) (λ p. record { left = p.0; doubled = p.1 }) (λ _. refl)
 
 abbrev pub Outcome : Type 0 → Type 0
 Outcome A = Result (A × Input) Refusal
@@ -98,7 +101,8 @@ eat k = λ i. if sees k i then and_then (take i) (λ _. pure true) else Ok (fals
 
 -- A token that opens a level, one further in than all that are open.
 unfoldable pub open_level : Bool → Kind → Parser Token
-open_level is_deepest k = λ i. if sees k i then (if is_deepest then Err (refusals.Deep (length i.left)) else take i) else refuse i
+open_level is_deepest k = λ i. if sees k i then (if is_deepest then Err (refusals.Deep (length i.left)) else take i)
+    else refuse i
 
 -- ---- lists. Each turn takes a token, so that as many turns as there are tokens are enough, and one to see the end.
 

@@ -1,4 +1,5 @@
--- Keys that stand twice in a hash literal. A key counts where it is written as a text without interpolation, a name or a number.
+-- Keys that stand twice in a hash literal. A key counts where it is written as a text without interpolation, a name or
+-- a number.
 use Rattle.std.specs.Prelude.{ℕ, Bool, false, ◌||◌, if◌then◌else◌, List, [], ◌∷◌, ◌++◌, min, Option, Some, None, Ok, ℤ}
 use Rattle.std.specs.Ordering.{int_eq}
 use Rattle.std.specs.Str.{bytes_eq}
@@ -38,7 +39,8 @@ is_key key (p ∷ ps) = same_written (written p.key) (written key) || is_key key
 -- the line of the first key that is an earlier pair's key too
 unfoldable pub doubled_from : List (Pair Expr) → List (Pair Expr) → Option ℕ
 doubled_from earlier [] = None
-doubled_from earlier (p ∷ ps) = if is_key p.key earlier then Some (line_of p.key) else doubled_from (earlier ++ p ∷ []) ps
+doubled_from earlier (p ∷ ps) = if is_key p.key earlier then Some (line_of p.key)
+    else doubled_from (earlier ++ p ∷ []) ps
 
 unfoldable pub doubled_key : List (Pair Expr) → Option ℕ
 doubled_key pairs = doubled_from [] pairs

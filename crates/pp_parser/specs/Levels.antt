@@ -1,9 +1,9 @@
 -- How rules stand within one another. A token that opens a level is refused where 200 are open.
 use Rattle.std.specs.Prelude.{ℕ, zero, suc, true, false}
-use Rattle.pp_parser.specs.declared.goal.Goal.{Goal}
-use Rattle.pp_parser.specs.declared.goal.Goal.TheVariants as goal
-use Rattle.pp_parser.specs.declared.goal.Part.{Part}
-use Rattle.pp_parser.specs.declared.goal.Part.TheVariants as part
+use Rattle.pp_parser.specs.declared.inset.Inset.{Inset}
+use Rattle.pp_parser.specs.declared.inset.Inset.TheVariants as goal
+use Rattle.pp_parser.specs.declared.inset.InsetTree.{InsetTree}
+use Rattle.pp_parser.specs.declared.inset.InsetTree.TheVariants as part
 use Rattle.pp_parser.specs.Input.{Parser, ◌<$>◌, refuse}
 use Rattle.pp_parser.specs.Inner.{Inner}
 use Rattle.pp_parser.specs.Expressions.{whole, operand, interpolated, param_rule, case_option}
@@ -13,7 +13,7 @@ abbrev pub max_levels : ℕ
 max_levels = 200
 
 -- what a goal reads, by the readers that stand further in
-unfoldable pub part_by : Inner → Goal → Parser Part
+unfoldable pub part_by : Inner → Inset → Parser InsetTree
 part_by inner (goal.Whole bars) = part.Expr <$> whole inner bars bars
 part_by inner (goal.Operand bars) = part.Expr <$> operand inner bars
 part_by inner goal.Interpolated = part.Expr <$> interpolated inner

@@ -28,7 +28,8 @@ start ts = record { left = ts; doubled = None }
 
 -- what the file at this path says
 unfoldable pub read_file : List ℕ → Parser Found
-read_file path = λ i. if bytes_eq path main_path then main_manifest (within max_levels) i else module_file (within max_levels) i
+read_file path = λ i. if bytes_eq path main_path then main_manifest (within max_levels) i
+    else module_file (within max_levels) i
 
 -- the line of the place from which so many tokens are left; that of none is the end of the file
 unfoldable pub line_from : ℕ → List Token → ℕ
@@ -51,7 +52,8 @@ without_doubles path found table (Some line) = Err (fault_at path Syntax line)
 without_doubles path found (Ok entries) None = Ok (record { statements = found.statements; definitions = entries })
 without_doubles path found (Err stop) None = Err (fault_at path Syntax 0)
 
--- A name that is defined twice and a key that stands twice are faults once the text has a tree; the first of them counts.
+-- A name that is defined twice and a key that stands twice are faults once the text has a tree; the first of them
+-- counts.
 unfoldable pub file_with : List ℕ → Found → Option ℕ → Result File Fault
 file_with path found doubled_key =
     let table = table_of found.definitions in

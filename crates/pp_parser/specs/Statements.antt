@@ -1,5 +1,5 @@
--- Statements. Behind a statement function's arguments, a name may have been taken already which `{` follows: it begins the
--- resource that is the next statement. It is handed on as `pending`.
+-- Statements. Behind a statement function's arguments, a name may have been taken already which `{` follows: it begins
+-- the resource that is the next statement. It is handed on as `pending`.
 use Rattle.std.specs.Prelude.{ℕ, zero, suc, Bool, true, false, if◌then◌else◌, List, [], ◌∷◌, ◌++◌, Option, Some, None}
 use Rattle.pp_lexer.specs.declared.kind.Kind.{Kind}
 use Rattle.pp_lexer.specs.declared.kind.Kind.TheVariants as k
@@ -25,10 +25,14 @@ use Rattle.pp_tree.specs.declared.definition.Name.{Name}
 use Rattle.pp_tree.specs.declared.expr.Postfix.{Postfix}
 use Rattle.pp_parser.specs.declared.argument.WordArgument.{WordArgument}
 use Rattle.pp_parser.specs.declared.argument.WordArgument.TheVariants as argument
-use Rattle.pp_tree.specs.Building.{expr_at, name_at, reference, chain as chain_of, link, words as words_of, resource as resource_of, body as body_of, setting, splat, override as override_of, defaults as defaults_of, collector as collector_of, query as query_of, conjunction, comparison}
+use Rattle.pp_tree.specs.Building.{expr_at, name_at, reference, chain as chain_of, link, words as words_of}
+use Rattle.pp_tree.specs.Building.{resource as resource_of, body as body_of, setting, splat, override as override_of}
+use Rattle.pp_tree.specs.Building.{defaults as defaults_of, collector as collector_of, query as query_of, conjunction}
+use Rattle.pp_tree.specs.Building.{comparison}
 use Rattle.pp_tree.specs.declared.resource.Attribute.TheVariants as attribute_form
 use Rattle.pp_tree.specs.declared.collector.Test.TheVariants as test_form
-use Rattle.pp_parser.specs.Input.{Parser, ◌>>=◌, ◌>>◌, ◌<$>◌, pure, peek, here, take, refuse, expect, expect_any, eat, repeat, turns, separated, separated_some}
+use Rattle.pp_parser.specs.Input.{Parser, ◌>>=◌, ◌>>◌, ◌<$>◌, pure, peek, here, take, refuse, expect, expect_any, eat}
+use Rattle.pp_parser.specs.Input.{repeat, turns, separated, separated_some}
 use Rattle.pp_parser.specs.Inner.{Inner, opening, whole_in, query_in}
 use Rattle.pp_parser.specs.Kinds.{is_name, is_word, begins_expression, ends_body}
 use Rattle.pp_parser.specs.Expressions.{started, loosest, access, call_or_name, chain, value, whole, is_at}
@@ -207,7 +211,8 @@ module _ (inner : Inner) where
   -- ---- operands of a chain
 
   unfoldable pub expression_from : Expr → List Postfix → Parser Operand
-  expression_from base postfixes = operand.Expr <$> chain inner false loosest (Some (record { base = base; postfixes = postfixes }))
+  expression_from base postfixes =
+      operand.Expr <$> chain inner false loosest (Some (record { base = base; postfixes = postfixes }))
 
   abbrev pub behind_name_by : Name → Option Kind → Parser Operand
   behind_name_by name (Some k.OpenBrace) = resource resource_form.Plain name.text name.at
@@ -287,7 +292,8 @@ module _ (inner : Inner) where
 
   -- a chain that begins with `Type[args]`
   abbrev pub reference_chain : Name → List Expr → Parser Read
-  reference_chain type args = expression_from (expr_at type.at (form.Type type.text)) (postfix.Access args ∷ []) >>= chain_from type.at
+  reference_chain type args = expression_from (expr_at type.at (form.Type type.text)) (postfix.Access args ∷ [])
+      >>= chain_from type.at
 
   abbrev pub reference_by : Name → List Expr → Option Kind → Parser Read
   reference_by type args (Some k.OpenBrace) = override_rule type args
@@ -328,9 +334,11 @@ module _ (inner : Inner) where
     next ← peek
     if is_name next then taken_name >>= argument_from else argument.Argument <$> whole inner false false
 
-  abbrev pub argument_then : List Expr → (List Expr → Parser (List Expr × Option Name)) → WordArgument → Parser (List Expr × Option Name)
+  abbrev pub argument_then : List Expr → (List Expr → Parser (List Expr × Option Name)) → WordArgument →
+      Parser (List Expr × Option Name)
   argument_then found go (argument.Pending name) = pure (found, Some name)
-  argument_then found go (argument.Argument x) = eat k.Comma >>= (λ more. if more then go (found ++ x ∷ []) else pure (found ++ x ∷ [], None))
+  argument_then found go (argument.Argument x) =
+      eat k.Comma >>= (λ more. if more then go (found ++ x ∷ []) else pure (found ++ x ∷ [], None))
 
   unfoldable pub words_from : ℕ → List Expr → Parser (List Expr × Option Name)
   words_from zero found = refuse

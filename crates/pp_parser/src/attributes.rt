@@ -8,7 +8,7 @@ ghost use Rattle.pp_parser.specs.Nests.{Nests};
 ghost use Rattle.pp_parser.specs.Statements as spec;
 
 use crate::cursor::Cursor;
-use crate::goal::{Goal, Part};
+use crate::inset::{Inset, InsetTree};
 use crate::lists::put;
 use crate::refusal::Refusal;
 use crate::rules::Rules;
@@ -17,7 +17,7 @@ use pp_tree::resource::{Attribute, Attributes, Setting, Splat};
 use pp_values::Items;
 use std::alloc::Global;
 
-impl<F: Fn(Global, &mut Cursor<'_>, usize, Goal) -> Result<Part, Refusal>> Rules<F> {
+impl<F: Fn(Global, &mut Cursor<'_>, usize, Inset) -> Result<InsetTree, Refusal>> Rules<F> {
     /// `=>`, or `+>` where it may stand: whether it appends.
     #[tactic(auto, unfolding(crate::specs::Statements::assigns))]
     fn assigns(&self, tokens: &mut Cursor<'_>, may_append: bool) -> Result<bool, Refusal>

@@ -11,7 +11,7 @@ ghost use Rattle.pp_parser.specs.Levels.{within};
 ghost use Rattle.pp_parser.specs.Nests.{Nests};
 
 use crate::cursor::Cursor;
-use crate::goal::{Goal, Part};
+use crate::inset::{Inset, InsetTree};
 use crate::keys::doubled_key;
 use crate::kinds::is_bar;
 use crate::lists::put;
@@ -24,7 +24,7 @@ use pp_tree::statement::Block;
 use pp_values::{Boxed, Items};
 use std::alloc::Global;
 
-impl<F: Fn(Global, &mut Cursor<'_>, usize, Goal) -> Result<Part, Refusal>> Rules<F> {
+impl<F: Fn(Global, &mut Cursor<'_>, usize, Inset) -> Result<InsetTree, Refusal>> Rules<F> {
     /// `{ statements }`
     #[tactic(auto, unfolding(crate::specs::Expressions::block))]
     pub fn block(&self, tokens: &mut Cursor<'_>) -> Result<Block, Refusal>

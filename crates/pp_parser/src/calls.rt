@@ -6,7 +6,7 @@ ghost use Rattle.pp_parser.specs.Levels.{within};
 ghost use Rattle.pp_parser.specs.Nests.{Nests};
 
 use crate::cursor::Cursor;
-use crate::goal::{Goal, Part};
+use crate::inset::{Inset, InsetTree};
 use crate::refusal::Refusal;
 use crate::rules::Rules;
 use pp_lexer::kind::Kind;
@@ -15,7 +15,7 @@ use pp_values::Boxed;
 use pp_values::text::Text;
 use std::alloc::Global;
 
-impl<F: Fn(Global, &mut Cursor<'_>, usize, Goal) -> Result<Part, Refusal>> Rules<F> {
+impl<F: Fn(Global, &mut Cursor<'_>, usize, Inset) -> Result<InsetTree, Refusal>> Rules<F> {
     /// Behind a name: `name(args) lambda`, or the name alone.
     #[tactic(auto, unfolding(crate::specs::Expressions::call_or_name))]
     pub fn call_or_name(

@@ -7,7 +7,7 @@ ghost use Rattle.pp_parser.specs.Nests.{Nests};
 ghost use Rattle.pp_parser.specs.Statements as spec;
 
 use crate::cursor::Cursor;
-use crate::goal::{Goal, Part};
+use crate::inset::{Inset, InsetTree};
 use crate::refusal::Refusal;
 use crate::rules::Rules;
 use pp_lexer::kind::Kind;
@@ -18,7 +18,7 @@ use pp_values::text::Text;
 use pp_values::{Boxed, Items};
 use std::alloc::Global;
 
-impl<F: Fn(Global, &mut Cursor<'_>, usize, Goal) -> Result<Part, Refusal>> Rules<F> {
+impl<F: Fn(Global, &mut Cursor<'_>, usize, Inset) -> Result<InsetTree, Refusal>> Rules<F> {
     /// `==` or `!=`: whether it is `==`.
     #[tactic(auto, unfolding(crate::specs::Statements::compares))]
     fn compares(&self, tokens: &mut Cursor<'_>) -> Result<bool, Refusal>

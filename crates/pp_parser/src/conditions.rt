@@ -9,7 +9,7 @@ ghost use Rattle.pp_parser.specs.Levels.{within};
 ghost use Rattle.pp_parser.specs.Nests.{Nests};
 
 use crate::cursor::Cursor;
-use crate::goal::{Goal, Part};
+use crate::inset::{Inset, InsetTree};
 use crate::lists::put;
 use crate::refusal::Refusal;
 use crate::rules::Rules;
@@ -20,7 +20,7 @@ use pp_tree::statement::Block;
 use pp_values::{Boxed, Items};
 use std::alloc::Global;
 
-impl<F: Fn(Global, &mut Cursor<'_>, usize, Goal) -> Result<Part, Refusal>> Rules<F> {
+impl<F: Fn(Global, &mut Cursor<'_>, usize, Inset) -> Result<InsetTree, Refusal>> Rules<F> {
     /// `else` and its block, or nothing.
     #[tactic(auto, unfolding(crate::specs::Expressions::otherwise))]
     fn otherwise(&self, tokens: &mut Cursor<'_>) -> Result<Option<Block>, Refusal>

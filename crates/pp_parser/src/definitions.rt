@@ -10,7 +10,7 @@ ghost use Rattle.pp_parser.specs.Nests.{Nests};
 ghost use Rattle.std.specs.Prelude.{◌≡◌, false};
 
 use crate::cursor::Cursor;
-use crate::goal::{Goal, Part};
+use crate::inset::{Inset, InsetTree};
 use crate::lists::put;
 use crate::operands::{name_of, taken_name};
 use crate::refusal::Refusal;
@@ -29,7 +29,7 @@ fn node_name(text: Text) -> Option<Text>
     if text.is("default") { None } else { Some(text) }
 }
 
-impl<F: Fn(Global, &mut Cursor<'_>, usize, Goal) -> Result<Part, Refusal>> Rules<F> {
+impl<F: Fn(Global, &mut Cursor<'_>, usize, Inset) -> Result<InsetTree, Refusal>> Rules<F> {
     /// The name of a class or a define.
     #[tactic(auto, unfolding(crate::specs::Definitions::name_rule))]
     fn definition_name(&self, tokens: &mut Cursor<'_>) -> Result<Name, Refusal>

@@ -8,7 +8,7 @@ ghost use Rattle.std.specs.Prelude.{◌≡◌, None};
 
 use crate::cursor::Cursor;
 use crate::found::Found;
-use crate::goal::{Goal, Part};
+use crate::inset::{Inset, InsetTree};
 use crate::item::Item;
 use crate::operands::taken_name;
 use crate::refusal::Refusal;
@@ -28,7 +28,7 @@ fn ends_file(pending: &Option<Name>, next: Option<Kind>) -> bool
     }
 }
 
-impl<F: Fn(Global, &mut Cursor<'_>, usize, Goal) -> Result<Part, Refusal>> Rules<F> {
+impl<F: Fn(Global, &mut Cursor<'_>, usize, Inset) -> Result<InsetTree, Refusal>> Rules<F> {
     /// Behind the word `class`: its braces, and the chain that begins with this resource.
     fn class_chain(&self, tokens: &mut Cursor<'_>, word: Name) -> Result<Item, Refusal>
         requires { Nests self.now.levels (F.pre self.now.inner) (F.post self.now.inner) }

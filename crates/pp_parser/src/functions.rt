@@ -8,7 +8,7 @@ ghost use Rattle.std.specs.Prelude.{[]};
 
 use crate::argument::WordArgument;
 use crate::cursor::Cursor;
-use crate::goal::{Goal, Part};
+use crate::inset::{Inset, InsetTree};
 use crate::kinds::{begins_expression, is_name};
 use crate::lists::put;
 use crate::operands::{Read, taken_name};
@@ -26,7 +26,7 @@ use std::alloc::Global;
 /// Arguments, and a name behind them that begins the next statement.
 pub type WordArguments = (Args, Option<Name>);
 
-impl<F: Fn(Global, &mut Cursor<'_>, usize, Goal) -> Result<Part, Refusal>> Rules<F> {
+impl<F: Fn(Global, &mut Cursor<'_>, usize, Inset) -> Result<InsetTree, Refusal>> Rules<F> {
     /// Behind a name: the rest of an argument, or nothing where the name is none.
     #[tactic(auto, unfolding(crate::specs::Statements::argument_from))]
     fn argument_from(&self, tokens: &mut Cursor<'_>, name: Name) -> Result<WordArgument, Refusal>

@@ -6,7 +6,7 @@ ghost use Rattle.pp_parser.specs.Levels.{within, part_by, max_levels};
 
 use crate::cursor::Cursor;
 use crate::found::Found;
-use crate::goal::{Goal, Part};
+use crate::inset::{Inset, InsetTree};
 use crate::refusal::Refusal;
 use crate::rules::Rules;
 use std::alloc::Global;
@@ -20,8 +20,8 @@ pub fn part(
     alloc: Global,
     tokens: &mut Cursor<'_>,
     levels: usize,
-    goal: Goal,
-) -> Result<Part, Refusal>
+    goal: Inset,
+) -> Result<InsetTree, Refusal>
     ensures { Reads (part_by (within levels) goal tokens.old) result tokens.new }
 {
     let rules = Rules {
@@ -30,13 +30,13 @@ pub fn part(
         inner: part,
     };
     match goal {
-        Goal::Whole(bars) => rules.whole(tokens, bars, bars).map(Part::Expr),
-        Goal::Operand(bars) => rules.operand(tokens, bars).map(Part::Expr),
-        Goal::Interpolated => rules.interpolated(tokens).map(Part::Expr),
-        Goal::Param(bars) => rules.param(tokens, bars).map(Part::Param),
-        Goal::Statements => rules.statements(tokens).map(Part::Block),
-        Goal::CaseOption => rules.case_option(tokens).map(Part::CaseOption),
-        Goal::Query => rules.query(tokens).map(Part::Query),
+        Inset::Whole(bars) => rules.whole(tokens, bars, bars).map(InsetTree::Expr),
+        Inset::Operand(bars) => rules.operand(tokens, bars).map(InsetTree::Expr),
+        Inset::Interpolated => rules.interpolated(tokens).map(InsetTree::Expr),
+        Inset::Param(bars) => rules.param(tokens, bars).map(InsetTree::Param),
+        Inset::Statements => rules.statements(tokens).map(InsetTree::Block),
+        Inset::CaseOption => rules.case_option(tokens).map(InsetTree::CaseOption),
+        Inset::Query => rules.query(tokens).map(InsetTree::Query),
     }
 }
 

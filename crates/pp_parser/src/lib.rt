@@ -12,7 +12,7 @@ pub mod definitions;
 pub mod files;
 pub mod found;
 pub mod functions;
-pub mod goal;
+pub mod inset;
 pub mod item;
 pub mod keys;
 pub mod kinds;

@@ -7,7 +7,7 @@ ghost use Rattle.pp_parser.specs.Statements as spec;
 ghost use Rattle.std.specs.Prelude.{◌≡◌, IfOk};
 
 use crate::cursor::Cursor;
-use crate::goal::{Goal, Part};
+use crate::inset::{Inset, InsetTree};
 use crate::lists::put;
 use crate::operators::LOOSEST;
 use crate::refusal::Refusal;
@@ -57,7 +57,7 @@ pub fn taken_name(alloc: Global, tokens: &mut Cursor<'_>) -> Result<Name, Refusa
     Ok(name_of(alloc, &token)?)
 }
 
-impl<F: Fn(Global, &mut Cursor<'_>, usize, Goal) -> Result<Part, Refusal>> Rules<F> {
+impl<F: Fn(Global, &mut Cursor<'_>, usize, Inset) -> Result<InsetTree, Refusal>> Rules<F> {
     /// An expression whose value was begun already.
     #[tactic(auto, unfolding(crate::specs::Statements::expression_from))]
     pub fn expression_from(

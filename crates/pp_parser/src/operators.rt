@@ -7,7 +7,7 @@ ghost use Rattle.pp_parser.specs.Levels.{within};
 ghost use Rattle.pp_parser.specs.Nests.{Nests};
 
 use crate::cursor::Cursor;
-use crate::goal::{Goal, Part};
+use crate::inset::{Inset, InsetTree};
 use crate::lists::put;
 use crate::refusal::Refusal;
 use crate::rules::Rules;
@@ -90,7 +90,7 @@ fn chained(alloc: Global, first: Expr, operations: Items<Operation>) -> Result<E
     Expr::new(alloc, at, form)
 }
 
-impl<F: Fn(Global, &mut Cursor<'_>, usize, Goal) -> Result<Part, Refusal>> Rules<F> {
+impl<F: Fn(Global, &mut Cursor<'_>, usize, Inset) -> Result<InsetTree, Refusal>> Rules<F> {
     /// A prefix operator and its operand.
     #[tactic(auto, unfolding(crate::specs::Expressions::prefixed))]
     fn prefixed(

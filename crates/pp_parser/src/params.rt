@@ -10,7 +10,7 @@ ghost use Rattle.pp_tree.specs.Building.{expr_at};
 ghost use Rattle.pp_tree.specs.declared.expr.Form.TheVariants.{Assign};
 
 use crate::cursor::Cursor;
-use crate::goal::{Goal, Part};
+use crate::inset::{Inset, InsetTree};
 use crate::operators::LOOSEST;
 use crate::refusal::Refusal;
 use crate::rules::Rules;
@@ -64,7 +64,7 @@ fn param_from(tokens: &mut Cursor<'_>, at: u32, x: Expr) -> Result<Param, Refusa
     }
 }
 
-impl<F: Fn(Global, &mut Cursor<'_>, usize, Goal) -> Result<Part, Refusal>> Rules<F> {
+impl<F: Fn(Global, &mut Cursor<'_>, usize, Inset) -> Result<InsetTree, Refusal>> Rules<F> {
     /// `= default`, or nothing.
     #[tactic(auto, unfolding(crate::specs::Expressions::default_rule))]
     fn default(&self, tokens: &mut Cursor<'_>, bars: bool) -> Result<Option<Expr>, Refusal>

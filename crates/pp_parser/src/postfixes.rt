@@ -7,7 +7,7 @@ ghost use Rattle.pp_parser.specs.Levels.{within};
 ghost use Rattle.pp_parser.specs.Nests.{Nests};
 
 use crate::cursor::Cursor;
-use crate::goal::{Goal, Part};
+use crate::inset::{Inset, InsetTree};
 use crate::kinds::begins_postfix;
 use crate::lists::put;
 use crate::refusal::Refusal;
@@ -31,7 +31,7 @@ fn postfixed(alloc: Global, base: Expr, postfixes: Items<Postfix>) -> Result<Exp
     Expr::new(alloc, at, form)
 }
 
-impl<F: Fn(Global, &mut Cursor<'_>, usize, Goal) -> Result<Part, Refusal>> Rules<F> {
+impl<F: Fn(Global, &mut Cursor<'_>, usize, Inset) -> Result<InsetTree, Refusal>> Rules<F> {
     /// What a value is, by the token that begins it.
     fn form(&self, tokens: &mut Cursor<'_>, bars: bool) -> Result<Form, Refusal>
         requires { Nests self.now.levels (F.pre self.now.inner) (F.post self.now.inner) }

@@ -10,7 +10,7 @@ ghost use Rattle.pp_parser.specs.Statements as spec;
 ghost use Rattle.std.specs.Prelude.{◌≡◌, false};
 
 use crate::cursor::Cursor;
-use crate::goal::{Goal, Part};
+use crate::inset::{Inset, InsetTree};
 use crate::kinds::ends_body;
 use crate::lists::put;
 use crate::refusal::Refusal;
@@ -45,7 +45,7 @@ fn resource_name<'a>(tokens: &mut Cursor<'a>) -> Result<Token<'a>, Refusal>
     tokens.take()
 }
 
-impl<F: Fn(Global, &mut Cursor<'_>, usize, Goal) -> Result<Part, Refusal>> Rules<F> {
+impl<F: Fn(Global, &mut Cursor<'_>, usize, Inset) -> Result<InsetTree, Refusal>> Rules<F> {
     /// Attributes up to the end of a body, behind those that were found.
     #[tactic(auto, using(crate::proofs::Turns::separated_turn, crate::proofs::Turns::separated_none))]
     fn body_attributes_from(

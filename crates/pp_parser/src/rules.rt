@@ -6,7 +6,7 @@ ghost use Rattle.pp_parser.specs.Levels.{within};
 ghost use Rattle.pp_parser.specs.Nests.{Nests};
 
 use crate::cursor::Cursor;
-use crate::goal::{Goal, Part};
+use crate::inset::{Inset, InsetTree};
 use crate::refusal::Refusal;
 use pp_lexer::kind::Kind;
 use pp_lexer::token::Token;
@@ -29,57 +29,57 @@ pub struct Rules<F> {
 // These stand by themselves so that their cases take no stack while the parts further in are read.
 
 /// The expression that a part is.
-fn expr_of(tokens: &Cursor<'_>, part: Part) -> Result<Expr, Refusal>
+fn expr_of(tokens: &Cursor<'_>, part: InsetTree) -> Result<Expr, Refusal>
     ensures { Reads (spec.expr_of part tokens.now) result tokens.now }
 {
     match part {
-        Part::Expr(x) => Ok(x),
+        InsetTree::Expr(x) => Ok(x),
         _ => Err(tokens.refusal()),
     }
 }
 
 /// The parameter that a part is.
-fn param_of(tokens: &Cursor<'_>, part: Part) -> Result<Param, Refusal>
+fn param_of(tokens: &Cursor<'_>, part: InsetTree) -> Result<Param, Refusal>
     ensures { Reads (spec.param_of part tokens.now) result tokens.now }
 {
     match part {
-        Part::Param(x) => Ok(x),
+        InsetTree::Param(x) => Ok(x),
         _ => Err(tokens.refusal()),
     }
 }
 
 /// The statements that a part is.
-fn block_of(tokens: &Cursor<'_>, part: Part) -> Result<Block, Refusal>
+fn block_of(tokens: &Cursor<'_>, part: InsetTree) -> Result<Block, Refusal>
     ensures { Reads (spec.block_of part tokens.now) result tokens.now }
 {
     match part {
-        Part::Block(x) => Ok(x),
+        InsetTree::Block(x) => Ok(x),
         _ => Err(tokens.refusal()),
     }
 }
 
 /// The option of a `case` that a part is.
-fn case_option_of(tokens: &Cursor<'_>, part: Part) -> Result<CaseOption, Refusal>
+fn case_option_of(tokens: &Cursor<'_>, part: InsetTree) -> Result<CaseOption, Refusal>
     ensures { Reads (spec.case_option_of part tokens.now) result tokens.now }
 {
     match part {
-        Part::CaseOption(x) => Ok(x),
+        InsetTree::CaseOption(x) => Ok(x),
         _ => Err(tokens.refusal()),
     }
 }
 
 /// The query that a part is.
-fn query_of(tokens: &Cursor<'_>, part: Part) -> Result<Query, Refusal>
+fn query_of(tokens: &Cursor<'_>, part: InsetTree) -> Result<Query, Refusal>
     ensures { Reads (spec.query_of part tokens.now) result tokens.now }
 {
     match part {
-        Part::Query(x) => Ok(x),
+        InsetTree::Query(x) => Ok(x),
         _ => Err(tokens.refusal()),
     }
 }
 
-impl<F: Fn(Global, &mut Cursor<'_>, usize, Goal) -> Result<Part, Refusal>> Rules<F> {
-    fn read(&self, tokens: &mut Cursor<'_>, goal: Goal) -> Result<Part, Refusal>
+impl<F: Fn(Global, &mut Cursor<'_>, usize, Inset) -> Result<InsetTree, Refusal>> Rules<F> {
+    fn read(&self, tokens: &mut Cursor<'_>, goal: Inset) -> Result<InsetTree, Refusal>
         requires { Nests self.now.levels (F.pre self.now.inner) (F.post self.now.inner) }
         ensures { Reads ((within self.now.levels).read goal tokens.old) result tokens.new }
     {
@@ -104,7 +104,7 @@ impl<F: Fn(Global, &mut Cursor<'_>, usize, Goal) -> Result<Part, Refusal>> Rules
         requires { Nests self.now.levels (F.pre self.now.inner) (F.post self.now.inner) }
         ensures { Reads (spec.whole_in (within self.now.levels) bars tokens.old) result tokens.new }
     {
-        let part = self.read(tokens, Goal::Whole(bars))?;
+        let part = self.read(tokens, Inset::Whole(bars))?;
         expr_of(tokens, part)
     }
 
@@ -114,7 +114,7 @@ impl<F: Fn(Global, &mut Cursor<'_>, usize, Goal) -> Result<Part, Refusal>> Rules
         requires { Nests self.now.levels (F.pre self.now.inner) (F.post self.now.inner) }
         ensures { Reads (spec.operand_in (within self.now.levels) bars tokens.old) result tokens.new }
     {
-        let part = self.read(tokens, Goal::Operand(bars))?;
+        let part = self.read(tokens, Inset::Operand(bars))?;
         expr_of(tokens, part)
     }
 
@@ -124,7 +124,7 @@ impl<F: Fn(Global, &mut Cursor<'_>, usize, Goal) -> Result<Part, Refusal>> Rules
         requires { Nests self.now.levels (F.pre self.now.inner) (F.post self.now.inner) }
         ensures { Reads (spec.interpolated_in (within self.now.levels) tokens.old) result tokens.new }
     {
-        let part = self.read(tokens, Goal::Interpolated)?;
+        let part = self.read(tokens, Inset::Interpolated)?;
         expr_of(tokens, part)
     }
 
@@ -134,7 +134,7 @@ impl<F: Fn(Global, &mut Cursor<'_>, usize, Goal) -> Result<Part, Refusal>> Rules
         requires { Nests self.now.levels (F.pre self.now.inner) (F.post self.now.inner) }
         ensures { Reads (spec.param_in (within self.now.levels) bars tokens.old) result tokens.new }
     {
-        let part = self.read(tokens, Goal::Param(bars))?;
+        let part = self.read(tokens, Inset::Param(bars))?;
         param_of(tokens, part)
     }
 
@@ -144,7 +144,7 @@ impl<F: Fn(Global, &mut Cursor<'_>, usize, Goal) -> Result<Part, Refusal>> Rules
         requires { Nests self.now.levels (F.pre self.now.inner) (F.post self.now.inner) }
         ensures { Reads (spec.statements_in (within self.now.levels) tokens.old) result tokens.new }
     {
-        let part = self.read(tokens, Goal::Statements)?;
+        let part = self.read(tokens, Inset::Statements)?;
         block_of(tokens, part)
     }
 
@@ -154,7 +154,7 @@ impl<F: Fn(Global, &mut Cursor<'_>, usize, Goal) -> Result<Part, Refusal>> Rules
         requires { Nests self.now.levels (F.pre self.now.inner) (F.post self.now.inner) }
         ensures { Reads (spec.case_option_in (within self.now.levels) tokens.old) result tokens.new }
     {
-        let part = self.read(tokens, Goal::CaseOption)?;
+        let part = self.read(tokens, Inset::CaseOption)?;
         case_option_of(tokens, part)
     }
 
@@ -164,7 +164,7 @@ impl<F: Fn(Global, &mut Cursor<'_>, usize, Goal) -> Result<Part, Refusal>> Rules
         requires { Nests self.now.levels (F.pre self.now.inner) (F.post self.now.inner) }
         ensures { Reads (spec.query_in (within self.now.levels) tokens.old) result tokens.new }
     {
-        let part = self.read(tokens, Goal::Query)?;
+        let part = self.read(tokens, Inset::Query)?;
         query_of(tokens, part)
     }
 }

@@ -7,7 +7,7 @@ ghost use Rattle.pp_parser.specs.Statements as spec;
 ghost use Rattle.std.specs.Prelude.{◌≡◌, None};
 
 use crate::cursor::Cursor;
-use crate::goal::{Goal, Part};
+use crate::inset::{Inset, InsetTree};
 use crate::lists::put;
 use crate::operands::{Read, taken_name};
 use crate::refusal::Refusal;
@@ -30,7 +30,7 @@ fn ends_block(pending: &Option<Name>, next: Option<Kind>) -> bool
     }
 }
 
-impl<F: Fn(Global, &mut Cursor<'_>, usize, Goal) -> Result<Part, Refusal>> Rules<F> {
+impl<F: Fn(Global, &mut Cursor<'_>, usize, Inset) -> Result<InsetTree, Refusal>> Rules<F> {
     /// An operand that no arrow may follow.
     fn alone(&self, at: u32, only: Operand) -> Read
         ensures { result ≡ spec.alone at only }

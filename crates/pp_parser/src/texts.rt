@@ -7,7 +7,7 @@ ghost use Rattle.pp_parser.specs.Levels.{within};
 ghost use Rattle.pp_parser.specs.Nests.{Nests};
 
 use crate::cursor::Cursor;
-use crate::goal::{Goal, Part};
+use crate::inset::{Inset, InsetTree};
 use crate::kinds::is_name;
 use crate::lists::put;
 use crate::operators::LOOSEST;
@@ -32,7 +32,7 @@ fn first_pieces(alloc: Global, said: Text) -> Result<Items<Piece>, Memory>
     Ok(found)
 }
 
-impl<F: Fn(Global, &mut Cursor<'_>, usize, Goal) -> Result<Part, Refusal>> Rules<F> {
+impl<F: Fn(Global, &mut Cursor<'_>, usize, Inset) -> Result<InsetTree, Refusal>> Rules<F> {
     /// `${ expression }`
     #[tactic(auto, unfolding(crate::specs::Expressions::interpolation))]
     fn interpolation(&self, tokens: &mut Cursor<'_>) -> Result<Expr, Refusal>

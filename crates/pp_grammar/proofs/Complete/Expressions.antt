@@ -11,8 +11,8 @@ use Rattle.pp_tree.specs.declared.expr.Form.TheVariants as form
 use Rattle.pp_tree.specs.declared.expr.Operation.{Operation}
 use Rattle.pp_tree.specs.declared.expr.Postfix.{Postfix}
 use Rattle.pp_tree.specs.Building.{expr_at, operation}
-use Rattle.pp_parser.specs.declared.goal.Goal.TheVariants as goal
-use Rattle.pp_parser.specs.declared.goal.Part.TheVariants as part
+use Rattle.pp_parser.specs.declared.inset.Inset.TheVariants as goal
+use Rattle.pp_parser.specs.declared.inset.InsetTree.TheVariants as part
 use Rattle.pp_parser.specs.declared.started.Started.{Started}
 use Rattle.pp_grammar.proofs.Reader.Input.{Input, Parser, ◌<$>◌, kind, line_at, take, repeat, repeat_from, turns}
 use Rattle.pp_grammar.proofs.Reader.Inner.{Inner}

@@ -17,10 +17,10 @@ use Rattle.pp_tree.specs.declared.resource.Reference.{Reference}
 use Rattle.pp_tree.specs.declared.collector.Collector.{Collector}
 use Rattle.pp_tree.specs.declared.definition.Name.{Name}
 use Rattle.pp_tree.specs.declared.definition.Definition.{Definition}
-use Rattle.pp_parser.specs.declared.goal.Goal.{Goal}
-use Rattle.pp_parser.specs.declared.goal.Goal.TheVariants as goal
-use Rattle.pp_parser.specs.declared.goal.Part.{Part}
-use Rattle.pp_parser.specs.declared.goal.Part.TheVariants as part
+use Rattle.pp_parser.specs.declared.inset.Inset.{Inset}
+use Rattle.pp_parser.specs.declared.inset.Inset.TheVariants as goal
+use Rattle.pp_parser.specs.declared.inset.InsetTree.{InsetTree}
+use Rattle.pp_parser.specs.declared.inset.InsetTree.TheVariants as part
 use Rattle.pp_parser.specs.declared.item.Item.{Item}
 use Rattle.pp_parser.specs.declared.item.Item.TheVariants as item
 use Rattle.pp_grammar.proofs.Reader.Input.{Input, Outcome, ◌<$>◌, kind, line_at, eat, turns}
@@ -338,7 +338,7 @@ module _ (inner : Inner) (N : Within) (c : IsComplete inner N) where
 
 -- ---- the levels, one within the other
 
-part_falls : (N : Within) → IsFalling N → (g : Goal) (i j : Input) (p : Part) → IsPart N g i p j → least g + length j.left ≤ length i.left
+part_falls : (N : Within) → IsFalling N → (g : Inset) (i j : Input) (p : InsetTree) → IsPart N g i p j → least g + length j.left ≤ length i.left
 part_falls N w (goal.Whole bars) i j (part.Expr x) d = omega (arith, whole_falls N w d)
 part_falls N w (goal.Operand bars) i j (part.Expr x) d = omega (arith, operand_falls N w d)
 part_falls N w goal.Interpolated i j (part.Expr x) d = omega (arith, interpolated_falls N w d)
@@ -354,7 +354,7 @@ levels_fall behind zero zero = record { falls = λ g i j p d. absurd d }
 levels_fall behind zero (suc more) = record { falls = part_falls (LevelsTo behind zero more) (levels_fall behind zero more) }
 levels_fall behind (suc levels) more = record { falls = part_falls (LevelsTo behind levels more) (levels_fall behind levels more) }
 
-part_complete : (inner : Inner) (N : Within) → IsComplete inner N → (g : Goal) (i j : Input) (p : Part) → IsPart N g i p j → part_by inner g i ≡ Ok (p, j)
+part_complete : (inner : Inner) (N : Within) → IsComplete inner N → (g : Inset) (i j : Input) (p : InsetTree) → IsPart N g i p j → part_by inner g i ≡ Ok (p, j)
 unfolding part_by
 part_complete inner N c (goal.Whole bars) i j (part.Expr x) d = rw (whole_complete inner N c d) refl
 part_complete inner N c (goal.Operand bars) i j (part.Expr x) d = rw (operand_complete inner N c d) refl

@@ -11,8 +11,8 @@ use Rattle.pp_tree.specs.declared.resource.Attribute.{Attribute}
 use Rattle.pp_tree.specs.declared.resource.Reference.{Reference}
 use Rattle.pp_tree.specs.declared.collector.Collector.{Collector}
 use Rattle.pp_tree.specs.declared.collector.Query.{Query}
-use Rattle.pp_parser.specs.declared.goal.Goal.TheVariants as goal
-use Rattle.pp_parser.specs.declared.goal.Part.TheVariants as part
+use Rattle.pp_parser.specs.declared.inset.Inset.TheVariants as goal
+use Rattle.pp_parser.specs.declared.inset.InsetTree.TheVariants as part
 use Rattle.pp_grammar.proofs.Reader.Input.{Input}
 use Rattle.pp_grammar.specs.Kinds.{is_kind, ends_body}
 use Rattle.pp_grammar.specs.Places.{Phrase, Within}

@@ -4,10 +4,10 @@ use Rattle.pp_lexer.specs.declared.kind.Kind.{Kind}
 use Rattle.pp_lexer.specs.Seen.{Token}
 use Rattle.pp_tree.specs.declared.expr.Expr.{Expr}
 use Rattle.pp_tree.specs.declared.statement.Statement.{Statement}
-use Rattle.pp_parser.specs.declared.goal.Goal.{Goal}
-use Rattle.pp_parser.specs.declared.goal.Goal.TheVariants as goal
-use Rattle.pp_parser.specs.declared.goal.Part.{Part}
-use Rattle.pp_parser.specs.declared.goal.Part.TheVariants as part
+use Rattle.pp_parser.specs.declared.inset.Inset.{Inset}
+use Rattle.pp_parser.specs.declared.inset.Inset.TheVariants as goal
+use Rattle.pp_parser.specs.declared.inset.InsetTree.{InsetTree}
+use Rattle.pp_parser.specs.declared.inset.InsetTree.TheVariants as part
 use Rattle.pp_grammar.proofs.Reader.Input.{Input}
 use Rattle.pp_grammar.proofs.Reader.Inner.{Inner, opening, whole_in, operand_in, interpolated_in, param_in, statements_in, case_option_in, query_in}
 use Rattle.pp_grammar.specs.Keys.{doubled_key}
@@ -18,18 +18,18 @@ use Rattle.pp_grammar.proofs.Complete.Steps.{opening_gives}
 use Rattle.pp_grammar.proofs.Complete.Lists.{Falls, Given}
 
 -- the fewest tokens that a goal's part takes: a block may have no statement
-abbrev pub least : Goal → ℕ
+abbrev pub least : Inset → ℕ
 least goal.Statements = 0
 least _ = 1
 
 pub record IsFalling (N : Within) : Type 0 where
-  pub falls : (g : Goal) (i j : Input) (p : Part) → N.reads g i p j → least g + length j.left ≤ length i.left
+  pub falls : (g : Inset) (i j : Input) (p : InsetTree) → N.reads g i p j → least g + length j.left ≤ length i.left
 
 -- what stands there by the relation, the function reads
 pub record IsComplete (inner : Inner) (N : Within) : Type 0 where
   pub deepest : inner.is_deepest ≡ N.is_deepest
   pub keys : inner.doubled_key ≡ doubled_key
-  pub reads : (g : Goal) (i j : Input) (p : Part) → N.reads g i p j → inner.read g i ≡ Ok (p, j)
+  pub reads : (g : Inset) (i j : Input) (p : InsetTree) → N.reads g i p j → inner.read g i ≡ Ok (p, j)
   pub falling : IsFalling N
 
 module _ (N : Within) (w : IsFalling N) where

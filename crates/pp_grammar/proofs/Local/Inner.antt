@@ -2,10 +2,10 @@
 use Rattle.std.proofs.Common.{◌≡◌, Bool, true, false}
 use Rattle.pp_lexer.specs.declared.kind.Kind.{Kind}
 use Rattle.pp_lexer.specs.Seen.{Token}
-use Rattle.pp_parser.specs.declared.goal.Goal.{Goal}
-use Rattle.pp_parser.specs.declared.goal.Goal.TheVariants as goal
-use Rattle.pp_parser.specs.declared.goal.Part.{Part}
-use Rattle.pp_parser.specs.declared.goal.Part.TheVariants as part
+use Rattle.pp_parser.specs.declared.inset.Inset.{Inset}
+use Rattle.pp_parser.specs.declared.inset.Inset.TheVariants as goal
+use Rattle.pp_parser.specs.declared.inset.InsetTree.{InsetTree}
+use Rattle.pp_parser.specs.declared.inset.InsetTree.TheVariants as part
 use Rattle.pp_grammar.proofs.Reader.Input.{Parser, ◌>>=◌}
 use Rattle.pp_grammar.proofs.Reader.Inner.{Inner, opening, expr_of, param_of, block_of, case_option_of, query_of, whole_in, operand_in, interpolated_in, param_in, statements_in, case_option_in, query_in}
 use Rattle.pp_grammar.proofs.Local.Steps.{Cut, IsLocal, any, one, bind_local, first_local, Opening, open_local, pure_local, refuse_local}
@@ -15,7 +15,7 @@ pub record InnerLocal (c : Cut) (inner outer : Inner) : Type 0 where
   pub deepest : Bool
   pub opening : Opening c deepest inner.is_deepest outer.is_deepest
   pub keys : inner.doubled_key ≡ outer.doubled_key
-  pub reads : (goal : Goal) → IsLocal c deepest any (inner.read goal) (outer.read goal)
+  pub reads : (goal : Inset) → IsLocal c deepest any (inner.read goal) (outer.read goal)
   -- an option of a case takes a token
   pub options : IsLocal c deepest one (inner.read goal.CaseOption) (outer.read goal.CaseOption)
 
@@ -23,23 +23,23 @@ pub opening_local : {A : Type 0} {c : Cut} {deepest : Bool} {a b : Inner} {f g :
     → IsLocal c deepest one (opening a k >>= f) (opening b k >>= g)
 opening_local I k F = open_local k I.opening F
 
-expr_of_local : {c : Cut} {deepest : Bool} (x : Part) → IsLocal c deepest any (expr_of x) (expr_of x)
+expr_of_local : {c : Cut} {deepest : Bool} (x : InsetTree) → IsLocal c deepest any (expr_of x) (expr_of x)
 expr_of_local (part.Expr x) = pure_local x
 expr_of_local _ = refuse_local
 
-param_of_local : {c : Cut} {deepest : Bool} (x : Part) → IsLocal c deepest any (param_of x) (param_of x)
+param_of_local : {c : Cut} {deepest : Bool} (x : InsetTree) → IsLocal c deepest any (param_of x) (param_of x)
 param_of_local (part.Param x) = pure_local x
 param_of_local _ = refuse_local
 
-block_of_local : {c : Cut} {deepest : Bool} (x : Part) → IsLocal c deepest any (block_of x) (block_of x)
+block_of_local : {c : Cut} {deepest : Bool} (x : InsetTree) → IsLocal c deepest any (block_of x) (block_of x)
 block_of_local (part.Block x) = pure_local x
 block_of_local _ = refuse_local
 
-case_option_of_local : {c : Cut} {deepest : Bool} (x : Part) → IsLocal c deepest any (case_option_of x) (case_option_of x)
+case_option_of_local : {c : Cut} {deepest : Bool} (x : InsetTree) → IsLocal c deepest any (case_option_of x) (case_option_of x)
 case_option_of_local (part.CaseOption x) = pure_local x
 case_option_of_local _ = refuse_local
 
-query_of_local : {c : Cut} {deepest : Bool} (x : Part) → IsLocal c deepest any (query_of x) (query_of x)
+query_of_local : {c : Cut} {deepest : Bool} (x : InsetTree) → IsLocal c deepest any (query_of x) (query_of x)
 query_of_local (part.Query x) = pure_local x
 query_of_local _ = refuse_local
 

@@ -1,9 +1,9 @@
 -- Readers that stand within equally many levels or more.
 use Rattle.std.proofs.Common.{◌≡◌, ℕ, zero, suc, ◌+◌, ◌<◌, ◌≤◌, ltb, Bool, true, false, not, ◌⊎◌, inl, inr, [], length, refl, sym, ap, subst, ◌∙◌, arith}
 use Rattle.std.proofs.lemmas.Bool.{lt-ltb, ltb-true, le-ltb, ltb-false}
-use Rattle.pp_parser.specs.declared.goal.Goal.{Goal}
-use Rattle.pp_parser.specs.declared.goal.Goal.TheVariants as goal
-use Rattle.pp_parser.specs.declared.goal.Part.{Part}
+use Rattle.pp_parser.specs.declared.inset.Inset.{Inset}
+use Rattle.pp_parser.specs.declared.inset.Inset.TheVariants as goal
+use Rattle.pp_parser.specs.declared.inset.InsetTree.{InsetTree}
 use Rattle.pp_grammar.proofs.Reader.Input.{Input, refuse}
 use Rattle.pp_grammar.proofs.Reader.Inner.{Inner}
 use Rattle.pp_grammar.proofs.Reader.Levels.{part_by, within_to, within, deepest_to, read_to}
@@ -13,7 +13,7 @@ use Rattle.pp_grammar.proofs.Local.Expressions.{whole_local, operand_local, inte
 use Rattle.pp_grammar.proofs.Local.Statements.{statements_local, query_local}
 
 module _ {c : Cut} {a b : Inner} (I : InnerLocal c a b) where
-  part_local : {d : Bool} (g : Goal) → IsLocal c d any (part_by a g) (part_by b g)
+  part_local : {d : Bool} (g : Inset) → IsLocal c d any (part_by a g) (part_by b g)
   unfolding part_by
   part_local (goal.Whole bars) = bind_local (whole_local I bars bars) (λ _. pure_local _)
   part_local (goal.Operand bars) = bind_local (operand_local I bars) (λ _. pure_local _)
@@ -66,11 +66,11 @@ itself behind (suc levels) more = record {
 -- ---- a reader that may open nothing, beside another one
 
 module _ {c : Cut} (behind levels more : ℕ) where
-  refused_reads : (g : Goal) → IsLocal c true any refuse ((within_to behind levels more).read g)
-  refused_reads g = record { falls = (refuse_local {A = Part} {c = nowhere} {deepest = true} {cost = any}).falls; falls_too = ((itself behind levels more).reads g).falls_too; follows = λ s. absurd cc }
+  refused_reads : (g : Inset) → IsLocal c true any refuse ((within_to behind levels more).read g)
+  refused_reads g = record { falls = (refuse_local {A = InsetTree} {c = nowhere} {deepest = true} {cost = any}).falls; falls_too = ((itself behind levels more).reads g).falls_too; follows = λ s. absurd cc }
 
   refused_options : IsLocal c true one refuse ((within_to behind levels more).read goal.CaseOption)
-  refused_options = record { falls = (refuse_local {A = Part} {c = nowhere} {deepest = true} {cost = one}).falls; falls_too = (itself behind levels more).options.falls_too; follows = λ s. absurd cc }
+  refused_options = record { falls = (refuse_local {A = InsetTree} {c = nowhere} {deepest = true} {cost = one}).falls; falls_too = (itself behind levels more).options.falls_too; follows = λ s. absurd cc }
 
 -- where the second one may open whatever it likes
 open_all : {c : Cut} (deepest : Bool) (x : Input → Bool) → (deepest ≡ true → (i : Input) → x i ≡ true) → ((k : ℕ) → c.deeper k ≡ true) → Opening c deepest x (λ _. false)

@@ -1,10 +1,10 @@
 -- How rules stand within one another. A token that opens a level is refused where as many are open as may be. The limit of
 -- levels holds up to a place, which is told by how many tokens are left there; from there on, more levels may be opened.
 use Rattle.std.specs.Prelude.{ℕ, zero, suc, Bool, true, false, ltb, length}
-use Rattle.pp_parser.specs.declared.goal.Goal.{Goal}
-use Rattle.pp_parser.specs.declared.goal.Goal.TheVariants as goal
-use Rattle.pp_parser.specs.declared.goal.Part.{Part}
-use Rattle.pp_parser.specs.declared.goal.Part.TheVariants as part
+use Rattle.pp_parser.specs.declared.inset.Inset.{Inset}
+use Rattle.pp_parser.specs.declared.inset.Inset.TheVariants as goal
+use Rattle.pp_parser.specs.declared.inset.InsetTree.{InsetTree}
+use Rattle.pp_parser.specs.declared.inset.InsetTree.TheVariants as part
 use Rattle.pp_grammar.proofs.Reader.Input.{Input, Parser, ◌<$>◌, refuse}
 use Rattle.pp_grammar.specs.Keys.{doubled_key}
 use Rattle.pp_grammar.proofs.Reader.Inner.{Inner}
@@ -12,7 +12,7 @@ use Rattle.pp_grammar.proofs.Reader.Expressions.{whole, operand, interpolated, p
 use Rattle.pp_grammar.proofs.Reader.Statements.{statements, query}
 
 -- what a goal reads, by the readers that stand further in
-unfoldable pub part_by : Inner → Goal → Parser Part
+unfoldable pub part_by : Inner → Inset → Parser InsetTree
 part_by inner (goal.Whole bars) = part.Expr <$> whole inner bars bars
 part_by inner (goal.Operand bars) = part.Expr <$> operand inner bars
 part_by inner goal.Interpolated = part.Expr <$> interpolated inner
@@ -28,7 +28,7 @@ deepest_to behind zero (suc more) = λ i. ltb behind (length i.left)
 deepest_to behind (suc levels) more = λ _. false
 
 -- and what is read one level further in
-unfoldable pub read_to : (behind levels more : ℕ) → Goal → Parser Part
+unfoldable pub read_to : (behind levels more : ℕ) → Inset → Parser InsetTree
 read_to behind zero zero = λ _. refuse
 read_to behind zero (suc more) = part_by (record { is_deepest = deepest_to behind zero more; read = read_to behind zero more; doubled_key = doubled_key })
 read_to behind (suc levels) more = part_by (record { is_deepest = deepest_to behind levels more; read = read_to behind levels more; doubled_key = doubled_key })

@@ -5,10 +5,10 @@ use Rattle.pp_lexer.specs.declared.kind.Kind.TheVariants as k
 use Rattle.pp_lexer.specs.Seen.{Token}
 use Rattle.pp_tree.specs.declared.expr.Expr.{Expr}
 use Rattle.pp_tree.specs.declared.resource.Reference.{Reference}
-use Rattle.pp_parser.specs.declared.goal.Goal.{Goal}
-use Rattle.pp_parser.specs.declared.goal.Goal.TheVariants as goal
-use Rattle.pp_parser.specs.declared.goal.Part.{Part}
-use Rattle.pp_parser.specs.declared.goal.Part.TheVariants as part
+use Rattle.pp_parser.specs.declared.inset.Inset.{Inset}
+use Rattle.pp_parser.specs.declared.inset.Inset.TheVariants as goal
+use Rattle.pp_parser.specs.declared.inset.InsetTree.{InsetTree}
+use Rattle.pp_parser.specs.declared.inset.InsetTree.TheVariants as part
 use Rattle.pp_grammar.proofs.Reader.Input.{Input, kind}
 use Rattle.pp_grammar.specs.Kinds.{is_kind}
 use Rattle.pp_grammar.specs.Places.{Phrase, Within, Stands, Separated, SeparatedSome}
@@ -18,7 +18,7 @@ use Rattle.pp_grammar.proofs.Sound.Steps.{behind_of_stands, fits_of_stands}
 
 -- What stands one level further in for a goal ends at one place.
 pub record EndsOnce (N : Within) : Type 0 where
-  pub ends : (g : Goal) (i j l : Input) (p q : Part) → N.reads g i p j → N.reads g i q l → j ≡ l
+  pub ends : (g : Inset) (i j l : Input) (p q : InsetTree) → N.reads g i p j → N.reads g i q l → j ≡ l
 
 pub no_both : {b : Bool} → b ≡ true → b ≡ false → ⊥
 no_both p q = go (sym p ∙ q)

@@ -1,8 +1,8 @@
 -- The knot: what is read on one level stands there, if what is read further in does.
 use Rattle.std.proofs.Common.{◌≡◌, ℕ, zero, suc, [], Ok, Err, refl, sym, ap, ◌∙◌}
-use Rattle.pp_parser.specs.declared.goal.Goal.{Goal}
-use Rattle.pp_parser.specs.declared.goal.Goal.TheVariants as goal
-use Rattle.pp_parser.specs.declared.goal.Part.{Part}
+use Rattle.pp_parser.specs.declared.inset.Inset.{Inset}
+use Rattle.pp_parser.specs.declared.inset.Inset.TheVariants as goal
+use Rattle.pp_parser.specs.declared.inset.InsetTree.{InsetTree}
 use Rattle.pp_grammar.proofs.Reader.Input.{Input, Outcome, Parser}
 use Rattle.pp_grammar.proofs.Reader.Inner.{Inner}
 use Rattle.pp_parser.specs.declared.found.Found.{Found}
@@ -18,7 +18,7 @@ use Rattle.pp_grammar.proofs.Sound.Resources.{query_sound}
 use Rattle.pp_grammar.proofs.Sound.Statements.{statements_sound}
 use Rattle.pp_grammar.proofs.Sound.Files.{main_manifest_sound, module_file_sound}
 
-pub part_sound : (inner : Inner) (N : Within) → IsSound inner N → EndsOnce N → (g : Goal) → Sound (part_by inner g) (IsPart N g)
+pub part_sound : (inner : Inner) (N : Within) → IsSound inner N → EndsOnce N → (g : Inset) → Sound (part_by inner g) (IsPart N g)
 unfolding part_by
 part_sound inner N s once (goal.Whole bars) i = bind (whole_sound inner N s bars bars i) λ x j h. done h
 part_sound inner N s once (goal.Operand bars) i = bind (operand_sound inner N s bars i) λ x j h. done h
@@ -33,12 +33,12 @@ deepest_sound : (behind : ℕ) → IsSound (within_to behind zero zero) (LevelsT
 unfolding deepest_to read_to LevelsTo
 deepest_sound behind = record { deepest = refl; keys = refl; reads = λ g i j p e. absurd cc }
 
-place_of : Input → Outcome Part → Input
+place_of : Input → Outcome InsetTree → Input
 place_of d (Ok x) = x.1
 place_of d (Err r) = d
 
 -- What stands further in ends once, where a reader reads whatever stands there.
-pub ends_once : (read : Goal → Parser Part) (N : Within) → ((g : Goal) (i j : Input) (p : Part) → N.reads g i p j → read g i ≡ Ok (p, j)) → EndsOnce N
+pub ends_once : (read : Inset → Parser InsetTree) (N : Within) → ((g : Inset) (i j : Input) (p : InsetTree) → N.reads g i p j → read g i ≡ Ok (p, j)) → EndsOnce N
 unfolding place_of
 ends_once read N gives = record { ends = λ g i j l p q a b. ap (place_of j) (sym (gives g i j p a) ∙ gives g i l q b) }
 

@@ -1,8 +1,8 @@
 -- The knot: on each level there is a way, if there is one further in.
 use Rattle.std.proofs.Common.{◌≡◌, ℕ, zero, suc, ◌≤◌, Bool, Option, None, Ok, Err, refl, sym, ap, ◌∙◌, arith}
 use Rattle.pp_lexer.specs.declared.kind.Kind.{Kind}
-use Rattle.pp_parser.specs.declared.goal.Part.{Part}
-use Rattle.pp_parser.specs.declared.goal.Part.TheVariants as part
+use Rattle.pp_parser.specs.declared.inset.InsetTree.{InsetTree}
+use Rattle.pp_parser.specs.declared.inset.InsetTree.TheVariants as part
 use Rattle.pp_parser.specs.declared.refusal.Refusal.TheVariants as refusals
 use Rattle.pp_grammar.proofs.Reader.Input.{Input, Outcome, Parser, and_then, ◌>>=◌, pure, refuse}
 use Rattle.pp_grammar.proofs.Reader.Inner.{expr_of, param_of, block_of, case_option_of, query_of, whole_in, operand_in, interpolated_in, param_in, statements_in, case_option_in, query_in}
@@ -67,7 +67,7 @@ module _ {A : Type 0} (q q2 : ℕ → Parser A) (same : (m : ℕ) (i : Input) �
   deeper_rule e R X = record { holds = same_holds e (λ m i. refl) (deeper_holds R.holds); fresh = deeper_fresh X }
 
 -- what is asked for further in is what is read there
-asked : {A : Type 0} (o : Outcome A) (wrap : A → Part) (unwrap : Part → Parser A) → ((x : A) (j : Input) → unwrap (wrap x) j ≡ Ok (x, j)) → and_then (and_then o (λ x. pure (wrap x))) unwrap ≡ o
+asked : {A : Type 0} (o : Outcome A) (wrap : A → InsetTree) (unwrap : InsetTree → Parser A) → ((x : A) (j : Input) → unwrap (wrap x) j ≡ Ok (x, j)) → and_then (and_then o (λ x. pure (wrap x))) unwrap ≡ o
 asked (Ok p) wrap unwrap e = e p.0 p.1
 asked (Err x) wrap unwrap e = refl
 

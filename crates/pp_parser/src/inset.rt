@@ -7,7 +7,7 @@ use pp_tree::statement::Block;
 /// A part of a manifest that stands one level further in: within a bracket, or behind what opens a level without one.
 /// The flag says that it stands directly within the bars of a lambda's parameters, where a `|` that `{` follows ends them.
 #[derive(Clone, Copy, Debug, PartialEq, Eq)]
-pub enum Goal {
+pub enum Inset {
     /// A whole expression.
     Whole(bool),
     /// The operand of a prefix operator.
@@ -26,7 +26,7 @@ pub enum Goal {
 
 /// What was read for a goal.
 #[derive(Drop)]
-pub enum Part {
+pub enum InsetTree {
     Expr(Expr),
     Param(Param),
     Block(Block),

@@ -123,6 +123,8 @@ pub enum Kind {
     Greater,
     /// `>=`
     AtLeast,
+    /// `>>`, before the type of what a function gives
+    Returns,
     /// `<<`
     Append,
     /// `+`

@@ -14,6 +14,7 @@ use Rattle.pp_tree.specs.declared.conditions.If.{If, roll-If}
 use Rattle.pp_tree.specs.declared.conditions.Unless.{Unless, roll-Unless}
 use Rattle.pp_tree.specs.declared.definition.Class.{Class}
 use Rattle.pp_tree.specs.declared.definition.Define.{Define}
+use Rattle.pp_tree.specs.declared.definition.Function.{Function}
 use Rattle.pp_tree.specs.declared.definition.Name.{Name}
 use Rattle.pp_tree.specs.declared.definition.Node.{Node}
 use Rattle.pp_tree.specs.declared.definition.NodeName.{NodeName}
@@ -146,6 +147,9 @@ class_of name params inherits block at = record { name = name; params = params; 
 
 abbrev pub define_of : Name → List (Param Expr) → Block → ℕ → Define
 define_of name params block at = record { name = name; params = params; block = block; at = at }
+
+abbrev pub function_of : Name → List (Param Expr) → Option Expr → Block → ℕ → Function
+function_of name params type block at = record { name = name; params = params; return_type = type; block = block; at = at }
 
 abbrev pub node_of : List NodeName → Block → ℕ → Node
 node_of names block at = record { names = names; block = block; at = at }

@@ -16,7 +16,7 @@ pub mod table;
 
 pub use collector::{Collector, Comparison, Conjunction, Query, Test};
 pub use conditions::{Case, CaseOption, Elsif, If, Unless};
-pub use definition::{Class, Define, Definition, Name, Node, NodeName};
+pub use definition::{Class, Define, Definition, Function, Name, Node, NodeName};
 pub use expr::{Args, Call, Expr, Form, Lambda, Operation, Pair, Piece, Postfix};
 pub use file::File;
 pub use manifest_file::ManifestFile;

@@ -35,6 +35,7 @@ pub fn part(
         Goal::Interpolated => rules.interpolated(tokens).map(Part::Expr),
         Goal::Param(bars) => rules.param(tokens, bars).map(Part::Param),
         Goal::Statements => rules.statements(tokens).map(Part::Block),
+        Goal::FunctionStatements => rules.function_statements(tokens).map(Part::Block),
         Goal::CaseOption => rules.case_option(tokens).map(Part::CaseOption),
         Goal::Query => rules.query(tokens).map(Part::Query),
     }
@@ -52,7 +53,7 @@ pub fn main_manifest(alloc: Global, tokens: &mut Cursor<'_>) -> Result<Found, Re
     .main_manifest(tokens)
 }
 
-/// Classes and defines up to the end of the file.
+/// Classes, defines and functions up to the end of the file.
 pub fn module_file(alloc: Global, tokens: &mut Cursor<'_>) -> Result<Found, Refusal>
     ensures { Reads (definitions.module_file (within max_levels) tokens.old) result tokens.new }
 {

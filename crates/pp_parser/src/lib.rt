@@ -11,6 +11,7 @@ pub mod cursor;
 pub mod definitions;
 pub mod files;
 pub mod found;
+pub mod function_bodies;
 pub mod functions;
 pub mod goal;
 pub mod item;

@@ -3,6 +3,7 @@ pub mod Definitions
 pub mod ExpressionFalls
 pub mod Expressions
 pub mod Files
+pub mod FunctionBodies
 pub mod Lists
 pub mod Operands
 pub mod Parts

@@ -6,4 +6,5 @@ pub mod Reader
 pub mod Sound
 pub mod Ways
 pub mod Whole
+mod WorkedFunctions
 mod WorkedTrees

@@ -1,6 +1,7 @@
 pub mod Ahead
 pub mod Expressions
 pub mod Files
+pub mod FunctionBodies
 pub mod Inner
 pub mod Laws
 pub mod Levels

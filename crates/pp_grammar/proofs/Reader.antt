@@ -1,5 +1,6 @@
 pub mod Definitions
 pub mod Expressions
+pub mod FunctionBodies
 pub mod Inner
 pub mod Input
 pub mod Keys

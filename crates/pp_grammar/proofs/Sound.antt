@@ -1,6 +1,7 @@
 pub mod Ends
 pub mod Expressions
 pub mod Files
+pub mod FunctionBodies
 pub mod Inner
 pub mod Levels
 pub mod Lists

@@ -9,6 +9,7 @@ pub mod Statements
 pub mod Turns
 pub mod Blocks
 pub mod Fresh
+pub mod FunctionBodies
 pub mod Levels
 pub mod Files
 pub mod Laws

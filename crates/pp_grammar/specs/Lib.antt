@@ -1,5 +1,6 @@
 pub mod Expressions
 pub mod Files
+pub mod FunctionBodies
 pub mod Keys
 pub mod Kinds
 pub mod Laws

@@ -32,7 +32,7 @@ use Rattle.pp_grammar.proofs.Reader.Definitions.{nothing_yet, with_statement, wi
 use Rattle.pp_grammar.proofs.Reader.Levels.{part_by, within_to, deepest_to, read_to}
 use Rattle.pp_grammar.specs.Places.{Within, Stands, Many}
 use Rattle.pp_grammar.specs.Statements.{marks, is_arrow, IsResource, IsCollector, IsReference, IsExpressionOperand, IsOperand, IsLink, IsChain, IsStatement}
-use Rattle.pp_grammar.specs.Files.{IsName, IsClassOrDefine, IsDefinition, IsMain, IsModule, IsPart, LevelsTo}
+use Rattle.pp_grammar.specs.Files.{IsName, IsModuleDefinition, IsDefinition, IsMain, IsModule, IsPart, LevelsTo}
 use Rattle.pp_grammar.proofs.Complete.Steps.{kind_is, fits_kind, line_there, word_there, fits_there, take_gives}
 use Rattle.pp_grammar.proofs.Complete.Lists.{one_more}
 use Rattle.pp_grammar.proofs.Complete.Within.{IsFalling, IsComplete, least}
@@ -44,20 +44,23 @@ use Rattle.pp_grammar.proofs.Complete.Wholes.{whole_complete, interpolated_compl
 use Rattle.pp_grammar.proofs.Complete.Resources.{query_complete, bodies_complete, bodies_begin}
 use Rattle.pp_grammar.proofs.Complete.Operands.{fits_as, chain_from_complete}
 use Rattle.pp_grammar.proofs.Complete.Words.{Behind}
+use Rattle.pp_grammar.proofs.Complete.FunctionBodies.{function_statements_fall, function_statements_complete}
 use Rattle.pp_grammar.proofs.Complete.Statements.{Resumed, statement_complete, end_complete, end_eaten, statements_complete}
-use Rattle.pp_grammar.proofs.Complete.Definitions.{class_or_define_falls, definition_falls, class_complete, define_complete, node_complete}
+use Rattle.pp_grammar.proofs.Complete.Definitions.{module_definition_falls, definition_falls, class_complete, define_complete, function_definition_complete, node_complete}
 
 -- ---- what a statement begins with: it is no word that begins only definitions, and not the end of the file
 
 abbrev begins_statement : Option Kind → Bool
 begins_statement (Some k.Define) = false
 begins_statement (Some k.Node) = false
+begins_statement (Some k.Function) = false
 begins_statement (Some _) = true
 begins_statement None = false
 
 resources_begin : (next : Option Kind) → names_resource next ≡ true → begins_statement next ≡ true
 resources_begin (Some k.Define) e = cc
 resources_begin (Some k.Node) e = cc
+resources_begin (Some k.Function) e = cc
 resources_begin None e = cc
 resources_begin _ e = refl
 
@@ -69,6 +72,7 @@ marks_begin _ _ e = cc
 expressions_begin : (next : Option Kind) → begins_expression next ≡ true → begins_statement next ≡ true
 expressions_begin (Some k.Define) e = cc
 expressions_begin (Some k.Node) e = cc
+expressions_begin (Some k.Function) e = cc
 expressions_begin None e = cc
 expressions_begin _ e = refl
 
@@ -94,6 +98,10 @@ name_or_class _ a b = cc
 name_or_define : (next : Option Kind) → is_name next ≡ true → next ≡ Some k.Define → ⊥
 name_or_define (Some k.Name) a b = cc
 name_or_define _ a b = cc
+
+name_or_function : (next : Option Kind) → is_name next ≡ true → next ≡ Some k.Function → ⊥
+name_or_function (Some k.Name) a b = cc
+name_or_function _ a b = cc
 
 name_or_node : (next : Option Kind) → is_name next ≡ true → next ≡ Some k.Node → ⊥
 name_or_node (Some k.Name) a b = cc
@@ -188,6 +196,7 @@ module _ (inner : Inner) (N : Within) (c : IsComplete inner N) where
   unfolding is_kind same_kind
   other_item (Some k.Class) i e f = cc
   other_item (Some k.Define) i e f = cc
+  other_item (Some k.Function) i e f = cc
   other_item (Some k.Node) i e f = cc
   other_item _ i e f = refl
 
@@ -217,22 +226,24 @@ module _ (inner : Inner) (N : Within) (c : IsComplete inner N) where
   name_there : {i j : Input} {name : Name} → IsName N i name j → is_name (kind i) ≡ true
   name_there (IsName.name i j t s) = fits_there s
 
-  class_or_define_item : {i j : Input} {d : Definition} → IsClassOrDefine N i d j → item_by inner (kind i) i ≡ Ok (item.Definition d, j)
+  module_definition_item : {i j : Input} {d : Definition} → IsModuleDefinition N i d j → item_by inner (kind i) i ≡ Ok (item.Definition d, j)
   unfolding class_item
-  class_or_define_item (IsClassOrDefine.class i j l m n o t name ps parent ss s d ds e b) =
+  module_definition_item (IsModuleDefinition.class i j l m n o t name ps parent ss s d ds e b) =
       rw (word_there s, take_gives s) (a_class (name_of t) (kind j) j (name_there d) ∙ rw (class_complete inner N c t.line d ds e b) refl)
-  class_or_define_item (IsClassOrDefine.define i j l m n t name ps ss s d ds b) = rw (word_there s, take_gives s, define_complete inner N c t.line d ds b) refl
+  module_definition_item (IsModuleDefinition.define i j l m n t name ps ss s d ds b) = rw (word_there s, take_gives s, define_complete inner N c t.line d ds b) refl
+  module_definition_item (IsModuleDefinition.function i j l m n o t name ps type ss s d ds e b) = rw (word_there s, take_gives s, function_definition_complete inner N c t.line d ds e b) refl
 
   definition_there : {i j : Input} {d : Definition} → IsDefinition N i d j → item_by inner (kind i) i ≡ Ok (item.Definition d, j)
-  definition_there (IsDefinition.class_or_define i j d r) = class_or_define_item r
+  definition_there (IsDefinition.of_module i j d r) = module_definition_item r
   definition_there (IsDefinition.node i j l m t names ss s ds b) = rw (word_there s, take_gives s, node_complete inner N c t.line ds b) refl
 
-  no_name_defines : {i j : Input} {d : Definition} → IsClassOrDefine N i d j → is_name (kind i) ≡ true → ⊥
-  no_name_defines (IsClassOrDefine.class i j l m n o t name ps parent ss s d ds e b) f = name_or_class (kind i) f (word_there s)
-  no_name_defines (IsClassOrDefine.define i j l m n t name ps ss s d ds b) f = name_or_define (kind i) f (word_there s)
+  no_name_defines : {i j : Input} {d : Definition} → IsModuleDefinition N i d j → is_name (kind i) ≡ true → ⊥
+  no_name_defines (IsModuleDefinition.class i j l m n o t name ps parent ss s d ds e b) f = name_or_class (kind i) f (word_there s)
+  no_name_defines (IsModuleDefinition.define i j l m n t name ps ss s d ds b) f = name_or_define (kind i) f (word_there s)
+  no_name_defines (IsModuleDefinition.function i j l m n o t name ps type ss s d ds e b) f = name_or_function (kind i) f (word_there s)
 
   no_name_there : {i j : Input} {d : Definition} → IsDefinition N i d j → is_name (kind i) ≡ true → ⊥
-  no_name_there (IsDefinition.class_or_define i j d r) f = no_name_defines r f
+  no_name_there (IsDefinition.of_module i j d r) f = no_name_defines r f
   no_name_there (IsDefinition.node i j l m t names ss s ds b) f = name_or_node (kind i) f (word_there s)
 
   definition_item : {i h j : Input} {name : Option Name} {d : Definition} → Behind i name h → IsDefinition N i d j → item_rule inner name h ≡ Ok (item.Definition d, j)
@@ -255,12 +266,13 @@ module _ (inner : Inner) (N : Within) (c : IsComplete inner N) where
   file_goes_on {i = i} Behind.here e = no_end (kind i) e
   file_goes_on (Behind.pending t l f brace) e = refl
 
-  definitions_begin : {i j : Input} {d : Definition} → IsClassOrDefine N i d j → ends_file None (kind i) ≡ false
-  definitions_begin (IsClassOrDefine.class i j l m n o t name ps parent ss s d ds e b) = rw (word_there s) refl
-  definitions_begin (IsClassOrDefine.define i j l m n t name ps ss s d ds b) = rw (word_there s) refl
+  definitions_begin : {i j : Input} {d : Definition} → IsModuleDefinition N i d j → ends_file None (kind i) ≡ false
+  definitions_begin (IsModuleDefinition.class i j l m n o t name ps parent ss s d ds e b) = rw (word_there s) refl
+  definitions_begin (IsModuleDefinition.define i j l m n t name ps ss s d ds b) = rw (word_there s) refl
+  definitions_begin (IsModuleDefinition.function i j l m n o t name ps type ss s d ds e b) = rw (word_there s) refl
 
   definition_begins : {i j : Input} {d : Definition} → IsDefinition N i d j → ends_file None (kind i) ≡ false
-  definition_begins (IsDefinition.class_or_define i j d r) = definitions_begin r
+  definition_begins (IsDefinition.of_module i j d r) = definitions_begin r
   definition_begins (IsDefinition.node i j l m t names ss s ds b) = rw (word_there s) refl
 
   file_goes_on_too : {i h j : Input} {name : Option Name} {d : Definition} → Behind i name h → IsDefinition N i d j → ends_file name (kind h) ≡ false
@@ -311,16 +323,17 @@ module _ (inner : Inner) (N : Within) (c : IsComplete inner N) where
 
   -- ---- module files
 
-  module_item_complete : {i j : Input} {d : Definition} → IsClassOrDefine N i d j → module_item inner i ≡ Ok (d, j)
+  module_item_complete : {i j : Input} {d : Definition} → IsModuleDefinition N i d j → module_item inner i ≡ Ok (d, j)
   unfolding module_item
-  module_item_complete (IsClassOrDefine.class i j l m n o t name ps parent ss s d ds e b) = rw (word_there s, take_gives s) (class_complete inner N c t.line d ds e b)
-  module_item_complete (IsClassOrDefine.define i j l m n t name ps ss s d ds b) = rw (word_there s, take_gives s) (define_complete inner N c t.line d ds b)
+  module_item_complete (IsModuleDefinition.class i j l m n o t name ps parent ss s d ds e b) = rw (word_there s, take_gives s) (class_complete inner N c t.line d ds e b)
+  module_item_complete (IsModuleDefinition.define i j l m n t name ps ss s d ds b) = rw (word_there s, take_gives s) (define_complete inner N c t.line d ds b)
+  module_item_complete (IsModuleDefinition.function i j l m n o t name ps type ss s d ds e b) = rw (word_there s, take_gives s) (function_definition_complete inner N c t.line d ds e b)
 
   module_ends : (n : ℕ) (found : Found) (i : Input) → kind i ≡ None → module_from inner (suc n) found i ≡ Ok (found, i)
   unfolding module_from
   module_ends n found i e = rw e refl
 
-  module_definition : (n : ℕ) (found : Found) {i j l : Input} {d : Definition} {more : Bool} → IsClassOrDefine N i d j → eat k.Semicolon j ≡ Ok (more, l) → module_from inner (suc n) found i ≡ module_from inner n (with_definition found d) l
+  module_definition : (n : ℕ) (found : Found) {i j l : Input} {d : Definition} {more : Bool} → IsModuleDefinition N i d j → eat k.Semicolon j ≡ Ok (more, l) → module_from inner (suc n) found i ≡ module_from inner n (with_definition found d) l
   unfolding module_from
   module_definition n found d e = rw (definitions_begin d, module_item_complete d, e) refl
 
@@ -329,7 +342,7 @@ module _ (inner : Inner) (N : Within) (c : IsComplete inner N) where
   module_from_complete zero d below found = absurd (omega arith)
   module_from_complete (suc n) (IsModule.end i e) below found = module_ends n found i e ∙ ap (λ (f : Found). Ok (f, i)) (nothing_more found)
   module_from_complete (suc n) (IsModule.definition i j l m d ds r e more) below found =
-      let less : length l.left < n = omega (arith, class_or_define_falls N c.falling r, end_falls N c.falling e) in
+      let less : length l.left < n = omega (arith, module_definition_falls N c.falling r, end_falls N c.falling e) in
       module_definition n found r (end_eaten inner N c e).read ∙ module_from_complete n more less (with_definition found d) ∙ ap (λ (f : Found). Ok (f, m)) (definition_more found d [] ds)
 
   pub module_file_complete : {i j : Input} {ds : List Definition} → IsModule N i ds j → module_file inner i ≡ Ok (record { statements = []; definitions = ds }, j)
@@ -344,6 +357,7 @@ part_falls N w (goal.Operand bars) i j (part.Expr x) d = omega (arith, operand_f
 part_falls N w goal.Interpolated i j (part.Expr x) d = omega (arith, interpolated_falls N w d)
 part_falls N w (goal.Param bars) i j (part.Param x) d = omega (arith, param_falls N w d)
 part_falls N w goal.Statements i j (part.Block x) d = omega (arith, statements_fall N w d)
+part_falls N w goal.FunctionStatements i j (part.Block x) d = omega (arith, function_statements_fall N w d)
 part_falls N w goal.CaseOption i j (part.CaseOption x) d = omega (arith, case_option_falls N w d)
 part_falls N w goal.Query i j (part.Query x) d = omega (arith, query_falls N w d)
 part_falls N w _ i j _ d = absurd d
@@ -361,6 +375,7 @@ part_complete inner N c (goal.Operand bars) i j (part.Expr x) d = rw (operand_co
 part_complete inner N c goal.Interpolated i j (part.Expr x) d = rw (interpolated_complete inner N c d) refl
 part_complete inner N c (goal.Param bars) i j (part.Param x) d = rw (param_complete inner N c d) refl
 part_complete inner N c goal.Statements i j (part.Block x) d = rw (statements_complete inner N c d) refl
+part_complete inner N c goal.FunctionStatements i j (part.Block x) d = rw (function_statements_complete inner N c d) refl
 part_complete inner N c goal.CaseOption i j (part.CaseOption x) d = rw (case_option_complete inner N c d) refl
 part_complete inner N c goal.Query i j (part.Query x) d = rw (query_complete inner N c d) refl
 part_complete inner N c _ i j _ d = absurd d

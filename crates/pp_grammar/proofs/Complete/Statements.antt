@@ -35,13 +35,13 @@ use Rattle.pp_grammar.proofs.Complete.Resources.{attributes_complete, attributes
 use Rattle.pp_grammar.proofs.Complete.Operands.{same_behind, same_token, TypeRead, type_read, expression_behind_type, collector_behind_type, operand_at_name, AtType, no_resource_at_type, operand_rule_complete, chain_from_complete}
 use Rattle.pp_grammar.proofs.Complete.Words.{Behind, words_from_complete}
 
-is_true : (b : Bool) → (not b ≡ true → ⊥) → b ≡ true
+pub is_true : (b : Bool) → (not b ≡ true → ⊥) → b ≡ true
 is_true true f = refl
 is_true false f = absurd (f refl)
 
 -- ---- kinds
 
-function_is_name : (next : Option Kind) → next ≡ Some k.StatementFunction → is_name next ≡ true
+pub function_is_name : (next : Option Kind) → next ≡ Some k.StatementFunction → is_name next ≡ true
 function_is_name next e = rw e refl
 
 dot_or_bracket : (next : Option Kind) → next ≡ Some k.Dot → next ≡ Some k.TightBracket → ⊥

@@ -16,6 +16,7 @@ use Rattle.pp_grammar.proofs.Sound.Expressions.{whole_sound, operand_sound, inte
 use Rattle.pp_grammar.proofs.Sound.Ends.{EndsOnce}
 use Rattle.pp_grammar.proofs.Sound.Resources.{query_sound}
 use Rattle.pp_grammar.proofs.Sound.Statements.{statements_sound}
+use Rattle.pp_grammar.proofs.Sound.FunctionBodies.{function_statements_sound}
 use Rattle.pp_grammar.proofs.Sound.Files.{main_manifest_sound, module_file_sound}
 
 pub part_sound : (inner : Inner) (N : Within) → IsSound inner N → EndsOnce N → (g : Goal) → Sound (part_by inner g) (IsPart N g)
@@ -25,6 +26,7 @@ part_sound inner N s once (goal.Operand bars) i = bind (operand_sound inner N s 
 part_sound inner N s once goal.Interpolated i = bind (interpolated_sound inner N s i) λ x j h. done h
 part_sound inner N s once (goal.Param bars) i = bind (param_sound inner N s bars i) λ x j h. done h
 part_sound inner N s once goal.Statements i = bind (statements_sound inner N s once i) λ x j h. done h
+part_sound inner N s once goal.FunctionStatements i = bind (function_statements_sound inner N s i) λ x j h. done h
 part_sound inner N s once goal.CaseOption i = bind (case_option_sound inner N s i) λ x j h. done h
 part_sound inner N s once goal.Query i = bind (query_sound inner N s i) λ x j h. done h
 

@@ -94,6 +94,11 @@ no_words_before j h = go (kind j) h
     go None e = absurd cc
     go (Some x) e = ap (λ (y : Kind). not (calls_or_declares (Some y))) (is_kind_is k.OpenBrace x e)
 
+-- `;` where nothing was taken before
+pub plain_end : (N : Within) (b : Bool) (j m : Input) → Eaten k.Semicolon j b m → IsEnd N j m
+plain_end N b j m (Eaten.eaten _ _ t st) = IsEnd.given j m t st
+plain_end N b j m (Eaten.other _ h) = IsEnd.left_out j h
+
 no_brace : (next : Option Kind) → rule.ends_block None next ≡ false → is_kind k.CloseBrace next ≡ false
 unfolding is_kind same_kind
 no_brace (Some k.CloseBrace) h = absurd cc
@@ -108,7 +113,7 @@ module _ (inner : Inner) (N : Within) (s : IsSound inner N) where
   -- ---- operands of a chain
 
   -- a value that a name begins, and what follows it
-  by_name_sound : (i j l : Input) (t : Token) (f : Form) → Stands is_name i t j → IsCallOrName N false t.text j f l
+  pub by_name_sound : (i j l : Input) (t : Token) (f : Form) → Stands is_name i t j → IsCallOrName N false t.text j f l
       → Meets (chain inner false loosest (Some (started (expr_at t.line f))) l) (IsWhole N false false i)
   unfolding is_kind same_kind
   by_name_sound i j l t f st c = weaker (begun_sound inner N s false i l _ (postfixes_sound inner N s false i l t.line f (line_of_stands st) (IsPrimary.named i j l t f st c)))

@@ -16,7 +16,7 @@ use Rattle.scope_core.specs.Scopes as scopes
 use Rattle.scope_core.specs.Scopes.{Scopes}
 use Rattle.scope_core.specs.declared.scope_kind.ScopeKind.TheVariants as kind
 use Rattle.eval_world.specs.Outcomes.{Step, answered}
-use Rattle.eval_world.specs.Owners.{owner_at, main_alone}
+use Rattle.eval_world.specs.Owners.{owner_at, owner_in, main_alone}
 use Rattle.eval_world.specs.declared.here.Here.{Here}
 use Rattle.eval_world.specs.Environment.{Environment}
 use Rattle.eval_world.specs.declared.world.World.{World}
@@ -68,13 +68,21 @@ with_scopes (Err f) = λ w. Err f
 unfoldable pub assign : Here → List ℕ → Datum → ℕ → Step (Unit {0})
 assign here x d line = λ w. with_scopes (scopes.assign here.scope.number x d (place_at w here line) w.scopes) w
 
--- ---- calls of lambdas
+-- ---- calls of lambdas and of functions
 
 -- where the body of a lambda that stands here is evaluated: what is evaluated in it is not within a parameter's type
 unfoldable pub enter_lambda : Here → Step Here
 enter_lambda here = λ w. Ok (
   record { scope = record { number = length w.scopes.scopes }; owner = here.owner; typed = false },
   record w { scopes = scopes.entered kind.Lambda here.scope.number w.scopes },
+)
+
+-- Where the body of a function is evaluated that stands in this file: in a scope of its own within top scope. Its code
+-- belongs to what top scope belongs to.
+unfoldable pub enter_function : List ℕ → Step Here
+enter_function file = λ w. Ok (
+  record { scope = record { number = length w.scopes.scopes }; owner = (owner_in file w.owners).0; typed = false },
+  record w { scopes = scopes.entered kind.Lambda 0 w.scopes; owners = (owner_in file w.owners).1 },
 )
 
 abbrev pub left : Here → World → World

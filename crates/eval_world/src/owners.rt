@@ -1,9 +1,10 @@
-ghost use Rattle.std.specs.Prelude.{◌≡◌, ◌+◌, length, is_ok, if◌then◌else◌, IfOk};
-ghost use Rattle.eval_world.specs.Owners.{owner_at, main_alone, with_owner};
+ghost use Rattle.std.specs.Prelude.{◌≡◌, ◌+◌, length, is_ok, if◌then◌else◌, IfOk, OnOk};
+ghost use Rattle.eval_world.specs.Owners.{owner_at, owner_in, owner_of_file, main_alone, with_file, with_owner};
 
 use crate::owner::Owner;
 use pp_values::{MAIN_MANIFEST, Memory, Text};
 use std::alloc::Global;
+use std::collections::BTreeMap;
 use std::marker::Model;
 
 /// The source of what stands in no class, define or node.
@@ -14,6 +15,8 @@ pub const MAIN_SOURCE: &str = "class main";
 pub struct Owners {
     main: Owner,
     others: Vec<Owner>,
+    /// The number of the owner of what stands in top scope, by the file.
+    files: BTreeMap<Text, u32>,
 }
 
 impl Model for Owners {
@@ -23,7 +26,7 @@ impl Model for Owners {
 
     ghost coded = { coded_owners };
 
-    ghost view = { λ o. record { main = o.main; others = o.others.items } };
+    ghost view = { λ o. record { main = o.main; others = o.others.items; files = o.files.entries } };
 }
 
 impl Owners {
@@ -33,6 +36,7 @@ impl Owners {
     {
         let file = Text::from_str(alloc, MAIN_MANIFEST)?;
         let source = Text::from_str(alloc, MAIN_SOURCE)?;
+        let files = main_file(alloc)?;
         Ok(Owners {
             main: Owner {
                 file,
@@ -41,6 +45,7 @@ impl Owners {
                 scope: 0,
             },
             others: Vec::new(alloc),
+            files,
         })
     }
 
@@ -70,4 +75,53 @@ impl Owners {
         self.others.push(owner)?;
         Ok(number)
     }
+
+    /// The number of the owner of what stands in top scope in a file, which is added where it is not there yet.
+    #[tactic(auto, unfolding(crate::specs::Owners::owner_in))]
+    pub fn in_file(&mut self, alloc: Global, file: &Text) -> Result<u32, Memory>
+        ensures number { IfOk result (λ n. n ≡ (owner_in file.now self.old).0) }
+        ensures owners { OnOk result (self.new ≡ (owner_in file.now self.old).1) }
+    {
+        match self.files.get(file) {
+            Some(number) => Ok(*number),
+            None => self.add_file(alloc, file),
+        }
+    }
+
+    fn add_file(&mut self, alloc: Global, file: &Text) -> Result<u32, Memory>
+        ensures number { IfOk result (λ n. n ≡ length self.old.others + 1) }
+        ensures owners { OnOk result (self.new ≡ with_file file.now self.old) }
+    {
+        let number = self.others.len() + 1;
+        let Ok(number) = u32::try_from(number) else {
+            return Err(Memory);
+        };
+        let owner = self.top_owner(alloc, file)?;
+        let key = file.copy(alloc)?;
+        drop(self.files.insert(key, number)?);
+        self.others.push(owner)?;
+        Ok(number)
+    }
+
+    /// The owner of what stands in top scope in this file.
+    fn top_owner(&self, alloc: Global, file: &Text) -> Result<Owner, Memory>
+        ensures { IfOk result (λ o. o ≡ owner_of_file file.now self.now) }
+    {
+        Ok(Owner {
+            file: file.copy(alloc)?,
+            source: self.main.source.copy(alloc)?,
+            resource: self.main.resource,
+            scope: self.main.scope,
+        })
+    }
+}
+
+/// The main manifest's owner is that of what stands in top scope there.
+fn main_file(alloc: Global) -> Result<BTreeMap<Text, u32>, Memory>
+    ensures { IfOk result (λ files. files.entries ≡ main_alone.files) }
+{
+    let file = Text::from_str(alloc, MAIN_MANIFEST)?;
+    let mut files = BTreeMap::new(alloc);
+    drop(files.insert(file, 0)?);
+    Ok(files)
 }

@@ -14,7 +14,7 @@ use override_rules::Overrides;
 use pp_values::{Fault, Kept, Memory, Place, Stop, Text, What};
 use res_book::{Book, Relations};
 use res_core::{LogLine, LogLines};
-use scope_core::{ScopeKind, Scopes};
+use scope_core::{ScopeId, ScopeKind, Scopes};
 use std::alloc::Global;
 
 /// All that a compile has made so far. Nothing in it is replaced: its lists only grow, but for the scopes of calls of
@@ -186,7 +186,24 @@ impl<'a> World<'a> {
         })
     }
 
-    /// Ends the scope of a call of a lambda.
+    /// The scope of one call of a function that stands in this file.
+    #[tactic(auto, unfolding(crate::specs::Worlds::enter_function))]
+    pub fn enter_function(&mut self, file: &Text) -> Result<Here, Stop>
+        ensures { Gives same (spec.enter_function file.now self.old) result self.new }
+    {
+        let alloc = self.heap.alloc();
+        let owner = self.owners.in_file(alloc, file)?;
+        let scope = self
+            .scopes
+            .enter(alloc, ScopeKind::Lambda, ScopeId { number: 0 })?;
+        Ok(Here {
+            scope,
+            owner,
+            typed: false,
+        })
+    }
+
+    /// Ends the scope of a call of a lambda or of a function.
     #[inline(always)]
     pub fn leave(&mut self, here: Here)
         ensures { self.new ≡ spec.left here self.old }

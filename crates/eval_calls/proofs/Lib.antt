@@ -1,5 +1,6 @@
 mod Binding
 mod Examples
+mod FunctionExamples
 mod LambdaExamples
 mod LookUpExamples
 mod Members

@@ -95,6 +95,10 @@ abbrev pub shown : Outcome Datum → Result (Datum × List (List ℕ)) Fault
 shown (Ok p) = Ok (p.0, map (λ l. l.text) p.1.log)
 shown (Err f) = Err f
 
+-- a site without definitions, files and data
+abbrev pub nothing_defined : Environment
+nothing_defined = record { main = record { statements = []; definitions = [] }; files = []; site_data = [] }
+
 abbrev pub run : Step Datum → Environment → Result (Datum × List (List ℕ)) Fault
 run p m = shown (p (empty m))
 

@@ -7,7 +7,6 @@ use Rattle.pp_tree.specs.declared.expr.Call.{Call, out-Call}
 use Rattle.pp_tree.specs.declared.expr.Expr.{Expr}
 use Rattle.pp_tree.specs.declared.statement.Words.{Words}
 use Rattle.pp_values.specs.Datum.{Datum, undef}
-use Rattle.pp_values.specs.declared.fault.What.TheVariants as what
 use Rattle.expr_eval.specs.Names.{lambda_function}
 use Rattle.pp_funcs.specs.Texts.{joined}
 use Rattle.expr_eval.specs.declared.functions.LambdaFunction.{LambdaFunction}
@@ -16,12 +15,13 @@ use Rattle.eval_classes.specs.declared.including.Including.{Including}
 use Rattle.eval_world.specs.Arguments.{values_from}
 use Rattle.eval_world.specs.Inner.{Inner}
 use Rattle.eval_world.specs.Outcomes.{Step, ◌>>=◌, ◌>>◌, pure}
-use Rattle.eval_world.specs.Worlds.{answered_at, fault, write_log, wrong}
+use Rattle.eval_world.specs.Worlds.{answered_at, write_log, wrong}
 use Rattle.eval_world.specs.declared.here.Here.{Here}
+use Rattle.eval_calls.specs.Functions.{defined_rule, lambda_refused}
 use Rattle.eval_calls.specs.Iterating.{lambda_function_rule}
 use Rattle.eval_calls.specs.Lambdas.{Opened, opened}
 use Rattle.eval_calls.specs.LookUps.{lookup_rule}
-use Rattle.eval_calls.specs.Names.{is_function, is_log}
+use Rattle.eval_calls.specs.Names.{is_computed, is_function, is_log}
 use Rattle.eval_calls.specs.Realizing.{realized}
 
 -- ---- without a lambda, once the arguments have their values
@@ -57,18 +57,23 @@ evaluated_rule inner f arguments line here =
     if is_log f then log_rule f arguments
     else without_lambda_by inner (lambda_function f) f arguments line here
 
--- any other function is one of its arguments alone, or there is none of that name
+-- a function of its arguments alone, or else one that the site defines
+unfoldable pub other_rule : Inner → List ℕ → List Datum → ℕ → Here → Step Datum
+other_rule inner f arguments line here =
+    if is_computed f then answered_at (applied f arguments) line here
+    else defined_rule inner f arguments line here
+
+-- A name that is listed is that function, whatever the site defines.
 unfoldable pub plain_rule : Inner → List ℕ → List Datum → ℕ → Here → Step Datum
 plain_rule inner f arguments line here =
     if needs_evaluator f then evaluated_rule inner f arguments line here
-    else answered_at (applied f arguments) line here
+    else other_rule inner f arguments line here
 
 -- ---- with a lambda
 
 -- a function that takes none, or no function at all
 unfoldable pub stray_lambda_rule : List ℕ → ℕ → Here → Step Datum
-stray_lambda_rule f line here =
-    if is_function f then wrong f line here else fault here line (what.UnknownFunction f)
+stray_lambda_rule f line here = if is_function f then wrong f line here else lambda_refused f line here
 
 abbrev pub with_lambda_by : Inner → Option LambdaFunction → List ℕ → Opened → List Datum → ℕ → Here → Step Datum
 with_lambda_by inner (Some g) f l arguments line here = lambda_function_rule inner g l arguments line here

@@ -1,7 +1,8 @@
--- What the clauses of `site_main` rest on, and a reader has to believe: Calls, Iterating, Lambdas, LookUps, Names,
--- Realizing
+-- What the clauses of `site_main` rest on, and a reader has to believe: Calls, Functions, Iterating, Lambdas,
+-- LookUps, Names, Realizing
 -- What functions promise one another, what types keep, and what proofs read: Known
 pub mod Calls
+pub mod Functions
 pub mod Iterating
 pub mod Lambdas
 pub mod LookUps

@@ -2,6 +2,7 @@
 #![tactic(auto)]
 
 mod calls;
+mod functions;
 mod iterating;
 mod lambdas;
 mod looking_up;

@@ -57,6 +57,7 @@ block_at b line here depth = (at_depth depth).block b line here
 abbrev pub is_node : Definition → Bool
 is_node (definition.Class c) = false
 is_node (definition.Define f) = false
+is_node (definition.Function f) = false
 is_node (definition.Node n) = true
 is_node (definition.SameNode first) = false
 
@@ -72,6 +73,7 @@ has_nodes (e ∷ es) = is_node e.1 || has_nodes es
 abbrev pub node_by : Definition → Option Node
 node_by (definition.Class c) = None
 node_by (definition.Define f) = None
+node_by (definition.Function f) = None
 node_by (definition.Node n) = Some n
 node_by (definition.SameNode first) = None
 
@@ -83,6 +85,7 @@ first_named es x = option_and_then node_by (lookup (same_name (name.Node x)) es)
 abbrev pub node_told : Entries → Definition → Option Node
 node_told es (definition.Class c) = None
 node_told es (definition.Define f) = None
+node_told es (definition.Function f) = None
 node_told es (definition.Node n) = Some n
 node_told es (definition.SameNode first) = first_named es first
 

@@ -9,6 +9,7 @@ mod OfForms
 mod OfClasses
 mod OfLines
 mod OfCollectors
+mod OfFunctions
 mod OfCalls
 mod OfResources
 mod OfOverrides

@@ -28,7 +28,8 @@ use Rattle.eval_world.specs.declared.here.Here.{Here}
 use Rattle.eval_world.specs.declared.world.World.{World}
 use Rattle.eval_classes.specs.Included.{including_of}
 use Rattle.eval_classes.specs.declared.including.Including.{Including}
-use Rattle.eval_calls.specs.Calls.{log_rule, data_rule, site_by, site_rule, without_lambda_by, evaluated_rule, plain_rule}
+use Rattle.eval_calls.specs.Calls.{log_rule, data_rule, site_by, site_rule, without_lambda_by, evaluated_rule}
+use Rattle.eval_calls.specs.Calls.{other_rule, plain_rule}
 use Rattle.eval_calls.specs.Calls.{stray_lambda_rule, with_lambda_by, with_lambda_rule, called, invoked, call_rule}
 use Rattle.eval_calls.specs.Calls.{invoked_on, method_rule, words_rule}
 use Rattle.eval_calls.specs.Iterating.{turns_from, over_rule, iterate_rule, reduce_from, reduced, reduce_rule, with_rule}
@@ -36,12 +37,13 @@ use Rattle.eval_calls.specs.Iterating.{lambda_function_rule}
 use Rattle.eval_calls.specs.Lambdas.{Opened, opened, typed, bind_rule, bind_from, lambda_rule}
 use Rattle.eval_calls.specs.LookUps.{Request, request_of, or_next, first_found, default_or_fault, found_or, found_rule}
 use Rattle.eval_calls.specs.LookUps.{fitting, of_type, lookup_by, lookup_rule}
-use Rattle.eval_calls.specs.Names.{is_function, is_log}
+use Rattle.eval_calls.specs.Names.{is_computed, is_function, is_log}
 use Rattle.eval_calls.specs.Realizing.{references_asked, realize_from, realize_all, realized_by, realized}
 use Rattle.world_laws.specs.Extends.{Extends}
 use Rattle.world_laws.specs.Growing.{Reaches, Grows, GrowsInner}
 use Rattle.world_laws.proofs.OfClasses.{included_grows, type_grows}
 use Rattle.world_laws.proofs.OfCollectors.{realize_grows}
+use Rattle.world_laws.proofs.OfFunctions.{defined_grows, lambda_refused_grows}
 use Rattle.world_laws.proofs.OfWorld.{assign_grows, log_grows, look_up_grows, values_grow}
 use Rattle.world_laws.proofs.Steps.{and_then, pure_grows, answer_grows, fault_grows, either, told}
 use Rattle.world_laws.proofs.Worlds.{extends_on, scope_entered, left_again}
@@ -250,17 +252,23 @@ module _ (inner : Inner) (g : GrowsInner inner) where
   evaluated_grows f arguments line here = either (is_log f) (log_rule_grows f arguments)
       (without_lambda_grows (lambda_function f) f arguments line here)
 
+  other_grows : (f : List ℕ) (arguments : List Datum) (line : ℕ) (here : Here) →
+      Grows (other_rule inner f arguments line here)
+  unfolding other_rule
+  other_grows f arguments line here =
+      either (is_computed f) (answer_grows _) (defined_grows inner g f arguments line here)
+
   plain_grows : (f : List ℕ) (arguments : List Datum) (line : ℕ) (here : Here) →
       Grows (plain_rule inner f arguments line here)
   unfolding plain_rule
   plain_grows f arguments line here =
-      either (needs_evaluator f) (evaluated_grows f arguments line here) (answer_grows _)
+      either (needs_evaluator f) (evaluated_grows f arguments line here) (other_grows f arguments line here)
 
   -- ---- with a lambda
 
   stray_grows : (f : List ℕ) (line : ℕ) (here : Here) → Grows (stray_lambda_rule f line here)
   unfolding stray_lambda_rule
-  stray_grows f line here = either (is_function f) (fault_grows _) (fault_grows _)
+  stray_grows f line here = either (is_function f) (fault_grows _) (lambda_refused_grows f line here)
 
   with_lambda_by_grows : (o : Option LambdaFunction) (f : List ℕ) (l : Opened) (arguments : List Datum) (line : ℕ)
       (here : Here) → Grows (with_lambda_by inner o f l arguments line here)

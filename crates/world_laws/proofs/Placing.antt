@@ -18,7 +18,7 @@ use Rattle.res_book.specs.declared.mode.Mode.{Mode}
 use Rattle.res_book.specs.declared.row.Row.{Row}
 use Rattle.pp_values.specs.declared.reference.Reference.{Reference}
 use Rattle.res_core.specs.declared.declared.Declared.{Declared}
-use Rattle.eval_world.specs.Owners.{Owners, owner_at, with_owner}
+use Rattle.eval_world.specs.Owners.{Owners, owner_at, owner_of_file, with_file, with_owner}
 use Rattle.eval_world.specs.declared.owner.Owner.{Owner}
 use Rattle.world_laws.specs.Extends.{IsOpened, ArePlaced}
 
@@ -141,6 +141,19 @@ module _ (s : State) (owners : Owners) (book : List Row) (placed : ArePlaced s o
     itself : {A : Type 0} (o : Option A) → option_map (λ y. y) o ≡ o
     itself None = refl
     itself (Some y) = refl
+
+  -- the owner more of what stands in top scope in this file
+  pub file_placed : (file : List ℕ) → ArePlaced s (with_file file owners) book
+  file_placed file = record {
+    nested = more.nested;
+    top = more.top;
+    main = more.main;
+    others = more.others;
+    items = more.items;
+    apart = more.apart;
+  } where
+    more : ArePlaced s (with_owner (owner_of_file file owners) owners) book
+    more = owner_placed (owner_of_file file owners) placed.main
 
   -- one scope more, and its owner
   pub body_placed : (x : Owner) (parent : Option ℕ) → IsWithin s.scopes parent →

@@ -1,5 +1,5 @@
--- What the clauses of `site_main` rest on, and a reader has to believe: Definitions, Expressions, FunctionBodies, Inner,
--- Input, Keys, Kinds, Levels, Manifest, Params, Statements
+-- What the clauses of `site_main` rest on, and a reader has to believe: Definitions, Expressions, FunctionBodies,
+-- Inner, Input, Keys, Kinds, Levels, Manifest, Params, Statements
 -- What functions promise one another, what types keep, and what proofs read: Nests
 pub mod Definitions
 pub mod Expressions

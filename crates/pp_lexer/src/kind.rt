@@ -140,6 +140,18 @@ pub enum Kind {
     /// `!`
     Bang,
 
+    // ---- a template's alone, which stand in no manifest
+    /// What stands outside of its tags. The token's text is what it emits.
+    RenderString,
+    /// `<%=`, before a value that is emitted.
+    RenderExpr,
+    /// The `|` that begins its parameters, as the first token of its first tag.
+    ParamsBegin,
+    /// A `|` that is the last token of the tag of its parameters.
+    ParamsEnd,
+    /// The `%>` that ends `<%=`, or the tag of its parameters.
+    TagEnd,
+
     // ---- what ends a list of tokens early
     /// No token can be read here. It is the last of its list.
     Bad,

@@ -41,6 +41,7 @@ use Rattle.pp_tree.specs.declared.statement.Link.{Link}
 use Rattle.pp_tree.specs.declared.statement.Operand.{Operand}
 use Rattle.pp_tree.specs.declared.statement.Statement.{Statement}
 use Rattle.pp_tree.specs.declared.statement.Words.{Words}
+use Rattle.pp_tree.specs.declared.template.Template.{Template}
 
 -- a text is seen as its bytes, and a block as its statements
 abbrev pub Text : Type 0
@@ -156,3 +157,7 @@ node_of names block at = record { names = names; block = block; at = at }
 
 abbrev pub node_name : Option Text → ℕ → NodeName
 node_name name at = record { name = name; at = at }
+
+-- templates
+abbrev pub template_of : Option (List (Param Expr)) → Block → Template
+template_of params block = record { params = params; block = block }

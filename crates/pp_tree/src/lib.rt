@@ -13,6 +13,7 @@ pub mod resource;
 pub mod rows;
 pub mod statement;
 pub mod table;
+pub mod template;
 
 pub use collector::{Collector, Comparison, Conjunction, Query, Test};
 pub use conditions::{Case, CaseOption, Elsif, If, Unless};
@@ -28,3 +29,4 @@ pub use resource::{
 };
 pub use statement::{Arrow, Block, Chain, Link, Operand, Statement, Words};
 pub use table::{DefinitionName, Table, TableStop, table_of};
+pub use template::Template;

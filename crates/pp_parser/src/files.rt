@@ -19,7 +19,7 @@ use pp_tree::resource::ResourceForm;
 use std::alloc::Global;
 
 /// Whether a file ends here.
-fn ends_file(pending: &Option<Name>, next: Option<Kind>) -> bool
+pub fn ends_file(pending: &Option<Name>, next: Option<Kind>) -> bool
     ensures { result ≡ spec.ends_file pending.now next }
 {
     match (pending, next) {

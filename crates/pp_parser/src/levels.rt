@@ -3,12 +3,14 @@
 ghost use Rattle.pp_parser.specs.Definitions as definitions;
 ghost use Rattle.pp_parser.specs.Input.{Reads};
 ghost use Rattle.pp_parser.specs.Levels.{within, part_by, max_levels};
+ghost use Rattle.pp_parser.specs.Templates as templates;
 
 use crate::cursor::Cursor;
 use crate::found::Found;
 use crate::goal::{Goal, Part};
 use crate::refusal::Refusal;
 use crate::rules::Rules;
+use pp_tree::template::Template;
 use std::alloc::Global;
 
 /// As many levels may be open.
@@ -63,4 +65,16 @@ pub fn module_file(alloc: Global, tokens: &mut Cursor<'_>) -> Result<Found, Refu
         inner: part,
     }
     .module_file(tokens)
+}
+
+/// A template up to its end.
+pub fn template(alloc: Global, tokens: &mut Cursor<'_>) -> Result<Template, Refusal>
+    ensures { Reads (templates.template (within max_levels) tokens.old) result tokens.new }
+{
+    Rules {
+        alloc,
+        levels: MAX_LEVELS,
+        inner: part,
+    }
+    .template(tokens)
 }

@@ -8,9 +8,11 @@ pub mod Lists
 pub mod Operands
 pub mod Parts
 pub mod Resources
+pub mod StatementBegins
 pub mod StatementFalls
 pub mod Statements
 pub mod Steps
+pub mod Templates
 pub mod Wholes
 pub mod Words
 pub mod Within

@@ -7,4 +7,5 @@ pub mod Sound
 pub mod Ways
 pub mod Whole
 mod WorkedFunctions
+mod WorkedTemplates
 mod WorkedTrees

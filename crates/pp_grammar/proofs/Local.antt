@@ -9,3 +9,4 @@ pub mod Limits
 pub mod Lists
 pub mod Statements
 pub mod Steps
+pub mod Templates

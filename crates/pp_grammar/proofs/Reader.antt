@@ -8,3 +8,4 @@ pub mod Levels
 pub mod Manifest
 pub mod Params
 pub mod Statements
+pub mod Templates

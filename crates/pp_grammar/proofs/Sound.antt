@@ -8,3 +8,4 @@ pub mod Lists
 pub mod Resources
 pub mod Statements
 pub mod Steps
+pub mod Templates

@@ -6,6 +6,7 @@ pub mod Inner
 pub mod Expressions
 pub mod Resources
 pub mod Statements
+pub mod Templates
 pub mod Turns
 pub mod Blocks
 pub mod Fresh

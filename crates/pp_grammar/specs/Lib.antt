@@ -8,3 +8,4 @@ pub mod Names
 pub mod Operators
 pub mod Places
 pub mod Statements
+pub mod Templates

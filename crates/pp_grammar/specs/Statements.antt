@@ -178,7 +178,8 @@ module _ (N : Within) where
     type : Begins (is_kind k.Type) (is_kind k.OpenBrace) i → BeginsAlone i
     reference : (j : Input) (r : Reference Expr) → IsReference i r j → is_kind k.OpenBrace (kind j) ≡ true → BeginsAlone i
 
-  -- statement = chain | override | defaults | words
+  -- statement = chain | override | defaults | words, and in a template also the text that stands outside of its tags, and the
+  -- value between `<%=` and the end of its tag
   pub data IsStatement : Input → Statement → Input → Type 0 where
     chain : (i j : Input) (s : Statement) → (Begins (is_kind k.StatementFunction) (λ next. not (calls_or_declares next)) i → ⊥) → (BeginsAlone i → ⊥) → IsChain i s j → IsStatement i s j
     override : (i j l : Input) (r : Reference Expr) (attrs : List (Attribute Expr)) → IsReference i r j → AreAttributes true j attrs l
@@ -187,6 +188,9 @@ module _ (N : Within) where
         → IsStatement i (statement.Chain (chain_of (operand.Defaults (defaults_of t.text attrs t.line)) [] t.line)) l
     words : (i j l : Input) (t : Token) (xs : List Expr) → Stands (is_kind k.StatementFunction) i t j → calls_or_declares (kind j) ≡ false → AreWords j xs l
         → IsStatement i (statement.Words (words_of t.text xs t.line)) l
+    emitted_text : (i j : Input) (t : Token) → Stands (is_kind k.RenderString) i t j → IsStatement i (statement.Emit t.text) j
+    emitted_value : (i j l m : Input) (opener closer : Token) (x : Expr)
+        → Stands (is_kind k.RenderExpr) i opener j → IsWhole N false false j x l → Stands (is_kind k.TagEnd) l closer m → IsStatement i (statement.EmitValue x) m
 
   -- [";"]
   pub data IsEnd : Input → Input → Type 0 where

@@ -13,8 +13,6 @@ use Rattle.pp_tree.specs.declared.statement.Operand.{Operand}
 use Rattle.pp_tree.specs.declared.resource.Resource.{Resource}
 use Rattle.pp_tree.specs.declared.resource.ResourceForm.{ResourceForm}
 use Rattle.pp_tree.specs.declared.resource.ResourceForm.TheVariants as resource_form
-use Rattle.pp_tree.specs.declared.resource.Reference.{Reference}
-use Rattle.pp_tree.specs.declared.collector.Collector.{Collector}
 use Rattle.pp_tree.specs.declared.definition.Name.{Name}
 use Rattle.pp_tree.specs.declared.definition.Definition.{Definition}
 use Rattle.pp_parser.specs.declared.goal.Goal.{Goal}
@@ -26,19 +24,19 @@ use Rattle.pp_parser.specs.declared.item.Item.TheVariants as item
 use Rattle.pp_grammar.proofs.Reader.Input.{Input, Outcome, ◌<$>◌, kind, line_at, eat, turns}
 use Rattle.pp_grammar.proofs.Reader.Inner.{Inner}
 use Rattle.pp_grammar.specs.Kinds.{is_kind, same_kind, is_name, begins_expression}
-use Rattle.pp_grammar.proofs.Reader.Statements.{Read, name_of, names_resource, resource, chain_from, statement_rule}
+use Rattle.pp_grammar.proofs.Reader.Statements.{Read, name_of, resource, chain_from, statement_rule}
 use Rattle.pp_parser.specs.declared.found.Found.{Found}
 use Rattle.pp_grammar.proofs.Reader.Definitions.{nothing_yet, with_statement, with_definition, class, read_of, class_item_by, class_item, item_by, item_rule, ends_file, manifest_from, main_manifest, module_item, module_from, module_file}
 use Rattle.pp_grammar.proofs.Reader.Levels.{part_by, within_to, deepest_to, read_to}
 use Rattle.pp_grammar.specs.Places.{Within, Stands, Many}
-use Rattle.pp_grammar.specs.Statements.{marks, is_arrow, IsResource, IsCollector, IsReference, IsExpressionOperand, IsOperand, IsLink, IsChain, IsStatement}
+use Rattle.pp_grammar.specs.Statements.{marks, is_arrow, IsResource, IsOperand, IsLink, IsChain, IsStatement}
 use Rattle.pp_grammar.specs.Files.{IsName, IsModuleDefinition, IsDefinition, IsMain, IsModule, IsPart, LevelsTo}
 use Rattle.pp_grammar.proofs.Complete.Steps.{kind_is, fits_kind, line_there, word_there, fits_there, take_gives}
 use Rattle.pp_grammar.proofs.Complete.Lists.{one_more}
 use Rattle.pp_grammar.proofs.Complete.Within.{IsFalling, IsComplete, least}
 use Rattle.pp_grammar.proofs.Complete.ExpressionFalls.{whole_falls, operand_falls, interpolated_falls, param_falls, case_option_falls}
 use Rattle.pp_grammar.proofs.Complete.StatementFalls.{query_falls, statement_falls, end_falls, statements_fall}
-use Rattle.pp_grammar.proofs.Complete.Begins.{whole_begins}
+use Rattle.pp_grammar.proofs.Complete.StatementBegins.{begins_statement, collector_begins, expression_begins, reference_begins, statement_begins}
 use Rattle.pp_grammar.proofs.Complete.Expressions.{operand_complete}
 use Rattle.pp_grammar.proofs.Complete.Wholes.{whole_complete, interpolated_complete, param_complete, case_option_complete}
 use Rattle.pp_grammar.proofs.Complete.Resources.{query_complete, bodies_complete, bodies_begin}
@@ -48,33 +46,7 @@ use Rattle.pp_grammar.proofs.Complete.FunctionBodies.{function_statements_fall, 
 use Rattle.pp_grammar.proofs.Complete.Statements.{Resumed, statement_complete, end_complete, end_eaten, statements_complete}
 use Rattle.pp_grammar.proofs.Complete.Definitions.{module_definition_falls, definition_falls, class_complete, define_complete, function_definition_complete, node_complete}
 
--- ---- what a statement begins with: it is no word that begins only definitions, and not the end of the file
-
-abbrev begins_statement : Option Kind → Bool
-begins_statement (Some k.Define) = false
-begins_statement (Some k.Node) = false
-begins_statement (Some k.Function) = false
-begins_statement (Some _) = true
-begins_statement None = false
-
-resources_begin : (next : Option Kind) → names_resource next ≡ true → begins_statement next ≡ true
-resources_begin (Some k.Define) e = cc
-resources_begin (Some k.Node) e = cc
-resources_begin (Some k.Function) e = cc
-resources_begin None e = cc
-resources_begin _ e = refl
-
-marks_begin : (form : ResourceForm) (next : Option Kind) → marks form next ≡ true → begins_statement next ≡ true
-marks_begin resource_form.Virtual (Some k.At) e = refl
-marks_begin resource_form.Exported (Some k.AtAt) e = refl
-marks_begin _ _ e = cc
-
-expressions_begin : (next : Option Kind) → begins_expression next ≡ true → begins_statement next ≡ true
-expressions_begin (Some k.Define) e = cc
-expressions_begin (Some k.Node) e = cc
-expressions_begin (Some k.Function) e = cc
-expressions_begin None e = cc
-expressions_begin _ e = refl
+-- ---- the word `class` begins nothing else
 
 class_or_mark : (form : ResourceForm) (next : Option Kind) → marks form next ≡ true → next ≡ Some k.Class → ⊥
 class_or_mark resource_form.Virtual (Some k.At) a b = cc
@@ -90,6 +62,14 @@ class_or_type next a b = cc
 
 class_or_function : (next : Option Kind) → next ≡ Some k.StatementFunction → next ≡ Some k.Class → ⊥
 class_or_function next a b = cc
+
+class_or_text : (next : Option Kind) → next ≡ Some k.RenderString → next ≡ Some k.Class → ⊥
+class_or_text next a b = cc
+
+class_or_value : (next : Option Kind) → next ≡ Some k.RenderExpr → next ≡ Some k.Class → ⊥
+class_or_value next a b = cc
+
+-- ---- nor does a name
 
 name_or_class : (next : Option Kind) → is_name next ≡ true → next ≡ Some k.Class → ⊥
 name_or_class (Some k.Name) a b = cc
@@ -107,37 +87,9 @@ name_or_node : (next : Option Kind) → is_name next ≡ true → next ≡ Some 
 name_or_node (Some k.Name) a b = cc
 name_or_node _ a b = cc
 
-name_or_none : (next : Option Kind) → is_name next ≡ true → next ≡ None → ⊥
+pub name_or_none : (next : Option Kind) → is_name next ≡ true → next ≡ None → ⊥
 name_or_none (Some k.Name) a b = cc
 name_or_none _ a b = cc
-
-module _ (N : Within) where
-  resource_begins : {i j : Input} {r : Resource Expr} → IsResource N i r j → begins_statement (kind i) ≡ true
-  resource_begins (IsResource.plain i j l name bs s d) = resources_begin (kind i) (fits_there s)
-  resource_begins (IsResource.marked i j l m form mark name bs s e d) = marks_begin form (kind i) (fits_there s)
-
-  pub collector_begins : {i j : Input} {x : Collector} → IsCollector N i x j → kind i ≡ Some k.Type
-  collector_begins (IsCollector.collector i j l m n o exported type opener closer q attrs s e d f ds) = word_there s
-
-  expression_begins : {i j : Input} {x : Expr} → IsExpressionOperand N i x j → begins_expression (kind i) ≡ true
-  expression_begins (IsExpressionOperand.expression i j x a b w) = whole_begins N w
-
-  operand_begins : {i j : Input} {o : Operand} → IsOperand N i o j → begins_statement (kind i) ≡ true
-  operand_begins (IsOperand.resource i j r d) = resource_begins d
-  operand_begins (IsOperand.collector i j x d) = rw (collector_begins d) refl
-  operand_begins (IsOperand.expression i j x d) = expressions_begin (kind i) (expression_begins d)
-
-  chain_begins : {i j : Input} {s : Statement} → IsChain N i s j → begins_statement (kind i) ≡ true
-  chain_begins (IsChain.chain i j l first links d ds) = operand_begins d
-
-  reference_begins : {i j : Input} {r : Reference Expr} → IsReference N i r j → kind i ≡ Some k.Type
-  reference_begins (IsReference.reference i j l m n type opener closer xs s o ds e) = word_there s
-
-  pub statement_begins : {i j : Input} {s : Statement} → IsStatement N i s j → begins_statement (kind i) ≡ true
-  statement_begins (IsStatement.chain i j s a b d) = chain_begins d
-  statement_begins (IsStatement.override i j l r attrs d ds) = rw (reference_begins d) refl
-  statement_begins (IsStatement.defaults i j l t attrs s ds) = rw (word_there s) refl
-  statement_begins (IsStatement.words i j l t xs s e ds) = rw (word_there s) refl
 
 module _ (inner : Inner) (N : Within) (c : IsComplete inner N) where
   -- ---- a statement that begins with `class` is a resource
@@ -180,6 +132,8 @@ module _ (inner : Inner) (N : Within) (c : IsComplete inner N) where
   class_statement (IsStatement.override i j l r attrs d ds) e = absurd (class_or_type (kind i) (reference_begins N d) e)
   class_statement (IsStatement.defaults i j l t attrs s ds) e = absurd (class_or_type (kind i) (word_there s) e)
   class_statement (IsStatement.words i j l t xs s f ds) e = absurd (class_or_function (kind i) (word_there s) e)
+  class_statement (IsStatement.emitted_text i j t s) e = absurd (class_or_text (kind i) (word_there s) e)
+  class_statement (IsStatement.emitted_value i j l m opener closer x s d f) e = absurd (class_or_value (kind i) (word_there s) e)
 
   -- ---- items of a main manifest
 
@@ -258,11 +212,11 @@ module _ (inner : Inner) (N : Within) (c : IsComplete inner N) where
   file_ends n found Behind.here e = rw e refl
   file_ends n found {i = i} (Behind.pending t l f brace) e = absurd (name_or_none (kind i) (fits_there f) e)
 
-  no_end : (next : Option Kind) → begins_statement next ≡ true → ends_file None next ≡ false
+  pub no_end : (next : Option Kind) → begins_statement next ≡ true → ends_file None next ≡ false
   no_end None e = cc
   no_end _ e = refl
 
-  file_goes_on : {i h : Input} {name : Option Name} → Behind i name h → begins_statement (kind i) ≡ true → ends_file name (kind h) ≡ false
+  pub file_goes_on : {i h : Input} {name : Option Name} → Behind i name h → begins_statement (kind i) ≡ true → ends_file name (kind h) ≡ false
   file_goes_on {i = i} Behind.here e = no_end (kind i) e
   file_goes_on (Behind.pending t l f brace) e = refl
 

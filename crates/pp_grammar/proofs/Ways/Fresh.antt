@@ -101,6 +101,7 @@ default_rule_fresh bars = peek_none_fresh (λ next m. default_by (within m) bars
 param_expression : (next : Option Kind) → ends_param next ≡ true → ends_expression next ≡ true
 param_expression (Some k.Comma) e = refl
 param_expression (Some k.CloseParen) e = refl
+param_expression (Some k.ParamsEnd) e = refl
 param_expression _ e = absurd cc
 
 typed_param_fresh : (bars : Bool) (type : Expr) → Fresh (Some k.Variable) (always ends_param) (λ m. typed_param (within m) bars type)

@@ -29,12 +29,15 @@ ends_expression (Some k.InterpolationEnd) = true
 ends_expression (Some k.CloseCollector) = true
 ends_expression (Some k.CloseExported) = true
 ends_expression (Some k.Variable) = true
+ends_expression (Some k.TagEnd) = true
+ends_expression (Some k.ParamsEnd) = true
 ends_expression _ = false
 
 -- the end of a parameter
 abbrev pub ends_param : Option Kind → Bool
 ends_param (Some k.Comma) = true
 ends_param (Some k.CloseParen) = true
+ends_param (Some k.ParamsEnd) = true
 ends_param _ = false
 
 -- the end of a block's statements, or of a case's options

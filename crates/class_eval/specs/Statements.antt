@@ -48,9 +48,12 @@ chained_by inner first (l ∷ ls) line here = unvalued (links_rule inner first (
 unfoldable pub chain_rule : Inner → Chain Operand → Here → Step (Option Datum)
 chain_rule inner c here = chained_by inner c.first c.links c.at here
 
+-- What a template emits stands in no manifest.
 abbrev pub statement_by : Inner → StatementLayer → Here → Step (Option Datum)
 statement_by inner (Statement-F.Chain c) here = chain_rule inner c here
 statement_by inner (Statement-F.Words w) here = valued (inner.words w here)
+statement_by inner (Statement-F.Emit t) here = pure None
+statement_by inner (Statement-F.EmitValue e) here = pure None
 
 unfoldable pub statement_rule : Inner → Statement → Here → Step (Option Datum)
 statement_rule inner s here = statement_by inner (out-Statement s) here

@@ -58,6 +58,8 @@ pub fn stated(statement: &Statement) -> Option<&Expr>
     match statement {
         Statement::Chain(chain) => alone(chain),
         Statement::Words(_) => None,
+        Statement::Emit(_) => None,
+        Statement::EmitValue(_) => None,
     }
 }
 
@@ -101,6 +103,8 @@ pub fn statement<F: Fn(&mut World<'_>, Goal<'_>, Here, u32) -> Result<Evaluated,
     match statement {
         Statement::Chain(chain) => chained(forms, world, chain, here),
         Statement::Words(words) => Ok(Some(forms.words(world, words.get(), here)?)),
+        Statement::Emit(_) => Ok(None),
+        Statement::EmitValue(_) => Ok(None),
     }
 }
 

@@ -116,6 +116,8 @@ module _ (inner : Inner) (g : GrowsInner inner) where
   statement_by_grows : (s : StatementLayer) (here : Here) → Grows (statement_by inner s here)
   statement_by_grows (Statement-F.Chain c) here = chain_grows c here
   statement_by_grows (Statement-F.Words x) here = valued_grows (inner.words x here) (g.words x here)
+  statement_by_grows (Statement-F.Emit t) here = pure_grows
+  statement_by_grows (Statement-F.EmitValue e) here = pure_grows
 
   statement_grows : (s : Statement) (here : Here) → Grows (statement_rule inner s here)
   unfolding statement_rule

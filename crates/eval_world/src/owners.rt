@@ -1,5 +1,6 @@
 ghost use Rattle.std.specs.Prelude.{◌≡◌, ◌+◌, length, is_ok, if◌then◌else◌, IfOk, OnOk};
 ghost use Rattle.eval_world.specs.Owners.{owner_at, owner_in, owner_of_file, main_alone, with_file, with_owner};
+ghost use Rattle.eval_world.specs.Owners.{inline_in, inline_owner, with_inline};
 
 use crate::owner::Owner;
 use pp_values::{MAIN_MANIFEST, Memory, Text};
@@ -10,6 +11,9 @@ use std::marker::Model;
 /// The source of what stands in no class, define or node.
 pub const MAIN_SOURCE: &str = "class main";
 
+/// The file that is named for texts which are rendered as templates.
+pub const INLINE_FILE: &str = "inline_epp";
+
 /// The owners of a compile by number. The first is the main manifest.
 #[derive(Drop)]
 pub struct Owners {
@@ -17,6 +21,8 @@ pub struct Owners {
     others: Vec<Owner>,
     /// The number of the owner of what stands in top scope, by the file.
     files: BTreeMap<Text, u32>,
+    /// The number of the owner of the texts that an owner's code renders as templates, by that owner's number.
+    inlines: BTreeMap<u32, u32>,
 }
 
 impl Model for Owners {
@@ -26,7 +32,12 @@ impl Model for Owners {
 
     ghost coded = { coded_owners };
 
-    ghost view = { λ o. record { main = o.main; others = o.others.items; files = o.files.entries } };
+    ghost view = { λ o. record {
+      main = o.main;
+      others = o.others.items;
+      files = o.files.entries;
+      inlines = o.inlines.entries;
+    } };
 }
 
 impl Owners {
@@ -46,6 +57,7 @@ impl Owners {
             },
             others: Vec::new(alloc),
             files,
+            inlines: BTreeMap::new(alloc),
         })
     }
 
@@ -101,6 +113,45 @@ impl Owners {
         drop(self.files.insert(key, number)?);
         self.others.push(owner)?;
         Ok(number)
+    }
+
+    /// The number of the owner of the texts that the code of this owner renders as templates, which is added where it is
+    /// not there yet.
+    #[tactic(auto, unfolding(crate::specs::Owners::inline_in))]
+    pub fn inline(&mut self, alloc: Global, number: u32) -> Result<u32, Memory>
+        ensures number { IfOk result (λ n. n ≡ (inline_in number self.old).0) }
+        ensures owners { OnOk result (self.new ≡ (inline_in number self.old).1) }
+    {
+        match self.inlines.get(&number) {
+            Some(inline) => Ok(*inline),
+            None => self.add_inline(alloc, number),
+        }
+    }
+
+    fn add_inline(&mut self, alloc: Global, number: u32) -> Result<u32, Memory>
+        ensures number { IfOk result (λ n. n ≡ length self.old.others + 1) }
+        ensures owners { OnOk result (self.new ≡ with_inline number self.old) }
+    {
+        let inline = self.others.len() + 1;
+        let Ok(inline) = u32::try_from(inline) else {
+            return Err(Memory);
+        };
+        let owner = self.inline_owner(alloc, number)?;
+        drop(self.inlines.insert(number, inline)?);
+        self.others.push(owner)?;
+        Ok(inline)
+    }
+
+    fn inline_owner(&self, alloc: Global, number: u32) -> Result<Owner, Memory>
+        ensures { IfOk result (λ o. o ≡ inline_owner number self.now) }
+    {
+        let outer = self.get(number);
+        Ok(Owner {
+            file: Text::from_str(alloc, INLINE_FILE)?,
+            source: outer.source.copy(alloc)?,
+            resource: outer.resource,
+            scope: outer.scope,
+        })
     }
 
     /// The owner of what stands in top scope in this file.

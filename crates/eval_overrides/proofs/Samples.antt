@@ -98,6 +98,7 @@ world rows = record (empty site) {
     main = main_owner;
     others = owner (codes "class a") 1 ∷ owner (codes "class b") 2 ∷ owner (codes "class c") 3 ∷ [];
     files = [];
+    inlines = [];
   };
   book = rows;
   overrides = record {

@@ -21,7 +21,7 @@ use Rattle.eval_world.specs.Worlds.{empty, read, assign, enter_lambda, write_log
 use Rattle.eval_world.specs.Environment.{Environment}
 use Rattle.eval_calls.specs.Calls.{invoked, invoked_on, words_rule}
 use Rattle.eval_calls.specs.Calls.{plain_rule, other_rule, evaluated_rule, site_rule, log_rule, with_lambda_rule}
-use Rattle.eval_calls.specs.Calls.{data_rule, stray_lambda_rule}
+use Rattle.eval_calls.specs.Calls.{data_rule, stray_lambda_rule, template_or_data}
 use Rattle.eval_classes.specs.Functions.{function_named}
 use Rattle.eval_classes.specs.Included.{included, names_from}
 use Rattle.eval_calls.specs.Functions.{defined_rule, lambda_refused}
@@ -186,12 +186,12 @@ requires_no_class m = refl
 
 -- resources are brought to life: `proofs/RealizeExamples.antt`
 no_reference : (m : Environment) → run (plainly (codes "realize") (one ∷ [])) m ≡ refuses 3 (what.WrongArguments (codes "realize"))
-unfolding plain_rule evaluated_rule site_rule data_rule realized arguments_from references_from needs_evaluator lambda_function owner_at
+unfolding plain_rule evaluated_rule site_rule template_or_data data_rule realized arguments_from references_from needs_evaluator lambda_function owner_at
 no_reference m = refl
 
 -- data are looked up: `proofs/LookUpExamples.antt`
 no_key : (m : Environment) → run (plainly (codes "lookup") (one ∷ [])) m ≡ refuses 3 (what.WrongArguments (codes "lookup"))
-unfolding plain_rule evaluated_rule site_rule data_rule lookup_rule needs_evaluator lambda_function owner_at
+unfolding plain_rule evaluated_rule site_rule template_or_data data_rule lookup_rule needs_evaluator lambda_function owner_at
 no_key m = refl
 
 arguments_before_classes : (m : Environment)

@@ -7,4 +7,5 @@ mod Members
 mod OneVariable
 mod RealizeExamples
 mod Samples
+mod TemplateExamples
 mod Turned

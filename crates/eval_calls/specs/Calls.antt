@@ -23,6 +23,7 @@ use Rattle.eval_calls.specs.Lambdas.{Opened, opened}
 use Rattle.eval_calls.specs.LookUps.{lookup_rule}
 use Rattle.eval_calls.specs.Names.{is_computed, is_function, is_log}
 use Rattle.eval_calls.specs.Realizing.{realized}
+use Rattle.eval_calls.specs.Templating.{epp_rule, inline_rule}
 
 -- ---- without a lambda, once the arguments have their values
 
@@ -37,10 +38,17 @@ unfoldable pub data_rule : List ℕ → List Datum → ℕ → Here → Step Dat
 data_rule f arguments line here =
     if bytes_eq f (codes "lookup") then lookup_rule f arguments line here else realized f arguments line here
 
--- classes are declared, data are looked up, or collectors are registered
+-- templates are rendered, or what stands behind them
+unfoldable pub template_or_data : Inner → List ℕ → List Datum → ℕ → Here → Step Datum
+template_or_data inner f arguments line here =
+    if bytes_eq f (codes "epp") then epp_rule inner f arguments line here
+    else (if bytes_eq f (codes "inline_epp") then inline_rule inner f arguments line here
+    else data_rule f arguments line here)
+
+-- classes are declared, templates rendered, data looked up, or collectors registered
 abbrev pub site_by : Inner → Option Including → List ℕ → List Datum → ℕ → Here → Step Datum
 site_by inner (Some i) f arguments line here = included inner i f arguments line here
-site_by inner None f arguments line here = data_rule f arguments line here
+site_by inner None f arguments line here = template_or_data inner f arguments line here
 
 -- a function that needs the site
 unfoldable pub site_rule : Inner → List ℕ → List Datum → ℕ → Here → Step Datum
@@ -51,7 +59,7 @@ abbrev pub without_lambda_by : Inner → Option LambdaFunction → List ℕ → 
 without_lambda_by inner (Some g) f arguments line here = wrong f line here
 without_lambda_by inner None f arguments line here = site_rule inner f arguments line here
 
--- a function that needs the log, a lambda or the site
+-- a function that needs the log, a lambda, a template or the site
 unfoldable pub evaluated_rule : Inner → List ℕ → List Datum → ℕ → Here → Step Datum
 evaluated_rule inner f arguments line here =
     if is_log f then log_rule f arguments

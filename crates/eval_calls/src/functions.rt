@@ -212,7 +212,11 @@ fn bind_default<F: Fn(&mut World<'_>, Goal<'_>, Here, u32) -> Result<Evaluated, 
     bind_one(forms, world, param, value, at, own)
 }
 
-fn default_value<F: Fn(&mut World<'_>, Goal<'_>, Here, u32) -> Result<Evaluated, Stop>, M: Meaning>(
+/// The default of a parameter, one level further in, and Undef where it has none.
+pub fn default_value<
+    F: Fn(&mut World<'_>, Goal<'_>, Here, u32) -> Result<Evaluated, Stop>,
+    M: Meaning,
+>(
     forms: &Forms<F, M>,
     world: &mut World<'_>,
     default: &Option<Expr>,
@@ -227,8 +231,9 @@ fn default_value<F: Fn(&mut World<'_>, Goal<'_>, Here, u32) -> Result<Evaluated,
     }
 }
 
+/// A parameter with its value: its type, and then its name. F8 stands at the call.
 #[tactic(auto, unfolding(crate::specs::Functions::bind_rule))]
-fn bind_one<F: Fn(&mut World<'_>, Goal<'_>, Here, u32) -> Result<Evaluated, Stop>, M: Meaning>(
+pub fn bind_one<F: Fn(&mut World<'_>, Goal<'_>, Here, u32) -> Result<Evaluated, Stop>, M: Meaning>(
     forms: &Forms<F, M>,
     world: &mut World<'_>,
     param: &Param,

@@ -13,6 +13,7 @@ use crate::functions::{call_defined, refuse_defined};
 use crate::looking_up::look_up;
 use crate::names::{is_computed, is_function, is_log, wrong};
 use crate::realizing::realize;
+use crate::templating::{epp, inline_epp};
 use eval_classes::{Including, include};
 use eval_world::{Evaluated, Forms, Goal, Here, Meaning, World, is_splat, only};
 use expr_eval::{LambdaFunction, joined};
@@ -114,7 +115,7 @@ fn compute(
     Ok(Evaluated::new(call_pure_of(world.heap.alloc(), function, arguments, &at)?))
 }
 
-/// A function that needs the log, a lambda or the site.
+/// A function that needs the log, a lambda, a template or the site.
 #[tactic(auto, unfolding(crate::specs::Calls::evaluated_rule))]
 fn call_evaluated<
     F: Fn(&mut World<'_>, Goal<'_>, Here, u32) -> Result<Evaluated, Stop>,
@@ -156,7 +157,30 @@ fn call_site<F: Fn(&mut World<'_>, Goal<'_>, Here, u32) -> Result<Evaluated, Sto
 {
     match Including::from_name(function) {
         Some(including) => include(forms, world, including, function, arguments, line, here),
-        None => call_data(world, function, arguments, line, here),
+        None => call_template(forms, world, function, arguments, line, here),
+    }
+}
+
+/// `epp`, `inline_epp`, or what stands behind them.
+#[tactic(auto, unfolding(crate::specs::Calls::template_or_data))]
+fn call_template<F: Fn(&mut World<'_>, Goal<'_>, Here, u32) -> Result<Evaluated, Stop>, M: Meaning>(
+    forms: &Forms<F, M>,
+    world: &mut World<'_>,
+    function: &Text,
+    arguments: &Values,
+    line: u32,
+    here: Here,
+) -> Result<Evaluated, Stop>
+    requires { Nests (M.within forms.now.left) forms.now.left (F.pre forms.now.inner) (F.post forms.now.inner) }
+    ensures { Gives same (spec.template_or_data (M.within forms.now.left) function.now arguments.now line here world.old)
+        result world.new }
+{
+    if function.is("epp") {
+        epp(forms, world, function, arguments, line, here)
+    } else if function.is("inline_epp") {
+        inline_epp(forms, world, function, arguments, line, here)
+    } else {
+        call_data(world, function, arguments, line, here)
     }
 }
 

@@ -13,6 +13,7 @@ use Rattle.pp_tree.specs.declared.file.File.{File}
 use Rattle.pp_tree.specs.declared.statement.Statement.{Statement}
 use Rattle.pp_tree.specs.declared.table.DefinitionName.{DefinitionName}
 use Rattle.pp_tree.specs.declared.table.DefinitionName.TheVariants as name
+use Rattle.pp_tree.specs.declared.template.Template.{Template}
 use Rattle.pp_values.specs.Datum as d
 use Rattle.pp_values.specs.Datum.{Datum}
 use Rattle.pp_values.specs.Settings.{Setting}
@@ -24,6 +25,7 @@ use Rattle.res_book.specs.Rows.{number_of}
 use Rattle.scope_core.specs.declared.scope_kind.ScopeKind.TheVariants as kind
 use Rattle.class_eval.specs.Meaning.{within}
 use Rattle.class_eval.specs.Statements.{statements_from}
+use Rattle.class_eval.specs.Templates.{rendered_rule}
 use Rattle.eval_classes.specs.Bodies.{run_rule}
 use Rattle.eval_classes.specs.Definitions.{class_found, class_name, param_names}
 use Rattle.eval_classes.specs.Entering.{enter_rule}
@@ -167,3 +169,9 @@ class_at x given at here depth = class_within (at_depth depth) x given at here
 -- the instance of a declaration, which stands at this depth
 abbrev pub instance_at : ℕ → ℕ → Step (Unit {0})
 instance_at number depth = run_rule (at_depth depth) number
+
+-- ---- templates
+
+-- A template without what it is given. Its statements stand at this depth.
+abbrev pub render_at : Template → Here → ℕ → Step Datum
+render_at t here depth = rendered_rule (at_depth depth) t.block here

@@ -10,6 +10,7 @@ mod OfClasses
 mod OfLines
 mod OfCollectors
 mod OfFunctions
+mod OfTemplates
 mod OfCalls
 mod OfResources
 mod OfOverrides

@@ -1,5 +1,5 @@
 -- Calls of functions that the site defines.
-use Rattle.std.proofs.Common.{ℕ, ◌≤◌, Bool, true, false, List, [], ◌∷◌, length, Option, None, Some, Ok, Err, arith}
+use Rattle.std.proofs.Common.{ℕ, ◌≤◌, Bool, true, false, List, [], ◌∷◌, length, Option, None, Some, Ok, Err}
 use Rattle.pp_tree.specs.declared.expr.Expr.{Expr}
 use Rattle.pp_tree.specs.declared.param.Param.{Param}
 use Rattle.pp_tree.specs.declared.statement.Statement.{Statement}
@@ -21,17 +21,17 @@ use Rattle.world_laws.specs.Extends.{Extends}
 use Rattle.world_laws.specs.Growing.{Reaches, Grows, GrowsInner}
 use Rattle.world_laws.proofs.OfClasses.{typed_grows}
 use Rattle.world_laws.proofs.OfWorld.{assign_grows}
-use Rattle.world_laws.proofs.Steps.{and_then, pure_grows, answer_grows, fault_grows, told}
+use Rattle.world_laws.proofs.Steps.{and_then, pure_grows, answer_grows, fault_grows, told, not_less}
 use Rattle.world_laws.proofs.Worlds.{extends_on, owner_in_stays, scope_entered, left_again}
 
 -- ---- parameters, and what a function gives
 
 module _ (inner : Inner) (g : GrowsInner inner) where
-  bind_grows : (p : Param Expr) (d : Datum) (at : Place) (own : Here) → Grows (bind_rule inner p d at own)
+  pub bind_grows : (p : Param Expr) (d : Datum) (at : Place) (own : Here) → Grows (bind_rule inner p d at own)
   unfolding bind_rule
   bind_grows p d at own = and_then (typed_grows inner g p.kind d p.name at own) (λ u. assign_grows own p.name d p.at)
 
-  value_grows : (o : Option Expr) (own : Here) → Grows (default_value inner o own)
+  pub value_grows : (o : Option Expr) (own : Here) → Grows (default_value inner o own)
   value_grows None own = pure_grows
   value_grows (Some e) own = g.value e own
 
@@ -62,7 +62,7 @@ module _ (inner : Inner) (g : GrowsInner inner) where
 -- ---- the call
 
 -- where the body of a function is evaluated, and the world then
-abbrev own_in : List ℕ → World → Here
+abbrev pub own_in : List ℕ → World → Here
 own_in file w = record {
   scope = record { number = length w.scopes.scopes };
   owner = (owner_in file w.owners).0;
@@ -72,11 +72,11 @@ own_in file w = record {
 abbrev owned_in : List ℕ → World → World
 owned_in file w = record w { owners = (owner_in file w.owners).1 }
 
-abbrev entered_in : List ℕ → World → World
+abbrev pub entered_in : List ℕ → World → World
 entered_in file w =
     record w { scopes = scopes.entered kind.Lambda 0 w.scopes; owners = (owner_in file w.owners).1 }
 
-entered_extends : (file : List ℕ) (w : World) → Extends w (entered_in file w)
+pub entered_extends : (file : List ℕ) (w : World) → Extends w (entered_in file w)
 entered_extends file w = extends_on w (owned_in file w) (entered_in file w) (owner_in_stays w file)
     (scope_entered (owned_in file w) kind.Lambda 0)
 
@@ -92,9 +92,6 @@ given : (w v : World) (own : Here) (test : Datum → Step (Unit {0})) (o : Outco
 given w v own test (Ok p) tests f past r =
     tested w p.1 own p.0 (test p.0 p.1) (extends_on w v p.1 f r) past ((tests p.0).reaches p.1)
 given w v own test (Err e) tests f past r = tt
-
-not_less : (n : ℕ) → n ≤ n
-not_less n = omega arith
 
 module _ (inner : Inner) (g : GrowsInner inner) where
   body_ends : (w v : World) (own : Here) (test : Datum → Step (Unit {0})) (b : List Statement) (line : ℕ)

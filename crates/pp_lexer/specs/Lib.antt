@@ -1,6 +1,5 @@
--- What the clauses of `site_main` rest on, and a reader has to believe: Bytes, Digits, Escapes, Fronts, Marks, Modes,
--- Numbers, Seen, Texts, Tokens, Words
--- What functions promise one another, what types keep, and what proofs read: Marked
+-- What the clauses of `site_main` rest on, and a reader has to believe: Bytes, Digits, Escapes, Fronts, Marked,
+-- Marks, Modes, Numbers, Seen, Texts, Tokens, Words
 pub mod Bytes
 pub mod Digits
 pub mod Escapes

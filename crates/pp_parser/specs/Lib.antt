@@ -1,6 +1,6 @@
 -- What the clauses of `site_main` rest on, and a reader has to believe: Definitions, Expressions, FunctionBodies,
--- Inner, Input, Keys, Kinds, Levels, Manifest, Params, Statements
--- What functions promise one another, what types keep, and what proofs read: Nests, TemplateLines, Templates
+-- Inner, Input, Keys, Kinds, Levels, Manifest, Params, Statements, Templates
+-- What functions promise one another, what types keep, and what proofs read: Nests, TemplateLines
 pub mod Definitions
 pub mod Expressions
 pub mod FunctionBodies

@@ -5,4 +5,5 @@ mod Levels
 mod NodeLines
 mod Pairs
 mod Single
+mod TemplateExamples
 pub mod Runs

@@ -36,6 +36,8 @@ module _ (inner : Inner) (e : Expr) (here : Here) where
   unfolding chain_rule
   of_statement (Statement-F.Chain c) is = of_chain c.links c.first c.at is
   of_statement (Statement-F.Words x) is = absurd is
+  of_statement (Statement-F.Emit t) is = absurd is
+  of_statement (Statement-F.EmitValue x) is = absurd is
 
   whole : (b : List Statement) (w : World) → IsBlock e b → block_rule inner b here w ≡ inner.value e here w
   unfolding statements_from statement_rule

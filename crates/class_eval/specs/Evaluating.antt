@@ -13,6 +13,7 @@ use Rattle.pp_tree.specs.declared.file.File.{File}
 use Rattle.pp_tree.specs.declared.statement.Statement.{Statement}
 use Rattle.pp_tree.specs.declared.table.DefinitionName.{DefinitionName}
 use Rattle.pp_tree.specs.declared.table.DefinitionName.TheVariants as name
+use Rattle.pp_tree.specs.declared.template.Template.{Template}
 use Rattle.pp_values.specs.Datum as d
 use Rattle.pp_values.specs.Datum.{Datum}
 use Rattle.pp_values.specs.Settings.{Setting}
@@ -24,6 +25,7 @@ use Rattle.res_book.specs.Rows.{number_of}
 use Rattle.scope_core.specs.declared.scope_kind.ScopeKind.TheVariants as kind
 use Rattle.class_eval.specs.Meaning.{within}
 use Rattle.class_eval.specs.Statements.{statements_from}
+use Rattle.class_eval.specs.Templates.{rendered_rule}
 use Rattle.eval_classes.specs.Bodies.{run_rule}
 use Rattle.eval_classes.specs.Definitions.{class_found, class_name, param_names}
 use Rattle.eval_classes.specs.Entering.{enter_rule}
@@ -57,6 +59,7 @@ block_at b line here depth = (at_depth depth).block b line here
 abbrev pub is_node : Definition → Bool
 is_node (definition.Class c) = false
 is_node (definition.Define f) = false
+is_node (definition.Function f) = false
 is_node (definition.Node n) = true
 is_node (definition.SameNode first) = false
 
@@ -72,6 +75,7 @@ has_nodes (e ∷ es) = is_node e.1 || has_nodes es
 abbrev pub node_by : Definition → Option Node
 node_by (definition.Class c) = None
 node_by (definition.Define f) = None
+node_by (definition.Function f) = None
 node_by (definition.Node n) = Some n
 node_by (definition.SameNode first) = None
 
@@ -83,6 +87,7 @@ first_named es x = option_and_then node_by (lookup (same_name (name.Node x)) es)
 abbrev pub node_told : Entries → Definition → Option Node
 node_told es (definition.Class c) = None
 node_told es (definition.Define f) = None
+node_told es (definition.Function f) = None
 node_told es (definition.Node n) = Some n
 node_told es (definition.SameNode first) = first_named es first
 
@@ -164,3 +169,9 @@ class_at x given at here depth = class_within (at_depth depth) x given at here
 -- the instance of a declaration, which stands at this depth
 abbrev pub instance_at : ℕ → ℕ → Step (Unit {0})
 instance_at number depth = run_rule (at_depth depth) number
+
+-- ---- templates
+
+-- A template without what it is given. Its statements stand at this depth.
+abbrev pub render_at : Template → Here → ℕ → Step Datum
+render_at t here depth = rendered_rule (at_depth depth) t.block here

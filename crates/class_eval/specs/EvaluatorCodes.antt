@@ -17,11 +17,11 @@ use Rattle.class_eval.specs.Evaluators.{Evaluation}
 
 abbrev pub coded_world : Coded World
 coded_world =
-    code_by ((Environment × (Scopes × Owners)) × ((List Row × State) × (Related × List LogLine)))
+    code_by ((Environment × (Scopes × Owners)) × ((List Row × State) × (Related × (List LogLine × List ℕ))))
     (coded× (coded× coded_environment (coded× coded_scopes coded_owners))
     (coded× (coded× (coded_list row.the_row.coded) coded_state)
-    (coded× coded_related (coded_list log_line.the_row.coded))))
-    (λ w. ((w.environment, (w.scopes, w.owners)), ((w.book, w.overrides), (w.relations, w.log))))
+    (coded× coded_related (coded× (coded_list log_line.the_row.coded) coded_text))))
+    (λ w. ((w.environment, (w.scopes, w.owners)), ((w.book, w.overrides), (w.relations, (w.log, w.rendered)))))
     (λ p. record {
       heap = tt;
       environment = p.0.0;
@@ -30,7 +30,8 @@ coded_world =
       book = p.1.0.0;
       overrides = p.1.0.1;
       relations = p.1.1.0;
-      log = p.1.1.1;
+      log = p.1.1.1.0;
+      rendered = p.1.1.1.1;
     })
     (λ _. refl)
 

@@ -18,6 +18,8 @@ IsChain e (l ∷ ls) first = ⊥
 abbrev pub IsStatement : Expr → StatementLayer → Type 0
 IsStatement e (Statement-F.Chain c) = IsChain e c.links c.first
 IsStatement e (Statement-F.Words w) = ⊥
+IsStatement e (Statement-F.Emit t) = ⊥
+IsStatement e (Statement-F.EmitValue x) = ⊥
 
 abbrev pub IsBlock : Expr → List Statement → Type 0
 IsBlock e (s ∷ []) = IsStatement e (out-Statement s)

@@ -2,12 +2,14 @@
 use Rattle.std.specs.Prelude.{ℕ, List, [], ◌∷◌, Option, Some, None}
 use Rattle.pp_tree.specs.Layers.{OperandLayer, StatementLayer}
 use Rattle.pp_tree.specs.declared.collector.Test.TheOpen.{Operand-F, Statement-F}
+use Rattle.pp_tree.specs.declared.expr.Expr.{Expr}
 use Rattle.pp_tree.specs.declared.statement.Chain.{Chain}
 use Rattle.pp_tree.specs.declared.statement.Link.{Link}
 use Rattle.pp_tree.specs.declared.statement.Operand.{Operand, out-Operand}
 use Rattle.pp_tree.specs.declared.statement.Statement.{Statement, out-Statement}
 use Rattle.pp_values.specs.Datum as d
 use Rattle.pp_values.specs.Datum.{Datum}
+use Rattle.pp_values.specs.TextOf.{text_of}
 use Rattle.class_eval.specs.Chains.{links_rule}
 use Rattle.eval_collectors.specs.Collectors.{collector_rule}
 use Rattle.eval_overrides.specs.DefaultStatements.{defaults_rule}
@@ -15,6 +17,7 @@ use Rattle.eval_overrides.specs.OverrideStatements.{override_rule}
 use Rattle.eval_resources.specs.Resources.{resource_rule}
 use Rattle.eval_world.specs.Inner.{Inner}
 use Rattle.eval_world.specs.Outcomes.{Step, ◌>>=◌, ◌>>◌, pure}
+use Rattle.eval_world.specs.Worlds.{emit}
 use Rattle.eval_world.specs.declared.here.Here.{Here}
 
 -- a statement that gives a value
@@ -48,9 +51,18 @@ chained_by inner first (l ∷ ls) line here = unvalued (links_rule inner first (
 unfoldable pub chain_rule : Inner → Chain Operand → Here → Step (Option Datum)
 chain_rule inner c here = chained_by inner c.first c.links c.at here
 
+-- `<%= $a %>` in a template
+abbrev pub emitted_value : Inner → Expr → Here → Step (Unit {0})
+emitted_value inner e here = do
+  v ← inner.value e here
+  emit (text_of v)
+
+-- What a template emits gives no value.
 abbrev pub statement_by : Inner → StatementLayer → Here → Step (Option Datum)
 statement_by inner (Statement-F.Chain c) here = chain_rule inner c here
 statement_by inner (Statement-F.Words w) here = valued (inner.words w here)
+statement_by inner (Statement-F.Emit t) here = unvalued (emit t)
+statement_by inner (Statement-F.EmitValue e) here = unvalued (emitted_value inner e here)
 
 unfoldable pub statement_rule : Inner → Statement → Here → Step (Option Datum)
 statement_rule inner s here = statement_by inner (out-Statement s) here

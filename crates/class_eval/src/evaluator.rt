@@ -18,6 +18,7 @@ use crate::knot::{AllForms, evaluate};
 use crate::nodes::{has_nodes, node_of};
 use crate::running::run;
 use crate::starting::start_world;
+use crate::templates::rendered;
 use eval_classes::{BodyOwner, enter_body, run_instance};
 use eval_collecting::{import_match, imports, local_match, needed_tag, realized};
 use eval_world::{Environment, Evaluated, Forms, Goal, Here, World};
@@ -27,6 +28,7 @@ use pp_tree::expr::Expr;
 use pp_tree::file::File;
 use pp_tree::statement::Block;
 use pp_tree::table::Table;
+use pp_tree::template::Template;
 use pp_values::{Fault, MAIN_MANIFEST, Memory, Place, Reference, Stop, Text, Value, What};
 use res_book::{Book, Relations};
 use res_core::{Attributes, Exported, LogLines};
@@ -167,9 +169,25 @@ impl<'a> Evaluator<'a> {
         run_instance(&forms, &mut self.world, number)
     }
 
-    /// Has one collector take one local declaration, which is marked then, and to which the collector's block is
-    /// applied where it was not before: true exactly where the mark makes it live, or the block is applied now. It is
-    /// counted, whatever the answer. Both are given by their numbers.
+    /// The text of a template, in the scope in which what it is given has been set. The expressions in its tags stand at
+    /// this depth.
+    pub fn render(&mut self, template: &Template, here: Here, depth: u32) -> Result<Text, Stop>
+        ensures world { Gives (λ t. d.text t) (spec.render_at template.now here depth self.old.world) result
+            self.new.world }
+        ensures node { self.new.node ≡ self.old.node }
+        ensures looks { self.new.looks ≡ self.old.looks }
+    {
+        let forms: Forms<_, Whole> = Forms {
+            left: levels_left(depth),
+            inner: evaluate,
+            meaning: PhantomData,
+        };
+        rendered(&forms, &mut self.world, &template.block, here)
+    }
+
+    /// Has one collector take one local declaration, which is marked then, and to which the collector's block is applied
+    /// where it was not before: true exactly where the mark makes it live, or the block is applied now. It is counted,
+    /// whatever the answer. Both are given by their numbers.
     pub fn local_match(&mut self, collector: u32, number: u32) -> Result<bool, Stop>
         ensures world { Gives same (matching.local_match collector number self.old.world) result self.new.world }
         ensures node { self.new.node ≡ self.old.node }

@@ -11,6 +11,7 @@ mod postfixes;
 mod running;
 mod starting;
 mod statements;
+mod templates;
 mod top_names;
 mod type_names;
 

@@ -77,7 +77,7 @@ fn node_told<'a>(
     match definition {
         Definition::Node(node) => Ok(Some(node)),
         Definition::SameNode(first) => first_named(alloc, definitions, first),
-        Definition::Class(_) | Definition::Define(_) => Ok(None),
+        Definition::Class(_) | Definition::Define(_) | Definition::Function(_) => Ok(None),
     }
 }
 

@@ -3,7 +3,7 @@ ghost use Rattle.std.specs.Prelude.{◌≡◌, IfSome};
 ghost use Rattle.class_eval.specs.Single.{IsBlock, IsChain, IsOperand, IsStatement};
 ghost use Rattle.class_eval.specs.Statements as spec;
 ghost use Rattle.eval_world.specs.Nests.{Nests};
-ghost use Rattle.eval_world.specs.Outcomes.{Gives, same};
+ghost use Rattle.eval_world.specs.Outcomes.{Gives, nothing, same};
 ghost use Rattle.pp_tree.specs.declared.statement.Operand.{out-Operand};
 ghost use Rattle.pp_tree.specs.declared.statement.Statement.{out-Statement};
 
@@ -58,6 +58,8 @@ pub fn stated(statement: &Statement) -> Option<&Expr>
     match statement {
         Statement::Chain(chain) => only_operand(chain),
         Statement::Words(_) => None,
+        Statement::Emit(_) => None,
+        Statement::EmitValue(_) => None,
     }
 }
 
@@ -101,7 +103,29 @@ pub fn statement<F: Fn(&mut World<'_>, Goal<'_>, Here, u32) -> Result<Evaluated,
     match statement {
         Statement::Chain(chain) => chained(forms, world, chain, here),
         Statement::Words(words) => Ok(Some(forms.words(world, words.get(), here)?)),
+        Statement::Emit(text) => {
+            world.emit(text.as_str())?;
+            Ok(None)
+        }
+        Statement::EmitValue(expr) => {
+            emit_value(forms, world, expr, here)?;
+            Ok(None)
+        }
     }
+}
+
+/// In a template: the text of a value.
+fn emit_value<F: Fn(&mut World<'_>, Goal<'_>, Here, u32) -> Result<Evaluated, Stop>, M: Meaning>(
+    forms: &Forms<F, M>,
+    world: &mut World<'_>,
+    expr: &Expr,
+    here: Here,
+) -> Result<(), Stop>
+    requires { Nests (M.within forms.now.left) forms.now.left (F.pre forms.now.inner) (F.post forms.now.inner) }
+    ensures { Gives nothing (spec.emitted_value (M.within forms.now.left) expr.now here world.old) result world.new }
+{
+    let value = forms.value(world, expr, here)?;
+    world.emit_value(value.as_value())
 }
 
 /// Operands with arrows between them, or one alone.

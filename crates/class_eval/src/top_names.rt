@@ -72,7 +72,7 @@ fn put_new(
 }
 
 #[tactic(auto, using(crate::proofs::Pairs::pairs_back))]
-fn pairs_within(facts: &Value) -> &[(Value, Value)]
+pub fn pairs_within(facts: &Value) -> &[(Value, Value)]
     ensures { pair_views result.now ≡ spec.pairs_within (view facts.now) }
 {
     match facts {
@@ -116,7 +116,7 @@ fn put_fact(
 }
 
 /// Whether a name is that of a variable of one segment.
-fn is_variable(name: &[u8]) -> bool
+pub fn is_variable(name: &[u8]) -> bool
     ensures { result ≡ spec.is_variable name.now }
 {
     match name {

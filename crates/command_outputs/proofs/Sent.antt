@@ -35,6 +35,7 @@ use Rattle.pp_tree.proofs.statement.Words.TheSendSync as words_laws
 use Rattle.pp_tree.proofs.table.DefinitionName.TheSendSync as definition_name_laws
 use Rattle.pp_tree.specs.contracts.definition.Class as class
 use Rattle.pp_tree.specs.contracts.definition.Define as define
+use Rattle.pp_tree.specs.contracts.definition.Function as function
 use Rattle.pp_tree.specs.contracts.definition.Node as node
 use Rattle.pp_tree.specs.contracts.table.Table as table
 use Rattle.pp_tree.specs.contracts.file.File as file
@@ -209,6 +210,39 @@ define_fields_sync =
       ),
     )
 
+-- its name, parameters, type, block and line
+pub function_fields_send : IsSend (declared.field function.the_type).row
+function_fields_send =
+    struct_send (declared.shape function.the_type) (
+      name_laws.the_field_send,
+      (
+        search sends depth 40 fits 40000,
+        (
+          search sends depth 40 fits 40000,
+          (
+            search sends depth 40 fits 40000,
+            (search sendable depth 20, tt),
+          ),
+        ),
+      ),
+    )
+
+pub function_fields_sync : IsSync (declared.field function.the_type).row
+function_fields_sync =
+    struct_sync (declared.shape function.the_type) (
+      name_laws.the_field_sync,
+      (
+        search syncs depth 40 fits 40000,
+        (
+          search syncs depth 40 fits 40000,
+          (
+            search syncs depth 40 fits 40000,
+            (search sendable depth 20, tt),
+          ),
+        ),
+      ),
+    )
+
 pub class_fields_send : IsSend (declared.field class.the_type).row
 class_fields_send =
     struct_send (declared.shape class.the_type) (
@@ -253,6 +287,7 @@ table_send =
       text.the_send,
       class_fields_send,
       define_fields_send,
+      function_fields_send,
       node_fields_send,
     )
     depth 40 fits 40000
@@ -269,6 +304,7 @@ table_sync =
       text.the_sync,
       class_fields_sync,
       define_fields_sync,
+      function_fields_sync,
       node_fields_sync,
     )
     depth 40 fits 40000

@@ -4,11 +4,13 @@ use Rattle.std.proofs.Common.{Result, Ok, Err, refl, codes}
 use Rattle.std.specs.Fmt.{digits}
 use Rattle.pp_funcs.specs.Names.{function_of, needs_evaluator}
 use Rattle.pp_tree.specs.Building as tree
+use Rattle.pp_tree.specs.Names.{without_front_colons}
 use Rattle.pp_tree.specs.declared.expr.Form.{out-Form}
 use Rattle.pp_values.specs.Datum as d
 use Rattle.pp_values.specs.Datum.{Datum}
 use Rattle.pp_values.specs.declared.fault.Fault.{Fault}
 use Rattle.pp_values.specs.declared.fault.What.TheVariants as what
+use Rattle.res_core.specs.TagNames.{segments}
 use Rattle.scope_core.specs.Names.{last_cut}
 use Rattle.scope_core.specs.Scopes as scopes
 use Rattle.expr_eval.specs.Names.{lambda_function}
@@ -18,15 +20,17 @@ use Rattle.eval_world.specs.Owners.{owner_at}
 use Rattle.eval_world.specs.Worlds.{empty, read, assign, enter_lambda, write_log}
 use Rattle.eval_world.specs.Environment.{Environment}
 use Rattle.eval_calls.specs.Calls.{invoked, invoked_on, words_rule}
-use Rattle.eval_calls.specs.Calls.{plain_rule, evaluated_rule, site_rule, log_rule, with_lambda_rule}
-use Rattle.eval_calls.specs.Calls.{data_rule, stray_lambda_rule}
+use Rattle.eval_calls.specs.Calls.{plain_rule, other_rule, evaluated_rule, site_rule, log_rule, with_lambda_rule}
+use Rattle.eval_calls.specs.Calls.{data_rule, stray_lambda_rule, template_or_data}
+use Rattle.eval_classes.specs.Functions.{function_named}
 use Rattle.eval_classes.specs.Included.{included, names_from}
+use Rattle.eval_calls.specs.Functions.{defined_rule, lambda_refused}
 use Rattle.eval_calls.specs.Iterating.{turns_from, over_rule, iterate_rule}
 use Rattle.eval_calls.specs.Iterating.{lambda_function_rule}
 use Rattle.eval_calls.specs.Lambdas.{bind_rule, bind_from, lambda_rule}
 use Rattle.eval_calls.specs.LookUps.{lookup_rule}
 use Rattle.eval_calls.specs.Realizing.{arguments_from, references_from, realized}
-use Rattle.eval_calls.proofs.Samples.{text, list, one, top, refuses, inner, notice_x, fails, run, written, given, refused, spliced, takes_x, calls}
+use Rattle.eval_calls.proofs.Samples.{text, list, nothing_defined, one, top, refuses, inner, notice_x, fails, run, written, given, refused, spliced, takes_x, calls}
 
 -- ---- arguments
 
@@ -45,12 +49,11 @@ unfolding invoked values_from argument_rule plain_rule evaluated_rule log_rule w
     denote.Hole.Carrier.out digits
 spliced_arguments m = refl
 
-unknown : (m : Environment)
-    → run (calls d.undef fails (codes "nope") (given ∷ []) None) m
+unknown : run (calls d.undef fails (codes "nope") (given ∷ []) None) nothing_defined
     ≡ refuses 3 (what.UnknownFunction (codes "nope"))
-unfolding invoked values_from argument_rule plain_rule needs_evaluator function_of out-Form denote.Hole.Carrier.out
-    owner_at
-unknown m = refl
+unfolding invoked values_from argument_rule plain_rule other_rule defined_rule function_named without_front_colons
+    segments needs_evaluator function_of out-Form denote.Hole.Carrier.out owner_at
+unknown = refl
 
 arguments_before_unknown : (m : Environment)
     → run (calls d.undef fails (codes "nope") (given ∷ refused ∷ []) None) m
@@ -58,11 +61,11 @@ arguments_before_unknown : (m : Environment)
 unfolding invoked values_from argument_rule out-Form denote.Hole.Carrier.out owner_at
 arguments_before_unknown m = refl
 
-unknown_as_written : (m : Environment)
-    → run (calls d.undef fails (codes "::Notice") [] None) m
+unknown_as_written : run (calls d.undef fails (codes "::Notice") [] None) nothing_defined
     ≡ refuses 3 (what.UnknownFunction (codes "::Notice"))
-unfolding invoked values_from plain_rule needs_evaluator function_of owner_at
-unknown_as_written m = refl
+unfolding invoked values_from plain_rule other_rule defined_rule function_named without_front_colons segments
+    needs_evaluator function_of owner_at
+unknown_as_written = refl
 
 receiver_first : (m : Environment)
     → run (invoked_on (inner d.undef fails) one (codes "notice") (written (codes "a") ∷ []) None 3 top) m
@@ -89,7 +92,7 @@ without_parentheses m = refl
 fault_of_words : (m : Environment)
     → run (words_rule (inner d.undef fails) (tree.words (codes "fail") (written (codes "a") ∷ []) 4) top) m
     ≡ refuses 4 (what.Failed (codes "a"))
-unfolding words_rule invoked values_from argument_rule plain_rule write_log needs_evaluator function_of out-Form
+unfolding words_rule invoked values_from argument_rule plain_rule other_rule write_log needs_evaluator function_of out-Form
     denote.Hole.Carrier.out owner_at
 fault_of_words m = refl
 
@@ -115,23 +118,23 @@ all_levels m = refl
 
 failure : (m : Environment)
     → run (plainly (codes "fail") (text (codes "a") ∷ one ∷ [])) m ≡ refuses 3 (what.Failed (codes "a 1"))
-unfolding plain_rule needs_evaluator function_of owner_at digits
+unfolding plain_rule other_rule needs_evaluator function_of owner_at digits
 failure m = refl
 
 pure_value : (m : Environment)
     → run (plainly (codes "length") (list (one ∷ one ∷ one ∷ []) ∷ [])) m ≡ Ok (d.int (pos 3), [])
-unfolding plain_rule needs_evaluator function_of
+unfolding plain_rule other_rule needs_evaluator function_of
 pure_value m = refl
 
 pure_wrong : (m : Environment)
     → run (plainly (codes "length") (one ∷ [])) m ≡ refuses 3 (what.WrongArguments (codes "length"))
-unfolding plain_rule needs_evaluator function_of owner_at
+unfolding plain_rule other_rule needs_evaluator function_of owner_at
 pure_wrong m = refl
 
 pure_range : (m : Environment)
     → run (plainly (codes "abs") (d.int (negsuc 9223372036854775807) ∷ [])) m ≡ refuses 3
     (what.NumberRange (codes "abs"))
-unfolding plain_rule needs_evaluator function_of owner_at
+unfolding plain_rule other_rule needs_evaluator function_of owner_at
 pure_range m = refl
 
 -- a function that takes a lambda, without one
@@ -183,12 +186,12 @@ requires_no_class m = refl
 
 -- resources are brought to life: `proofs/RealizeExamples.antt`
 no_reference : (m : Environment) → run (plainly (codes "realize") (one ∷ [])) m ≡ refuses 3 (what.WrongArguments (codes "realize"))
-unfolding plain_rule evaluated_rule site_rule data_rule realized arguments_from references_from needs_evaluator lambda_function owner_at
+unfolding plain_rule evaluated_rule site_rule template_or_data data_rule realized arguments_from references_from needs_evaluator lambda_function owner_at
 no_reference m = refl
 
 -- data are looked up: `proofs/LookUpExamples.antt`
 no_key : (m : Environment) → run (plainly (codes "lookup") (one ∷ [])) m ≡ refuses 3 (what.WrongArguments (codes "lookup"))
-unfolding plain_rule evaluated_rule site_rule data_rule lookup_rule needs_evaluator lambda_function owner_at
+unfolding plain_rule evaluated_rule site_rule template_or_data data_rule lookup_rule needs_evaluator lambda_function owner_at
 no_key m = refl
 
 arguments_before_classes : (m : Environment)
@@ -224,12 +227,11 @@ lookup_takes_none : takes_none (codes "lookup")
 unfolding with_lambda_rule lambda_function stray_lambda_rule needs_evaluator function_of owner_at
 lookup_takes_none m = refl
 
-unknown_with_lambda : (m : Environment)
-    → run (calls d.undef fails (codes "nope") (given ∷ []) (Some takes_x)) m
+unknown_with_lambda : run (calls d.undef fails (codes "nope") (given ∷ []) (Some takes_x)) nothing_defined
     ≡ refuses 3 (what.UnknownFunction (codes "nope"))
-unfolding invoked values_from argument_rule with_lambda_rule lambda_function stray_lambda_rule needs_evaluator
-    function_of out-Form denote.Hole.Carrier.out owner_at
-unknown_with_lambda m = refl
+unfolding invoked values_from argument_rule with_lambda_rule lambda_function stray_lambda_rule lambda_refused
+    function_named without_front_colons segments needs_evaluator function_of out-Form denote.Hole.Carrier.out owner_at
+unknown_with_lambda = refl
 
 arguments_before_lambda : (m : Environment)
     → run (calls d.undef fails (codes "length") (refused ∷ []) (Some takes_x)) m

@@ -1,9 +1,11 @@
 mod Binding
 mod Examples
+mod FunctionExamples
 mod LambdaExamples
 mod LookUpExamples
 mod Members
 mod OneVariable
 mod RealizeExamples
 mod Samples
+mod TemplateExamples
 mod Turned

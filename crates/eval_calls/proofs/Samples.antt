@@ -72,6 +72,7 @@ inner given block = record {
   target = λ r here. pure d.undef;
   class = λ n line here. pure d.undef;
   instance = λ n line here. pure d.undef;
+  template = λ r here. pure d.undef;
 }
 
 -- blocks: `notice $x` with the value of `$x`, `$y` alone, and one that fails
@@ -94,6 +95,10 @@ fails line here = fault here line (what.Failed (codes "block"))
 abbrev pub shown : Outcome Datum → Result (Datum × List (List ℕ)) Fault
 shown (Ok p) = Ok (p.0, map (λ l. l.text) p.1.log)
 shown (Err f) = Err f
+
+-- a site without definitions, files and data
+abbrev pub nothing_defined : Environment
+nothing_defined = record { main = record { statements = []; definitions = [] }; files = []; site_data = [] }
 
 abbrev pub run : Step Datum → Environment → Result (Datum × List (List ℕ)) Fault
 run p m = shown (p (empty m))

@@ -7,7 +7,6 @@ use Rattle.pp_tree.specs.declared.expr.Call.{Call, out-Call}
 use Rattle.pp_tree.specs.declared.expr.Expr.{Expr}
 use Rattle.pp_tree.specs.declared.statement.Words.{Words}
 use Rattle.pp_values.specs.Datum.{Datum, undef}
-use Rattle.pp_values.specs.declared.fault.What.TheVariants as what
 use Rattle.expr_eval.specs.Names.{lambda_function}
 use Rattle.pp_funcs.specs.Texts.{joined}
 use Rattle.expr_eval.specs.declared.functions.LambdaFunction.{LambdaFunction}
@@ -16,13 +15,15 @@ use Rattle.eval_classes.specs.declared.including.Including.{Including}
 use Rattle.eval_world.specs.Arguments.{values_from}
 use Rattle.eval_world.specs.Inner.{Inner}
 use Rattle.eval_world.specs.Outcomes.{Step, ◌>>=◌, ◌>>◌, pure}
-use Rattle.eval_world.specs.Worlds.{answered_at, fault, write_log, wrong}
+use Rattle.eval_world.specs.Worlds.{answered_at, write_log, wrong}
 use Rattle.eval_world.specs.declared.here.Here.{Here}
+use Rattle.eval_calls.specs.Functions.{defined_rule, lambda_refused}
 use Rattle.eval_calls.specs.Iterating.{lambda_function_rule}
 use Rattle.eval_calls.specs.Lambdas.{Opened, opened}
 use Rattle.eval_calls.specs.LookUps.{lookup_rule}
-use Rattle.eval_calls.specs.Names.{is_function, is_log}
+use Rattle.eval_calls.specs.Names.{is_computed, is_function, is_log}
 use Rattle.eval_calls.specs.Realizing.{realized}
+use Rattle.eval_calls.specs.Templating.{epp_rule, inline_rule}
 
 -- ---- without a lambda, once the arguments have their values
 
@@ -37,10 +38,17 @@ unfoldable pub data_rule : List ℕ → List Datum → ℕ → Here → Step Dat
 data_rule f arguments line here =
     if bytes_eq f (codes "lookup") then lookup_rule f arguments line here else realized f arguments line here
 
--- classes are declared, data are looked up, or collectors are registered
+-- templates are rendered, or what stands behind them
+unfoldable pub template_or_data : Inner → List ℕ → List Datum → ℕ → Here → Step Datum
+template_or_data inner f arguments line here =
+    if bytes_eq f (codes "epp") then epp_rule inner f arguments line here
+    else (if bytes_eq f (codes "inline_epp") then inline_rule inner f arguments line here
+    else data_rule f arguments line here)
+
+-- classes are declared, templates rendered, data looked up, or collectors registered
 abbrev pub site_by : Inner → Option Including → List ℕ → List Datum → ℕ → Here → Step Datum
 site_by inner (Some i) f arguments line here = included inner i f arguments line here
-site_by inner None f arguments line here = data_rule f arguments line here
+site_by inner None f arguments line here = template_or_data inner f arguments line here
 
 -- a function that needs the site
 unfoldable pub site_rule : Inner → List ℕ → List Datum → ℕ → Here → Step Datum
@@ -51,24 +59,29 @@ abbrev pub without_lambda_by : Inner → Option LambdaFunction → List ℕ → 
 without_lambda_by inner (Some g) f arguments line here = wrong f line here
 without_lambda_by inner None f arguments line here = site_rule inner f arguments line here
 
--- a function that needs the log, a lambda or the site
+-- a function that needs the log, a lambda, a template or the site
 unfoldable pub evaluated_rule : Inner → List ℕ → List Datum → ℕ → Here → Step Datum
 evaluated_rule inner f arguments line here =
     if is_log f then log_rule f arguments
     else without_lambda_by inner (lambda_function f) f arguments line here
 
--- any other function is one of its arguments alone, or there is none of that name
+-- a function of its arguments alone, or else one that the site defines
+unfoldable pub other_rule : Inner → List ℕ → List Datum → ℕ → Here → Step Datum
+other_rule inner f arguments line here =
+    if is_computed f then answered_at (applied f arguments) line here
+    else defined_rule inner f arguments line here
+
+-- A name that is listed is that function, whatever the site defines.
 unfoldable pub plain_rule : Inner → List ℕ → List Datum → ℕ → Here → Step Datum
 plain_rule inner f arguments line here =
     if needs_evaluator f then evaluated_rule inner f arguments line here
-    else answered_at (applied f arguments) line here
+    else other_rule inner f arguments line here
 
 -- ---- with a lambda
 
 -- a function that takes none, or no function at all
 unfoldable pub stray_lambda_rule : List ℕ → ℕ → Here → Step Datum
-stray_lambda_rule f line here =
-    if is_function f then wrong f line here else fault here line (what.UnknownFunction f)
+stray_lambda_rule f line here = if is_function f then wrong f line here else lambda_refused f line here
 
 abbrev pub with_lambda_by : Inner → Option LambdaFunction → List ℕ → Opened → List Datum → ℕ → Here → Step Datum
 with_lambda_by inner (Some g) f l arguments line here = lambda_function_rule inner g l arguments line here

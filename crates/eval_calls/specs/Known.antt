@@ -7,11 +7,12 @@ use Rattle.scope_core.specs.Scopes.{Scopes}
 use Rattle.eval_world.specs.Leaves.{known_in}
 use Rattle.eval_world.specs.Shapes.{is_splat, only}
 use Rattle.eval_world.specs.declared.here.Here.{Here}
+use Rattle.eval_calls.specs.Names.{is_computed}
 
 abbrev pub is_of_known_by : ℕ → List ℕ → Option Expr → Here → Scopes → Bool
 is_of_known_by left f None here s = false
 is_of_known_by left f (Some e) here s =
-    not (is_splat e) && (is_some (known_in left e here s) && not (needs_evaluator f))
+    not (is_splat e) && (is_some (known_in left e here s) && (not (needs_evaluator f) && is_computed f))
 
 -- the function is one of its arguments alone, and the one argument a variable that has a value
 abbrev pub is_of_known : ℕ → List ℕ → List Expr → Here → Scopes → Bool

@@ -83,7 +83,7 @@ pub fn words<F: Fn(&mut World<'_>, Goal<'_>, Here, u32) -> Result<Evaluated, Sto
     ensures { Gives same (spec.words_rule (M.within forms.now.left) words.now here world.old) result world.new }
 {
     let arguments = forms.values(world, &words.args, here)?;
-    call_plain(forms, world, &words.function, &arguments, words.at, here)
+    call_plain(forms, world, &words.function, arguments, words.at, here)
 }
 
 /// The values with the receiver before them.
@@ -110,7 +110,7 @@ fn called<F: Fn(&mut World<'_>, Goal<'_>, Here, u32) -> Result<Evaluated, Stop>,
         world.new }
 {
     match &call.lambda {
-        None => call_plain(forms, world, &call.function, &arguments, line, here),
+        None => call_plain(forms, world, &call.function, arguments, line, here),
         Some(lambda) => {
             with_lambda(
                 forms,

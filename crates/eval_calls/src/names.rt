@@ -20,11 +20,18 @@ pub fn is_log(function: &Text) -> bool
         || function.is("err")
 }
 
-/// Whether there is a function of this name.
+/// Whether the function is one of its arguments alone.
+pub fn is_computed(function: &Text) -> bool
+    ensures { result ≡ spec.is_computed function.now }
+{
+    Function::from_name(function).is_some()
+}
+
+/// Whether each site has a function of this name.
 pub fn is_function(function: &Text) -> bool
     ensures { result ≡ spec.is_function function.now }
 {
-    needs_evaluator(function) || Function::from_name(function).is_some()
+    needs_evaluator(function) || is_computed(function)
 }
 
 /// The fault that a function does not take what it is given.

@@ -9,9 +9,11 @@ ghost use Rattle.pp_funcs.specs.Functions.{applied};
 ghost use Rattle.pp_funcs.specs.Names.{needs_evaluator};
 ghost use Rattle.pp_values.specs.Views.{views};
 
+use crate::functions::{call_defined, refuse_defined};
 use crate::looking_up::look_up;
-use crate::names::{is_function, is_log, unknown, wrong};
+use crate::names::{is_computed, is_function, is_log, wrong};
 use crate::realizing::realize;
+use crate::templating::{epp, inline_epp};
 use eval_classes::{Including, include};
 use eval_world::{Evaluated, Forms, Goal, Here, Meaning, World, is_splat, only};
 use expr_eval::{LambdaFunction, joined};
@@ -29,18 +31,40 @@ pub fn call_plain<
     forms: &Forms<F, M>,
     world: &mut World<'_>,
     function: &Text,
-    arguments: &Values,
+    arguments: Values,
     line: u32,
     here: Here,
 ) -> Result<Evaluated, Stop>
     requires { Nests (M.within forms.now.left) forms.now.left (F.pre forms.now.inner) (F.post forms.now.inner) }
-    ensures { Gives same (spec.plain_rule (M.within forms.now.left) function.now arguments.now line here world.old)
+    ensures { Gives same (spec.plain_rule (M.within forms.now.left) function.now arguments line here world.old)
         result world.new }
 {
     if needs_evaluator(function) {
-        call_evaluated(forms, world, function, arguments, line, here)
+        call_evaluated(forms, world, function, &arguments, line, here)
     } else {
+        call_other(forms, world, function, arguments, line, here)
+    }
+}
+
+/// A function of its arguments alone, or else one that the site defines.
+#[tactic(auto, unfolding(crate::specs::Calls::other_rule))]
+fn call_other<F: Fn(&mut World<'_>, Goal<'_>, Here, u32) -> Result<Evaluated, Stop>, M: Meaning>(
+    forms: &Forms<F, M>,
+    world: &mut World<'_>,
+    function: &Text,
+    arguments: Values,
+    line: u32,
+    here: Here,
+) -> Result<Evaluated, Stop>
+    requires nests { Nests (M.within forms.now.left) forms.now.left (F.pre forms.now.inner) (F.post forms.now.inner) }
+    requires plain { needs_evaluator function.now ≡ false }
+    ensures { Gives same (spec.other_rule (M.within forms.now.left) function.now arguments line here world.old)
+        result world.new }
+{
+    if is_computed(function) {
         compute(world, function, arguments.as_slice(), line, here)
+    } else {
+        call_defined(forms, world, function, arguments, line, here)
     }
 }
 
@@ -70,10 +94,13 @@ pub fn call_known<
     if needs_evaluator(function) {
         return None;
     }
+    if !is_computed(function) {
+        return None;
+    }
     Some(compute(world, function, slice::from_ref(value), line, here))
 }
 
-/// A function of its arguments alone, or none that there is.
+/// A function of its arguments alone.
 fn compute(
     world: &World<'_>,
     function: &Text,
@@ -88,7 +115,7 @@ fn compute(
     Ok(Evaluated::new(call_pure_of(world.heap.alloc(), function, arguments, &at)?))
 }
 
-/// A function that needs the log, a lambda or the site.
+/// A function that needs the log, a lambda, a template or the site.
 #[tactic(auto, unfolding(crate::specs::Calls::evaluated_rule))]
 fn call_evaluated<
     F: Fn(&mut World<'_>, Goal<'_>, Here, u32) -> Result<Evaluated, Stop>,
@@ -130,7 +157,30 @@ fn call_site<F: Fn(&mut World<'_>, Goal<'_>, Here, u32) -> Result<Evaluated, Sto
 {
     match Including::from_name(function) {
         Some(including) => include(forms, world, including, function, arguments, line, here),
-        None => call_data(world, function, arguments, line, here),
+        None => call_template(forms, world, function, arguments, line, here),
+    }
+}
+
+/// `epp`, `inline_epp`, or what stands behind them.
+#[tactic(auto, unfolding(crate::specs::Calls::template_or_data))]
+fn call_template<F: Fn(&mut World<'_>, Goal<'_>, Here, u32) -> Result<Evaluated, Stop>, M: Meaning>(
+    forms: &Forms<F, M>,
+    world: &mut World<'_>,
+    function: &Text,
+    arguments: &Values,
+    line: u32,
+    here: Here,
+) -> Result<Evaluated, Stop>
+    requires { Nests (M.within forms.now.left) forms.now.left (F.pre forms.now.inner) (F.post forms.now.inner) }
+    ensures { Gives same (spec.template_or_data (M.within forms.now.left) function.now arguments.now line here world.old)
+        result world.new }
+{
+    if function.is("epp") {
+        epp(forms, world, function, arguments, line, here)
+    } else if function.is("inline_epp") {
+        inline_epp(forms, world, function, arguments, line, here)
+    } else {
+        call_data(world, function, arguments, line, here)
     }
 }
 
@@ -176,5 +226,5 @@ pub fn refuse_lambda(
     if is_function(function) {
         return Err(Stop::Fault(wrong(world, function, line, here)?));
     }
-    Err(Stop::Fault(unknown(world, function, line, here)?))
+    refuse_defined(world, function, line, here)
 }

@@ -11,5 +11,6 @@ pub mod Ways
 mod AboveExamples
 mod DataExamples
 mod Examples
+mod FunctionExamples
 mod Samples
 mod TypeExamples

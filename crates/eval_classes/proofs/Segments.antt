@@ -1,11 +1,12 @@
--- The segments of a name, and the path that they give.
-use Rattle.std.proofs.Common.{◌≡◌, ℕ, Bool, true, false, ◌&&◌, ◌==◌, if◌then◌else◌, List, [], ◌∷◌, ◌++◌, length, ◌≤◌, refl, ap, sym, ◌∙◌, codes}
+-- The segments of a name, and the paths that they give.
+use Rattle.std.proofs.Common.{◌≡◌, ℕ, Bool, true, false, ◌&&◌, ◌==◌, if◌then◌else◌, List, [], ◌∷◌, ◌++◌, length, ◌≤◌, None, refl, ap, sym, ◌∙◌, codes}
 use Rattle.std.proofs.lemmas.List.{append_assoc, append-nil}
 use Rattle.std.specs.List.{onto_first}
 use Rattle.std.specs.Str.Pattern.{LacksTextAt, FindsText, SplitsAroundMatch}
 use Rattle.res_core.specs.TagNames.{segments}
 use Rattle.res_core.proofs.SegmentLemmas.{segments_whole, segments_split}
 use Rattle.eval_classes.specs.Definitions.{below, step_to, within_modules, further_of, first_segment}
+use Rattle.eval_classes.specs.Functions.{path_by}
 
 abbrev is_cons : List (List ℕ) → Bool
 is_cons [] = false
@@ -54,3 +55,14 @@ pub below_whole : (s : List ℕ) → ((i : ℕ) → i ≤ length s → LacksText
     below (segments s) ≡ step_to s
 unfolding below
 below_whole s lacks = ap below (segments_whole s lacks) ∙ append-nil (step_to s)
+
+-- three segments or more are no path of a function
+none_beyond : (m s : List ℕ) (ss : List (List ℕ)) → is_cons ss ≡ true → path_by (m ∷ s ∷ ss) ≡ None
+none_beyond m s [] h = absurd cc
+none_beyond m s (t ∷ ts) h = refl
+
+pub no_path : (m s cut rest : List ℕ) → SplitsAroundMatch (FindsText (codes "::")) s cut rest →
+    path_by (m ∷ segments s) ≡ None
+no_path m s cut rest is =
+    ap (λ ss. path_by (m ∷ ss)) (segments_split s cut rest is)
+    ∙ none_beyond m cut (segments rest) (segments_cons rest)

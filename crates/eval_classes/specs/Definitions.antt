@@ -112,6 +112,7 @@ module_of m name = if in_main m name then [] else first_segment (segments name)
 abbrev pub class_by : Definition → Option Class
 class_by (d.Class c) = Some c
 class_by (d.Define f) = None
+class_by (d.Function f) = None
 class_by (d.Node n) = None
 class_by (d.SameNode first) = None
 
@@ -173,6 +174,7 @@ parent_of m c = if inherits_itself m c then None else written_parent c
 abbrev pub define_by : Definition → Option Define
 define_by (d.Class c) = None
 define_by (d.Define f) = Some f
+define_by (d.Function f) = None
 define_by (d.Node n) = None
 define_by (d.SameNode first) = None
 

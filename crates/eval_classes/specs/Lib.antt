@@ -1,5 +1,5 @@
 -- What the clauses of `site_main` rest on, and a reader has to believe: Above, Attributes, Bodies, Definitions,
--- Entering, Included, Listing, OwnNames, ParameterTypes, Parameters, Stacks
+-- Entering, Functions, Included, Listing, OwnNames, ParameterTypes, Parameters, Stacks
 -- What functions promise one another, what types keep, and what proofs read: Answers, AttributeSets
 pub mod Above
 pub mod Answers
@@ -8,6 +8,7 @@ pub mod Attributes
 pub mod Bodies
 pub mod Definitions
 pub mod Entering
+pub mod Functions
 pub mod Included
 pub mod Listing
 pub mod OwnNames

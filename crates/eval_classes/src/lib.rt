@@ -1,4 +1,5 @@
-//! Classes and defines: where their definitions are found, how a class is declared, and what their bodies mean.
+//! Classes, defines and functions: where their definitions are found, how a class is declared, and what the bodies of
+//! classes and defines mean.
 #![tactic(auto)]
 
 mod above;
@@ -16,6 +17,7 @@ mod entered;
 mod entering;
 mod flattening;
 mod found;
+mod functions;
 mod homes;
 mod included;
 mod including;
@@ -28,6 +30,7 @@ mod parameter_types;
 mod parameters;
 mod parents;
 mod paths;
+mod site_function;
 mod tagging;
 
 pub use above::{right_of, sources_above};
@@ -38,9 +41,11 @@ pub use body_owner::BodyOwner;
 pub use definitions::{class_found, define_found, unknown_type};
 pub use entering::enter_body;
 pub use flattening::{flat, flattened};
+pub use functions::{function_found, function_path};
 pub use included::{declare_class, declare_once, include};
 pub use including::Including;
 pub use instances::run_instance;
 pub use names::{class_reference, normal_name, param_names};
 pub use parameter_types::{accepted, has_type};
+pub use site_function::SiteFunction;
 pub use tagging::{given_tags, tags_within};

@@ -36,7 +36,7 @@ fn made_normal(alloc: Global, written: &Text) -> Result<Text, Memory>
 {
     match DefinitionName::code(alloc, written)? {
         DefinitionName::Code(name) => Ok(name),
-        DefinitionName::Node(_) => written.copy(alloc),
+        DefinitionName::Function(_) | DefinitionName::Node(_) => written.copy(alloc),
     }
 }
 

@@ -93,7 +93,7 @@ fn normal_kind(alloc: Global, written: &Text) -> Result<Option<Kind>, Memory>
 {
     match DefinitionName::code(alloc, written)? {
         DefinitionName::Code(name) => Ok(Kind::from_text(name)),
-        DefinitionName::Node(_) => Ok(None),
+        DefinitionName::Function(_) | DefinitionName::Node(_) => Ok(None),
     }
 }
 

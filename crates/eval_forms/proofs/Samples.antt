@@ -132,6 +132,7 @@ sample = record {
   target = λ r here. pure d.undef;
   class = λ n line here. pure d.undef;
   instance = λ n line here. pure d.undef;
+  template = λ r here. pure d.undef;
 }
 
 -- ---- what the examples say of a form; each is evaluated at line 7

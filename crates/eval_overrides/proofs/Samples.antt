@@ -97,6 +97,8 @@ world rows = record (empty site) {
   owners = record {
     main = main_owner;
     others = owner (codes "class a") 1 ∷ owner (codes "class b") 2 ∷ owner (codes "class c") 3 ∷ [];
+    files = [];
+    inlines = [];
   };
   book = rows;
   overrides = record {

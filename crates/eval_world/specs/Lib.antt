@@ -1,5 +1,5 @@
 -- What the clauses of `site_main` rest on, and a reader has to believe: Arguments, Data, Environment, Inner,
--- Outcomes, Owners, Shapes, Worlds
+-- Outcomes, Owners, Renderings, Shapes, Worlds
 -- What functions promise one another, what types keep, and what proofs read: Leaves, Nests
 pub mod Arguments
 pub mod Data
@@ -9,5 +9,6 @@ pub mod Leaves
 pub mod Nests
 pub mod Outcomes
 pub mod Owners
+pub mod Renderings
 pub mod Shapes
 pub mod Worlds

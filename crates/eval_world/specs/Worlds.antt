@@ -16,7 +16,7 @@ use Rattle.scope_core.specs.Scopes as scopes
 use Rattle.scope_core.specs.Scopes.{Scopes}
 use Rattle.scope_core.specs.declared.scope_kind.ScopeKind.TheVariants as kind
 use Rattle.eval_world.specs.Outcomes.{Step, answered}
-use Rattle.eval_world.specs.Owners.{owner_at, main_alone}
+use Rattle.eval_world.specs.Owners.{inline_in, owner_at, owner_in, main_alone}
 use Rattle.eval_world.specs.declared.here.Here.{Here}
 use Rattle.eval_world.specs.Environment.{Environment}
 use Rattle.eval_world.specs.declared.world.World.{World}
@@ -32,6 +32,7 @@ empty environment = record {
   overrides = record { lines = []; scopes = []; defaults = [] };
   relations = no_relations;
   log = [];
+  rendered = [];
 }
 
 -- where the statements of the main manifest are evaluated
@@ -68,13 +69,40 @@ with_scopes (Err f) = λ w. Err f
 unfoldable pub assign : Here → List ℕ → Datum → ℕ → Step (Unit {0})
 assign here x d line = λ w. with_scopes (scopes.assign here.scope.number x d (place_at w here line) w.scopes) w
 
--- ---- calls of lambdas
+-- the same where F3 stands at this place
+unfoldable pub assign_at : Here → List ℕ → Datum → Place → Step (Unit {0})
+assign_at here x d at = λ w. with_scopes (scopes.assign here.scope.number x d at w.scopes) w
+
+-- ---- calls of lambdas and of functions, and templates
 
 -- where the body of a lambda that stands here is evaluated: what is evaluated in it is not within a parameter's type
 unfoldable pub enter_lambda : Here → Step Here
 enter_lambda here = λ w. Ok (
   record { scope = record { number = length w.scopes.scopes }; owner = here.owner; typed = false },
   record w { scopes = scopes.entered kind.Lambda here.scope.number w.scopes },
+)
+
+-- Where the body of a function, or a template, is evaluated that stands in this file: in a scope of its own within top scope.
+-- Its code belongs to what top scope belongs to.
+unfoldable pub enter_function : List ℕ → Step Here
+enter_function file = λ w. Ok (
+  record { scope = record { number = length w.scopes.scopes }; owner = (owner_in file w.owners).0; typed = false },
+  record w { scopes = scopes.entered kind.Lambda 0 w.scopes; owners = (owner_in file w.owners).1 },
+)
+
+-- Where a text is evaluated that a call hands over as a template: in a scope of its own within that of the call. Its code
+-- belongs to what the call belongs to, and its file has a name of its own.
+unfoldable pub enter_inline : Here → Step Here
+enter_inline here = λ w. Ok (
+  record {
+    scope = record { number = length w.scopes.scopes };
+    owner = (inline_in here.owner w.owners).0;
+    typed = false;
+  },
+  record w {
+    scopes = scopes.entered kind.Lambda here.scope.number w.scopes;
+    owners = (inline_in here.owner w.owners).1;
+  },
 )
 
 abbrev pub left : Here → World → World
@@ -87,6 +115,16 @@ leave here = λ w. Ok (tt, left here w)
 
 unfoldable pub write_log : List ℕ → List ℕ → Step (Unit {0})
 write_log level text = λ w. Ok (tt, record w { log = w.log ++ record { level = level; text = text } ∷ [] })
+
+-- ---- templates
+
+-- a text behind what the template emitted so far
+unfoldable pub emit : List ℕ → Step (Unit {0})
+emit t = λ w. Ok (tt, record w { rendered = w.rendered ++ t })
+
+-- what was emitted so far is put apart, or back
+abbrev pub with_rendered : List ℕ → World → World
+with_rendered t w = record w { rendered = t }
 
 -- ---- the book
 

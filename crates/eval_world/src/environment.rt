@@ -1,4 +1,8 @@
 ghost use Rattle.std.specs.Prelude.{◌≡◌};
+ghost use Rattle.std.specs.FinMap.{find};
+ghost use Rattle.std.specs.Option.{option_copied};
+ghost use Rattle.eval_world.specs.Environment.{text_at};
+ghost use Rattle.pp_values.specs.Rising.{text_cmp};
 
 use hiera_config::SiteData;
 use pp_tree::{File, ManifestFile};
@@ -58,10 +62,29 @@ impl<'a> Environment<'a> {
         self.files
     }
 
+    /// The text of the file at this path, a manifest or another one, where the site has such a file.
+    pub fn text_at(&self, path: &Text) -> Option<&'a Text>
+        ensures { option_copied result ≡ text_at path.now self.now }
+    {
+        match self.files.get(path) {
+            Some(file) => Some(&file.text),
+            None => other_text(self.site_data, path),
+        }
+    }
+
     /// The data of the site.
     pub fn site_data(&self) -> &'a SiteData
         ensures { result.now ≡ self.now.site_data }
     {
         self.site_data
+    }
+}
+
+fn other_text<'a>(files: &'a SiteData, path: &Text) -> Option<&'a Text>
+    ensures { option_copied result ≡ find text_cmp path.now files.now }
+{
+    match files.get(path) {
+        Some(file) => Some(&file.text),
+        None => None,
     }
 }

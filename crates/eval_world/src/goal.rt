@@ -1,3 +1,4 @@
+use crate::rendering::Rendering;
 use pp_tree::expr::Expr;
 use pp_tree::resource::Reference;
 use pp_tree::statement::{Block, Words};
@@ -18,4 +19,6 @@ pub enum Goal<'t> {
     Class(u32, u32),
     /// An instance of a define, by the number of its declaration.
     Instance(u32, u32),
+    /// A template, in the scope that it is rendered in. It is refused at its first line.
+    Template(&'t Rendering<'t>),
 }

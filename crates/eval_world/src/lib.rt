@@ -13,6 +13,8 @@ mod here;
 mod meaning;
 mod owner;
 mod owners;
+mod rendered;
+mod rendering;
 mod shapes;
 mod world;
 
@@ -24,6 +26,8 @@ pub use heap::Heap;
 pub use here::Here;
 pub use meaning::Meaning;
 pub use owner::Owner;
-pub use owners::{MAIN_SOURCE, Owners};
+pub use owners::{INLINE_FILE, MAIN_SOURCE, Owners};
+pub use rendered::Rendered;
+pub use rendering::Rendering;
 pub use shapes::{is_default, is_splat, only};
 pub use world::World;

@@ -1,7 +1,7 @@
 use pp_values::Text;
 
-/// What the code belongs to that is evaluated: the main manifest's statements, or the body of a node, a class or an
-/// instance.
+/// What the code belongs to that is evaluated: the main manifest's statements, the body of a node, a class or an instance,
+/// or what stands in top scope in another file, as functions do.
 #[derive(Debug, Drop)]
 pub struct Owner {
     /// The path of the file that the code stands in.

@@ -1,5 +1,7 @@
 ghost use Rattle.std.specs.Prelude.{◌≡◌, [], IfOk, OnErr};
 ghost use Rattle.pp_values.specs.Faults.{fault};
+ghost use Rattle.pp_values.specs.TextOf.{text_of};
+ghost use Rattle.pp_values.specs.Views.{view};
 ghost use Rattle.pp_values.specs.declared.fault.Stop.TheVariants as stop;
 ghost use Rattle.pp_values.specs.declared.fault.What.TheVariants as what;
 ghost use Rattle.eval_world.specs.Outcomes.{Gives, nothing, same};
@@ -10,15 +12,17 @@ use crate::evaluated::Evaluated;
 use crate::heap::Heap;
 use crate::here::Here;
 use crate::owners::Owners;
+use crate::rendered::Rendered;
 use override_rules::Overrides;
-use pp_values::{Fault, Kept, Memory, Place, Stop, Text, What};
+use pp_values::{Fault, Kept, Memory, Place, Stop, Text, Value, What};
 use res_book::{Book, Relations};
 use res_core::{LogLine, LogLines};
-use scope_core::{ScopeKind, Scopes};
+use scope_core::{ScopeId, ScopeKind, Scopes};
 use std::alloc::Global;
+use std::mem;
 
-/// All that a compile has made so far. Nothing in it is replaced: its lists only grow, but for the scopes of calls of
-/// lambdas that have ended.
+/// All that a compile has made so far. Nothing in it is replaced: its lists only grow, but for the scopes of calls that have
+/// ended, and for what a template emits.
 pub struct World<'a> {
     /// Where memory is taken from.
     pub heap: Heap,
@@ -36,6 +40,8 @@ pub struct World<'a> {
     pub relations: Relations,
     /// What log functions wrote.
     pub log: LogLines,
+    /// What the template that is rendered has emitted so far.
+    pub rendered: Rendered,
 }
 
 // By hand, so that no crate above proves the drops of the tables again.
@@ -50,6 +56,7 @@ impl<'a> Drop for World<'a> {
             overrides: _overrides,
             relations: _relations,
             log: _log,
+            rendered: _rendered,
         } = self;
     }
 }
@@ -69,6 +76,7 @@ impl<'a> World<'a> {
             overrides: Overrides::new(alloc),
             relations: Relations::new(alloc),
             log: LogLines::new(alloc),
+            rendered: Rendered::new(alloc),
         })
     }
 
@@ -88,6 +96,7 @@ impl<'a> World<'a> {
             overrides,
             relations,
             log,
+            rendered: _rendered,
         } = self;
         (book, overrides, relations, log)
     }
@@ -187,12 +196,98 @@ impl<'a> World<'a> {
         })
     }
 
-    /// Ends the scope of a call of a lambda.
+    /// The scope of one call of a function that stands in this file.
+    #[tactic(auto, unfolding(crate::specs::Worlds::enter_function))]
+    pub fn enter_function(&mut self, file: &Text) -> Result<Here, Stop>
+        ensures { Gives same (spec.enter_function file.now self.old) result self.new }
+    {
+        let alloc = self.heap.alloc();
+        let owner = self.owners.in_file(alloc, file)?;
+        let scope = self
+            .scopes
+            .enter(alloc, ScopeKind::Lambda, ScopeId { number: 0 })?;
+        Ok(Here {
+            scope,
+            owner,
+            typed: false,
+        })
+    }
+
+    /// The scope of a text that a call which stands here renders as a template.
+    #[tactic(auto, unfolding(crate::specs::Worlds::enter_inline))]
+    pub fn enter_inline(&mut self, here: Here) -> Result<Here, Stop>
+        ensures { Gives same (spec.enter_inline here self.old) result self.new }
+    {
+        let alloc = self.heap.alloc();
+        let owner = self.owners.inline(alloc, here.owner)?;
+        let scope = self.scopes.enter(alloc, ScopeKind::Lambda, here.scope)?;
+        Ok(Here {
+            scope,
+            owner,
+            typed: false,
+        })
+    }
+
+    /// Ends the scope of a call of a lambda or of a function, or of a template.
     #[inline(always)]
     pub fn leave(&mut self, here: Here)
         ensures { self.new ≡ spec.left here self.old }
     {
         self.scopes.leave(here.scope);
+    }
+
+    /// Sets a variable. F3 is placed there. Whatever the error, memory included, all stays as it was.
+    #[tactic(auto, using(crate::proofs::Elsewhere::set_there, crate::proofs::Elsewhere::refused_there))]
+    pub fn assign_at(
+        &mut self,
+        here: Here,
+        name: &Text,
+        value: Evaluated,
+        at: &Place,
+    ) -> Result<(), Stop>
+        ensures step { Gives nothing (spec.assign_at here name.now value at.now self.old) result self.new }
+        ensures kept { OnErr result (self.new ≡ self.old) }
+    {
+        let alloc = self.heap.alloc();
+        match self.scopes.put(alloc, here.scope, name, value.into_value()) {
+            Ok(true) => Ok(()),
+            Ok(false) => Err(Stop::Fault(reassigned_at(alloc, name, at)?)),
+            Err(Memory) => Err(Stop::Memory),
+        }
+    }
+
+    /// Emits a text.
+    #[tactic(auto, unfolding(crate::specs::Worlds::emit))]
+    pub fn emit(&mut self, text: &str) -> Result<(), Stop>
+        ensures { Gives nothing (spec.emit text.now self.old) result self.new }
+    {
+        self.rendered.push(text)?;
+        Ok(())
+    }
+
+    /// Emits the text of a value.
+    #[tactic(auto, unfolding(crate::specs::Worlds::emit))]
+    pub fn emit_value(&mut self, value: &Value) -> Result<(), Stop>
+        ensures { Gives nothing (spec.emit (text_of (view value.now)) self.old) result self.new }
+    {
+        self.rendered.push_value(value)?;
+        Ok(())
+    }
+
+    /// Begins a template: what was emitted so far is put apart.
+    pub fn begin_rendering(&mut self) -> Rendered
+        ensures text { result ≡ self.old.rendered }
+        ensures world { self.new ≡ spec.with_rendered [] self.old }
+    {
+        mem::replace(&mut self.rendered, Rendered::new(self.heap.alloc()))
+    }
+
+    /// Ends a template: what was put apart is back, and the answer is what was emitted since.
+    pub fn end_rendering(&mut self, before: Rendered) -> Rendered
+        ensures text { result ≡ self.old.rendered }
+        ensures world { self.new ≡ spec.with_rendered before self.old }
+    {
+        mem::replace(&mut self.rendered, before)
     }
 
     /// Writes a line of the log. Where there is no memory, all stays as it was.
@@ -204,4 +299,14 @@ impl<'a> World<'a> {
         self.log.push(LogLine { level, text })?;
         Ok(())
     }
+}
+
+#[cold]
+#[inline(never)]
+fn reassigned_at(alloc: Global, name: &Text, at: &Place) -> Result<Fault, Memory>
+    ensures { IfOk result (λ f. f ≡ fault at.now (what.Reassigned name.now)) }
+{
+    let name = name.copy(alloc)?;
+    let at = at.copy(alloc)?;
+    Fault::new(alloc, at, What::Reassigned(name))
 }

@@ -24,6 +24,10 @@ fn write_name(out: &mut String, name: &DefinitionName) -> Result<(), Memory> {
             Ok(())
         }
         DefinitionName::Node(name) => write_node(out, name),
+        DefinitionName::Function(name) => {
+            out.push_str(name.as_str())?;
+            Ok(())
+        }
     }
 }
 
@@ -32,6 +36,7 @@ fn write_definition(out: &mut String, definition: &Definition) -> Result<(), Mem
         Definition::Class(_) => out.push_str(" class,")?,
         Definition::Define(_) => out.push_str(" define,")?,
         Definition::Node(_) => out.push_str(" node,")?,
+        Definition::Function(_) => out.push_str(" function,")?,
         Definition::SameNode(first) => {
             out.push_str(" as ")?;
             write_node(out, first)?;
@@ -64,7 +69,7 @@ fn defines_as(alloc: Global, manifest: &str, want: &str) -> Result<bool, Memory>
     Ok(told(alloc, manifest)?.as_str() == want)
 }
 
-const TABLES: [(&str, &str); 10] = [
+const TABLES: [(&str, &str); 12] = [
     ("", ""),
     (
         "class ::nTp { } define ntp::server() { }",
@@ -84,6 +89,11 @@ const TABLES: [(&str, &str); 10] = [
     ("node a { }\nnode b, c, a { }\nnode c { }", "F1 2"),
     ("node a,\na { }", "F1 2"),
     ("node default { }\nnode a, default { }", "F1 2"),
+    (
+        "function ::m::aB { } function ab { } class ab { } node ab { }",
+        "m::aB function,ab function,ab class,ab node,",
+    ),
+    ("function a { }\nfunction ::a() >> B { }", "F1 2"),
 ];
 
 #[test]

@@ -72,7 +72,7 @@ fn operand_text(alloc: Global, operand: &Operand) -> Result<String, AllocError> 
     }
 }
 
-fn statement_text(alloc: Global, statement: &Statement) -> Result<String, AllocError> {
+pub fn statement_text(alloc: Global, statement: &Statement) -> Result<String, AllocError> {
     match statement {
         Statement::Chain(chain) => match chain.links.len() {
             0 => operand_text(alloc, &chain.first),
@@ -84,6 +84,8 @@ fn statement_text(alloc: Global, statement: &Statement) -> Result<String, AllocE
             let args = words.args.len();
             format!(in alloc; "words {function} {args}")
         }
+        Statement::Emit(text) => format!(in alloc; "emit {text}"),
+        Statement::EmitValue(_) => String::from_str(alloc, "emit a value"),
     }
 }
 

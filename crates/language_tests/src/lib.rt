@@ -32,6 +32,8 @@ mod reports;
 #[cfg(test)]
 mod resources;
 #[cfg(test)]
+mod templates;
+#[cfg(test)]
 mod tokens;
 #[cfg(test)]
 mod value_forms;

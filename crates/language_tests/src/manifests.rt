@@ -2,7 +2,7 @@ use crate::reading::{MAIN, reads_as};
 use std::test::Fail;
 
 // One line of the grammar after the other: how many statements, and how many names of definitions.
-const GRAMMAR: [(&str, &str); 42] = [
+const GRAMMAR: [(&str, &str); 46] = [
     // files and blocks
     ("", "0 0"),
     ("a; b c;\n", "3 0"),
@@ -55,7 +55,14 @@ const GRAMMAR: [(&str, &str); 42] = [
     ("class a b { }", "F1 1"),
     ("node 'a',\n{ }", "F1 2"),
     ("node \"a${b}\" { }", "F1 1"),
-    ("function a { }", "F1 1"),
+    ("function a { }", "0 1"),
+    (
+        "function ::a::b($c, Integer $d = 1,) >> Array[E, F] { notice $c, 1; f(2) $c } function g() >> H { }",
+        "0 2",
+    ),
+    ("function a >>\nb { }", "F1 2"),
+    ("function a >> B\n[C] { }", "F1 2"),
+    ("class a\n>> B { }", "F1 2"),
     // statement functions
     (
         "include a, b include c\nnotice 'x', [1], { a => 1 }, $b + 1 fail",
@@ -100,7 +107,7 @@ fn each_line_of_the_grammar_is_read(rt: HostRuntime) -> Result<(), Fail> {
 }
 
 // What is told apart by a rule of its own.
-const RULES: [(&str, &str); 45] = [
+const RULES: [(&str, &str); 54] = [
     // white space, comments, ends of files
     ("a\u{c}b", "F1 1"),
     ("a # b\n/* c\n*/ d", "2 0"),
@@ -142,6 +149,16 @@ const RULES: [(&str, &str); 45] = [
     ("if a { class { 'b': } }", "1 0"),
     ("if a { class\nb { } }", "F1 2"),
     ("if a {\ndefine b { } }", "F1 2"),
+    // functions hold words and expressions alone
+    ("function a { b\n{ 'c': } }", "F1 2"),
+    ("function a { notice b\n{ 'c': } }", "F1 2"),
+    ("function a { notice\n{ 'c': } }", "F1 2"),
+    ("function a { B['c']\n-> d }", "F1 2"),
+    ("function a { B\n<| |> }", "F1 2"),
+    ("function a {\nclass { 'b': } }", "F1 2"),
+    ("function a { if b { c { 'd': } } }", "0 1"),
+    ("if a {\nfunction b { } }", "F1 2"),
+    ("1\n>> 2", "F1 2"),
     // prefix operators
     ("! - * ! $x", "1 0"),
     // parameters
@@ -171,9 +188,10 @@ fn manifests_are_read_by_the_rules(rt: HostRuntime) -> Result<(), Fail> {
     Ok(())
 }
 
-// A module file holds classes and defines alone.
-const MODULES: [(&str, &str); 4] = [
+// A module file holds classes, defines and functions alone.
+const MODULES: [(&str, &str); 5] = [
     ("class a { include b } define c { };", "0 2"),
+    ("function a { } function b { };", "0 2"),
     ("class a { }\nnode b { }", "F1 2"),
     ("class a { }\nnotice 1", "F1 2"),
     ("class\n{ 'a': }", "F1 2"),

@@ -48,7 +48,7 @@ fn scans_as(alloc: Global, manifest: &str, want: &str) -> Result<bool, Fail> {
     Ok(scanned(alloc, manifest)?.as_str() == want)
 }
 
-const SCANNED: [(&str, &str); 27] = [
+const SCANNED: [(&str, &str); 28] = [
     ("", "/1"),
     (
         "node 'web1.example' { include web::site }\n",
@@ -73,6 +73,10 @@ const SCANNED: [(&str, &str); 27] = [
     (
         "File <| tag == 'a' |> -> B <<| |>> ~> C['d'] <- e <~ f",
         "TypeFile OpenCollector tag Equal Texta CloseCollector InEdge TypeB OpenExported CloseExported InEdgeSub TypeC TightBracket Textd CloseBracket OutEdge e OutEdgeSub f /1",
+    ),
+    (
+        ">> >>= > > |>>",
+        "Returns Returns Assign Greater Greater CloseExported /1",
     ),
     (
         "'it\\'s \\\\ \\n' 'Zürich ☃'",

@@ -315,8 +315,8 @@ size_of_ab = refl
 -- what `call_pure` is not asked, and what it is
 asked_of_the_evaluator :
     list_all needs_evaluator (
-    codes "include" ∷ codes "contain" ∷ codes "require" ∷ codes "realize" ∷ codes "lookup" ∷ codes "debug" ∷
-    codes "info" ∷ codes "notice" ∷ codes "warning" ∷ codes "err" ∷ codes "each" ∷ codes "map" ∷ codes "filter" ∷
+    codes "include" ∷ codes "contain" ∷ codes "require" ∷ codes "realize" ∷ codes "lookup" ∷ codes "epp" ∷
+    codes "inline_epp" ∷ codes "debug" ∷ codes "info" ∷ codes "notice" ∷ codes "warning" ∷ codes "err" ∷ codes "each" ∷ codes "map" ∷ codes "filter" ∷
     codes "reduce" ∷ codes "any" ∷ codes "all" ∷ codes "with" ∷ []
     )
     ≡ true

@@ -16,12 +16,12 @@ all_functions =
 functions_are : map (λ f. (f.0.now, f.1)) FUNCTIONS ≡ all_functions
 functions_are = refl
 
--- those that need the site, the log, and a lambda
+-- those that need the site, a template, the log, and a lambda
 abbrev all_evaluated : List (List ℕ)
 all_evaluated =
-    codes "include" ∷ codes "contain" ∷ codes "require" ∷ codes "realize" ∷ codes "lookup" ∷ codes "debug" ∷
-    codes "info" ∷ codes "notice" ∷ codes "warning" ∷ codes "err" ∷ codes "each" ∷ codes "map" ∷ codes "filter" ∷
-    codes "reduce" ∷ codes "any" ∷ codes "all" ∷ codes "with" ∷ []
+    codes "include" ∷ codes "contain" ∷ codes "require" ∷ codes "realize" ∷ codes "lookup" ∷ codes "epp" ∷
+    codes "inline_epp" ∷ codes "debug" ∷ codes "info" ∷ codes "notice" ∷ codes "warning" ∷ codes "err" ∷
+    codes "each" ∷ codes "map" ∷ codes "filter" ∷ codes "reduce" ∷ codes "any" ∷ codes "all" ∷ codes "with" ∷ []
 
 evaluated_are : map (λ n. n.now) EVALUATED ≡ all_evaluated
 evaluated_are = refl

@@ -18,6 +18,6 @@ function_of = function_named (map (λ f. (f.0.now, f.1)) FUNCTIONS)
 abbrev pub is_listed : List (List ℕ) → List ℕ → Bool
 is_listed names name = list_any (bytes_eq name) names
 
--- a function that needs the site, the log or a lambda
+-- a function that needs the site, the log, a template or a lambda
 unfoldable pub needs_evaluator : List ℕ → Bool
 needs_evaluator = is_listed (map (λ n. n.now) EVALUATED)

@@ -4,13 +4,30 @@ ghost use Rattle.pp_funcs.specs.Names.{needs_evaluator, is_listed};
 
 use pp_values::text::Text;
 
-/// The functions that need the site, the log or a lambda.
-pub const EVALUATED: [&str; 17] = [
-    "include", "contain", "require", "realize", "lookup", "debug", "info", "notice", "warning",
-    "err", "each", "map", "filter", "reduce", "any", "all", "with",
+/// The functions that need the site, the log, a template or a lambda.
+pub const EVALUATED: [&str; 19] = [
+    "include",
+    "contain",
+    "require",
+    "realize",
+    "lookup",
+    "epp",
+    "inline_epp",
+    "debug",
+    "info",
+    "notice",
+    "warning",
+    "err",
+    "each",
+    "map",
+    "filter",
+    "reduce",
+    "any",
+    "all",
+    "with",
 ];
 
-/// Whether the function needs the site, the log or a lambda.
+/// Whether the function needs the site, the log, a template or a lambda.
 pub fn needs_evaluator(name: &Text) -> bool
     ensures { result ≡ needs_evaluator name.now }
 {

@@ -3,13 +3,16 @@ pub mod Definitions
 pub mod ExpressionFalls
 pub mod Expressions
 pub mod Files
+pub mod FunctionBodies
 pub mod Lists
 pub mod Operands
 pub mod Parts
 pub mod Resources
+pub mod StatementBegins
 pub mod StatementFalls
 pub mod Statements
 pub mod Steps
+pub mod Templates
 pub mod Wholes
 pub mod Words
 pub mod Within

@@ -41,15 +41,16 @@ use Rattle.pp_parser.specs.Keys as keys
 use Rattle.pp_parser.specs.Params as params
 use Rattle.pp_parser.specs.Expressions as expressions
 use Rattle.pp_parser.specs.Statements as statements
+use Rattle.pp_parser.specs.FunctionBodies as bodies
 use Rattle.pp_parser.specs.Definitions as definitions
 use Rattle.pp_parser.specs.Manifest as manifest
 
 -- a manifest at the path of the main one, read by all the definitions
 unfoldable pub read : List ℕ → Result File Fault
-unfolding lexer_bytes.blank_len escapes.braced escapes.four_digits escapes.double escapes.said marks.punctuation digits.number_value numbers.number texts.quoted texts.in_text token.token_front token.in_code token.tokens token.lexed word_texts.name_kind word_texts.name word_texts.type_name word_texts.variable names.without_front_colons names.normal tables.rows_of tables.all_rows tables.table_from tables.table_of input.kind_at input.kind input.line_at input.take input.sees input.expect input.expect_any input.eat input.open_level input.repeat_from input.repeat input.separated_from input.separated input.separated_some kinds.same_kind kinds.is_kind inner.whole_in inner.operand_in inner.interpolated_in inner.param_in inner.statements_in inner.case_option_in inner.query_in levels.part_by levels.within keys.written keys.same_written keys.is_key keys.doubled_from keys.doubled_key keys.earlier_line keys.noting params.is_simple params.param_from expressions.operator_at expressions.block expressions.arguments expressions.optional_arguments expressions.access expressions.list expressions.pair_rule expressions.hash expressions.parentheses expressions.lambda_from expressions.optional_lambda expressions.call_or_name expressions.named expressions.interpolation expressions.piece_rule expressions.text_after expressions.quoted expressions.otherwise expressions.condition expressions.elsif_rule expressions.if_rule expressions.unless_rule expressions.case_options expressions.case_rule expressions.primary expressions.method expressions.selector expressions.postfix_rule expressions.postfixes expressions.value expressions.prefixed expressions.operand expressions.operation_rule expressions.chain expressions.assigned expressions.whole expressions.variable_or_call expressions.begun_by_name expressions.interpolated expressions.default_rule expressions.typed_param expressions.param_rule expressions.case_option statements.assigns statements.setting_rule statements.splat_rule statements.attribute statements.attributes statements.body statements.resource statements.marked statements.compares statements.comparison_rule statements.query_in_parentheses statements.test_rule statements.another_by statements.another statements.conjunction_rule statements.query statements.optional_query statements.optional_settings statements.collector statements.expression_from statements.behind_name statements.behind_type statements.operand_rule statements.link_rule statements.chain_from statements.defaults_rule statements.override_rule statements.reference_rule statements.typed statements.argument_from statements.argument_rule statements.words_from statements.words statements.function statements.statement_rule statements.statements_from statements.statements definitions.name_rule definitions.params definitions.optional_params definitions.optional_inherits definitions.class definitions.define definitions.plain_text definitions.node_name_rule definitions.node_names_from definitions.node_names definitions.node definitions.class_item definitions.item_rule definitions.manifest_from definitions.main_manifest definitions.module_item definitions.module_from definitions.module_file manifest.read_file manifest.line_from manifest.file_with manifest.file_of encode_utf8 form_layers.out-Form denote.Hole.Carrier.out
+unfolding lexer_bytes.blank_len escapes.braced escapes.four_digits escapes.double escapes.said marks.punctuation digits.number_value numbers.number texts.quoted texts.in_text token.token_front token.in_code token.tokens token.lexed word_texts.name_kind word_texts.name word_texts.type_name word_texts.variable names.without_front_colons names.normal tables.rows_of tables.all_rows tables.table_from tables.table_of input.kind_at input.kind input.line_at input.take input.sees input.expect input.expect_any input.eat input.open_level input.repeat_from input.repeat input.separated_from input.separated input.separated_some kinds.same_kind kinds.is_kind inner.whole_in inner.operand_in inner.interpolated_in inner.param_in inner.statements_in inner.function_statements_in inner.case_option_in inner.query_in levels.part_by levels.within keys.written keys.same_written keys.is_key keys.doubled_from keys.doubled_key keys.earlier_line keys.noting params.is_simple params.param_from expressions.operator_at expressions.block expressions.arguments expressions.optional_arguments expressions.access expressions.list expressions.pair_rule expressions.hash expressions.parentheses expressions.lambda_from expressions.optional_lambda expressions.call_or_name expressions.named expressions.interpolation expressions.piece_rule expressions.text_after expressions.quoted expressions.otherwise expressions.condition expressions.elsif_rule expressions.if_rule expressions.unless_rule expressions.case_options expressions.case_rule expressions.primary expressions.method expressions.selector expressions.postfix_rule expressions.postfixes expressions.value expressions.prefixed expressions.operand expressions.operation_rule expressions.chain expressions.assigned expressions.whole expressions.variable_or_call expressions.begun_by_name expressions.interpolated expressions.default_rule expressions.typed_param expressions.param_rule expressions.case_option statements.assigns statements.setting_rule statements.splat_rule statements.attribute statements.attributes statements.body statements.resource statements.marked statements.compares statements.comparison_rule statements.query_in_parentheses statements.test_rule statements.another_by statements.another statements.conjunction_rule statements.query statements.optional_query statements.optional_settings statements.collector statements.expression_from statements.behind_name statements.behind_type statements.operand_rule statements.link_rule statements.chain_from statements.defaults_rule statements.override_rule statements.reference_rule statements.typed statements.argument_from statements.argument_rule statements.words_from statements.words statements.function statements.emitted_value statements.statement_rule statements.statements_from statements.statements bodies.unbraced_from bodies.unbraced bodies.function_words bodies.worded bodies.value_statement bodies.function_statement bodies.next_statement bodies.function_statements bodies.function_block definitions.name_rule definitions.params definitions.optional_params definitions.optional_inherits definitions.class definitions.define definitions.type_from definitions.return_type definitions.optional_return definitions.function_definition definitions.plain_text definitions.node_name_rule definitions.node_names_from definitions.node_names definitions.node definitions.class_item definitions.item_rule definitions.manifest_from definitions.main_manifest definitions.module_item definitions.module_from definitions.module_file manifest.read_file manifest.line_from manifest.file_with manifest.file_of encode_utf8 form_layers.out-Form denote.Hole.Carrier.out
 read text = file_of main_path text
 
-abbrev faulty : ℕ → Result File Fault
+abbrev pub faulty : ℕ → Result File Fault
 faulty line = Err (fault_at main_path Syntax line)
 
 abbrev deep : ℕ → Result File Fault
@@ -63,7 +64,7 @@ abbrev pub alone : Expr → Statement
 alone x = statement.Chain (tree.chain (operand.Expr x) [] (tree.line_of x))
 
 -- a text of one line, and then the rest
-abbrev line : List ℕ → List ℕ → List ℕ
+abbrev pub line : List ℕ → List ℕ → List ℕ
 line text rest = text ++ 10 ∷ rest
 
 -- as often
@@ -221,7 +222,7 @@ out_of_place : (file_of main_path (codes "file { 'a': b +> 1 }") ≡ faulty 1)
 unfolding read
 out_of_place = (refl, refl, refl)
 
--- a module file holds classes and defines
+-- a module file holds classes, defines and functions
 module_file : (file_of (codes "m") (line (codes "class a { }") (codes "node b { }")) ≡ Err (fault_at (codes "m") Syntax 2))
     × (file_of (codes "m") (codes "define a { }") ≡ Ok (record { statements = []; definitions = (name_of.Code (codes "a"), definition.Define (tree.define_of (tree.name_at (codes "a") 1) [] [] 1)) ∷ [] }))
 unfolding read

@@ -1,16 +1,20 @@
 -- The reader reads exactly what stands there.
 use Rattle.std.proofs.Common.{◌≡◌, ◌↔◌, ℕ, List, [], Ok}
 use Rattle.pp_tree.specs.declared.definition.Definition.{Definition}
+use Rattle.pp_tree.specs.declared.template.Template.{Template}
 use Rattle.pp_grammar.proofs.Reader.Input.{Input}
 use Rattle.pp_parser.specs.declared.found.Found.{Found}
 use Rattle.pp_grammar.proofs.Reader.Definitions.{main_manifest, module_file}
+use Rattle.pp_grammar.proofs.Reader.Templates.{template}
 use Rattle.pp_grammar.proofs.Reader.Levels.{within_to}
 use Rattle.pp_grammar.specs.Files.{IsMain, IsModule, LevelsTo}
+use Rattle.pp_grammar.specs.Templates.{IsTemplate}
 use Rattle.pp_grammar.specs.Laws.{only_definitions}
 use Rattle.pp_grammar.proofs.Sound.Inner.{IsSound}
 use Rattle.pp_grammar.proofs.Sound.Ends.{EndsOnce}
 use Rattle.pp_grammar.proofs.Sound.Levels as sound
 use Rattle.pp_grammar.proofs.Complete.Files.{within_complete, main_complete, module_complete}
+use Rattle.pp_grammar.proofs.Complete.Templates.{template_complete}
 
 module _ (behind levels more : ℕ) where
   once : (l m : ℕ) → EndsOnce (LevelsTo behind l m)
@@ -33,3 +37,9 @@ module _ (behind levels more : ℕ) where
   pub module_read : (i j : Input) (ds : List Definition)
       → IsModule (LevelsTo behind levels more) i ds j → module_file (within_to behind levels more) i ≡ Ok (only_definitions ds, j)
   module_read = module_complete (within_to behind levels more) (LevelsTo behind levels more) (within_complete behind levels more)
+
+  pub template_stands : (i j : Input) (found : Template) → template (within_to behind levels more) i ≡ Ok (found, j) → IsTemplate (LevelsTo behind levels more) i found j
+  template_stands = sound.template_read_sound (within_to behind levels more) (LevelsTo behind levels more) all_sound (once levels more)
+
+  pub template_read : (i j : Input) (found : Template) → IsTemplate (LevelsTo behind levels more) i found j → template (within_to behind levels more) i ≡ Ok (found, j)
+  template_read = template_complete (within_to behind levels more) (LevelsTo behind levels more) (within_complete behind levels more)

@@ -6,4 +6,6 @@ pub mod Reader
 pub mod Sound
 pub mod Ways
 pub mod Whole
+mod WorkedFunctions
+mod WorkedTemplates
 mod WorkedTrees

@@ -1,6 +1,7 @@
 pub mod Ahead
 pub mod Expressions
 pub mod Files
+pub mod FunctionBodies
 pub mod Inner
 pub mod Laws
 pub mod Levels
@@ -8,3 +9,4 @@ pub mod Limits
 pub mod Lists
 pub mod Statements
 pub mod Steps
+pub mod Templates

@@ -1,5 +1,6 @@
 pub mod Definitions
 pub mod Expressions
+pub mod FunctionBodies
 pub mod Inner
 pub mod Input
 pub mod Keys
@@ -7,3 +8,4 @@ pub mod Levels
 pub mod Manifest
 pub mod Params
 pub mod Statements
+pub mod Templates

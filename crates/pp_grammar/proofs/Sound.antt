@@ -1,9 +1,11 @@
 pub mod Ends
 pub mod Expressions
 pub mod Files
+pub mod FunctionBodies
 pub mod Inner
 pub mod Levels
 pub mod Lists
 pub mod Resources
 pub mod Statements
 pub mod Steps
+pub mod Templates

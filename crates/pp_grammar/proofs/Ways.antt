@@ -6,9 +6,11 @@ pub mod Inner
 pub mod Expressions
 pub mod Resources
 pub mod Statements
+pub mod Templates
 pub mod Turns
 pub mod Blocks
 pub mod Fresh
+pub mod FunctionBodies
 pub mod Levels
 pub mod Files
 pub mod Laws

@@ -5,6 +5,9 @@ pub mod Keys
 pub mod Limits
 pub mod Parser
 pub mod Places
+pub mod Reading
 pub mod Reads
 pub mod Rules
+pub mod Stops
+pub mod Templates
 pub mod Trees

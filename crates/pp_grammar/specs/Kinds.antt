@@ -66,6 +66,13 @@ is_bar (Some k.Bar) = true
 is_bar (Some k.LastBar) = true
 is_bar _ = false
 
+-- a bar that may end a template's parameters
+abbrev pub ends_params : Option Kind → Bool
+ends_params (Some k.Bar) = true
+ends_params (Some k.LastBar) = true
+ends_params (Some k.ParamsEnd) = true
+ends_params _ = false
+
 -- the end of a resource body's attributes
 abbrev pub ends_body : Option Kind → Bool
 ends_body (Some k.Semicolon) = true

@@ -1,5 +1,6 @@
 pub mod Expressions
 pub mod Files
+pub mod FunctionBodies
 pub mod Keys
 pub mod Kinds
 pub mod Laws
@@ -7,3 +8,4 @@ pub mod Names
 pub mod Operators
 pub mod Places
 pub mod Statements
+pub mod Templates

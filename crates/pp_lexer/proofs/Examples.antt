@@ -203,7 +203,7 @@ bars = (refl, refl, refl, refl, refl)
 
 -- the longest mark is taken
 longest : (tokens (codes "<<| << <| < <- <~ <= <<=") ≡ mark k.OpenExported 1 ∷ mark k.Append 1 ∷ mark k.OpenCollector 1 ∷ mark k.Less 1 ∷ mark k.OutEdge 1 ∷ mark k.OutEdgeSub 1 ∷ mark k.AtMost 1 ∷ mark k.Append 1 ∷ mark k.Assign 1 ∷ [])
-    × (tokens (codes "|>> |> >> >= ->> ~>") ≡ mark k.CloseExported 1 ∷ mark k.CloseCollector 1 ∷ mark k.Greater 1 ∷ mark k.Greater 1 ∷ mark k.AtLeast 1 ∷ mark k.InEdge 1 ∷ mark k.Greater 1 ∷ mark k.InEdgeSub 1 ∷ [])
+    × (tokens (codes "|>> |> >> >= ->> ~> > >>>") ≡ mark k.CloseExported 1 ∷ mark k.CloseCollector 1 ∷ mark k.Returns 1 ∷ mark k.AtLeast 1 ∷ mark k.InEdge 1 ∷ mark k.Greater 1 ∷ mark k.InEdgeSub 1 ∷ mark k.Greater 1 ∷ mark k.Returns 1 ∷ mark k.Greater 1 ∷ [])
     × (tokens (codes "== => = =~ != !~ ! +> + @@@") ≡ mark k.Equal 1 ∷ mark k.Arrow 1 ∷ mark k.Assign 1 ∷ mark k.Match 1 ∷ mark k.NotEqual 1 ∷ mark k.NoMatch 1 ∷ mark k.Bang 1 ∷ mark k.PlusArrow 1 ∷ mark k.Plus 1 ∷ mark k.AtAt 1 ∷ mark k.At 1 ∷ [])
     × (tokens (codes ":;,.?-*/%()]") ≡ mark k.Colon 1 ∷ mark k.Semicolon 1 ∷ mark k.Comma 1 ∷ mark k.Dot 1 ∷ mark k.Question 1 ∷ mark k.Minus 1 ∷ mark k.Star 1 ∷ mark k.Slash 1 ∷ mark k.Percent 1 ∷ mark k.OpenParen 1 ∷ mark k.CloseParen 1 ∷ mark k.CloseBracket 1 ∷ [])
 unfolding tokens blank_len name_kind name type_name variable number_value number punctuation quoted in_text token_front in_code braced four_digits double said encode_utf8

@@ -33,7 +33,7 @@ all_marks =
     (codes "<|", k.OpenCollector) ∷ (codes "|>", k.CloseCollector) ∷ (codes "->", k.InEdge) ∷
     (codes "~>", k.InEdgeSub) ∷ (codes "<-", k.OutEdge) ∷ (codes "<~", k.OutEdgeSub) ∷ (codes "=>", k.Arrow) ∷
     (codes "+>", k.PlusArrow) ∷ (codes "==", k.Equal) ∷ (codes "!=", k.NotEqual) ∷ (codes "=~", k.Match) ∷
-    (codes "!~", k.NoMatch) ∷ (codes "<=", k.AtMost) ∷ (codes ">=", k.AtLeast) ∷ (codes "@@", k.AtAt) ∷
+    (codes "!~", k.NoMatch) ∷ (codes "<=", k.AtMost) ∷ (codes ">=", k.AtLeast) ∷ (codes ">>", k.Returns) ∷ (codes "@@", k.AtAt) ∷
     (codes "{", k.OpenBrace) ∷ (codes "}", k.CloseBrace) ∷ (codes "(", k.OpenParen) ∷ (codes ")", k.CloseParen) ∷
     (codes "[", k.OpenBracket) ∷ (codes "]", k.CloseBracket) ∷ (codes ":", k.Colon) ∷ (codes ";", k.Semicolon) ∷
     (codes ",", k.Comma) ∷ (codes ".", k.Dot) ∷ (codes "?", k.Question) ∷ (codes "@", k.At) ∷ (codes "|", k.Bar) ∷

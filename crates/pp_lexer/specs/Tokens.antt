@@ -124,6 +124,10 @@ tokens_from line mode nest zero (b ∷ z) =
 unfoldable pub tokens : List ℕ → List Token
 tokens = tokens_from 1 modes.AfterBlank [] 0
 
+-- those of a text that begins on this line
+unfoldable pub tokens_at : ℕ → List ℕ → List Token
+tokens_at line = tokens_from line modes.AfterBlank [] 0
+
 -- ---- the tokens of a file, or its fault
 
 abbrev pub ends_early : Kind → Bool

@@ -123,6 +123,8 @@ pub enum Kind {
     Greater,
     /// `>=`
     AtLeast,
+    /// `>>`, before the type of what a function gives
+    Returns,
     /// `<<`
     Append,
     /// `+`
@@ -137,6 +139,18 @@ pub enum Kind {
     Percent,
     /// `!`
     Bang,
+
+    // ---- a template's alone, which stand in no manifest
+    /// What stands outside of its tags. The token's text is what it emits.
+    RenderString,
+    /// `<%=`, before a value that is emitted.
+    RenderExpr,
+    /// The `|` that begins its parameters, as the first token of its first tag.
+    ParamsBegin,
+    /// A `|` that is the last token of the tag of its parameters.
+    ParamsEnd,
+    /// The `%>` that ends `<%=`, or the tag of its parameters.
+    TagEnd,
 
     // ---- what ends a list of tokens early
     /// No token can be read here. It is the last of its list.

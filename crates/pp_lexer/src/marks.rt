@@ -12,7 +12,7 @@ use crate::kind::Kind;
 
 /// The marks, a longer one before those that it begins with. Where a mark has two kinds, by what stands round it, this is
 /// the first of them.
-pub const MARKS: [(&[u8], Kind); 41] = [
+pub const MARKS: [(&[u8], Kind); 42] = [
     (b"<<|", Kind::OpenExported),
     (b"|>>", Kind::CloseExported),
     (b"<<", Kind::Append),
@@ -30,6 +30,7 @@ pub const MARKS: [(&[u8], Kind); 41] = [
     (b"!~", Kind::NoMatch),
     (b"<=", Kind::AtMost),
     (b">=", Kind::AtLeast),
+    (b">>", Kind::Returns),
     (b"@@", Kind::AtAt),
     (b"{", Kind::OpenBrace),
     (b"}", Kind::CloseBrace),

@@ -216,29 +216,40 @@ fn finish(tokens: &mut Tokens<'_>, mode: Mode, line: u32) -> Result<(), Memory>
     }
 }
 
-/// The tokens of a text. Where no token can be read, or the end of the file cuts off a text or a comment, the last of them
+/// The tokens of a text that begins on this line. Where no token can be read, or the end of the text cuts off a text or a
+/// comment, the last of them says so.
+pub fn scan_at(alloc: Global, text: &str, line: u32) -> Result<Tokens<'_>, Memory>
+    // Places count lines in 32 bits.
+    requires { line + length text.now < 2 ^ 32 }
+    ensures { IfOk result (λ ts. ts ≡ spec.tokens_at line text.now) }
+{
+    let mut tokens = Tokens::new(alloc);
+    let mut nest = Nest::new(alloc);
+    let mut mode = Mode::AfterBlank;
+    let mut here = line;
+    let mut rest = text;
+    while !rest.is_empty() {
+        let front = front_at(mode, &nest, rest);
+        let (spelling, after) = rest.split_at(front.len);
+        emit(alloc, &mut tokens, front.found, spelling, here)?;
+        nest.pass(front.found)?;
+        mode = mode_after(front.found);
+        here = line_behind(here, front.found, spelling);
+        rest = after;
+    }
+    finish(&mut tokens, mode, here)?;
+    Ok(tokens)
+}
+
+/// The tokens of a file. Where no token can be read, or the end of the file cuts off a text or a comment, the last of them
 /// says so.
+#[tactic(auto, unfolding(crate::specs::Tokens::tokens, crate::specs::Tokens::tokens_at))]
 pub fn scan(alloc: Global, text: &str) -> Result<Tokens<'_>, Memory>
     // Places count lines in 32 bits.
     requires { length text.now + 1 < 2 ^ 32 }
     ensures { IfOk result (λ ts. ts ≡ spec.tokens text.now) }
 {
-    let mut tokens = Tokens::new(alloc);
-    let mut nest = Nest::new(alloc);
-    let mut mode = Mode::AfterBlank;
-    let mut line = 1;
-    let mut rest = text;
-    while !rest.is_empty() {
-        let front = front_at(mode, &nest, rest);
-        let (spelling, after) = rest.split_at(front.len);
-        emit(alloc, &mut tokens, front.found, spelling, line)?;
-        nest.pass(front.found)?;
-        mode = mode_after(front.found);
-        line = line_behind(line, front.found, spelling);
-        rest = after;
-    }
-    finish(&mut tokens, mode, line)?;
-    Ok(tokens)
+    scan_at(alloc, text, 1)
 }
 
 /// The line of the end of the file: one more than the number of line feeds.

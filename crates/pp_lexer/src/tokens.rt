@@ -1,7 +1,9 @@
 //! A list of tokens.
 
-ghost use Rattle.std.specs.Prelude.{◌≡◌, [], ◌∷◌, ◌++◌, ◌↔◌, length, is_ok, if◌then◌else◌, IsTrue};
+ghost use Rattle.std.specs.Prelude.{◌≡◌, [], ◌∷◌, ◌++◌, ◌↔◌, length, is_ok, if◌then◌else◌, IsTrue, OnOk, slice_get};
+ghost use Rattle.pp_lexer.specs.Marked as spec;
 
+use crate::kind::Kind;
 use crate::token::Token;
 use pp_values::memory::Memory;
 use std::alloc::Global;
@@ -59,6 +61,35 @@ impl<'a> Tokens<'a> {
     {
         self.items.push(token)?;
         Ok(())
+    }
+
+    /// Appends these tokens.
+    pub fn append(&mut self, more: Tokens<'a>) -> Result<(), Memory>
+        ensures { OnOk result (self.new ≡ self.old ++ more.entry) }
+    {
+        let mut more = more.into_vec();
+        self.items.append(&mut more)?;
+        Ok(())
+    }
+
+    /// The kind of the token at a place, counted from 0.
+    pub fn kind_at(&self, place: usize) -> Option<Kind>
+        ensures { result ≡ spec.kind_of (slice_get self.now place) }
+    {
+        match self.items.get(place) {
+            Some(token) => Some(token.kind()),
+            None => None,
+        }
+    }
+
+    /// Puts a token of this kind, which says nothing, in the place of one, on its line.
+    pub fn mark(&mut self, place: usize, kind: Kind)
+        ensures { self.new ≡ spec.marked place kind (slice_get self.old place) self.old }
+    {
+        if place < self.items.len() {
+            let line = self.items[place].line();
+            self.items[place] = Token::mark(kind, line);
+        }
     }
 
     /// The tokens as they lie in memory.

@@ -11,6 +11,7 @@ use Rattle.pp_parser.specs.Inner.{Inner}
 use Rattle.pp_parser.specs.Input.{Input, and_then, ◌>>=◌, ◌>>◌, pure, kind, eat, refusal}
 use Rattle.pp_parser.specs.Kinds.{begins_expression}
 use Rattle.pp_parser.specs.Statements.{argument_rule, argument_then, words_from, ends_block, statement_rule, statements_from}
+use Rattle.pp_parser.specs.Templates.{rest_from}
 use Rattle.pp_parser.proofs.Turns.{one_more, no_more, either}
 
 module _ (inner : Inner) where
@@ -37,6 +38,18 @@ module _ (inner : Inner) where
   pub statements_none : (n at : ℕ) (found : List Statement) (pending : Option Name) (i : Input) → n ≤ at → statements_from inner (n - at) found pending i ≡ Err (refusal i)
   unfolding statements_from
   statements_none n at found pending i done = no_more (λ m. statements_from inner m found pending i) n at done
+
+  pub rest_turn : (n at : ℕ) (found : List Statement) (pending : Option Name) (i : Input) → at < n
+      → rest_from inner (n - at) found pending i
+      ≡ (if ends_file pending (kind i) then Ok (found, i) else and_then (statement_rule inner pending i) (λ read. eat k.Semicolon >> rest_from inner (n - (at + 1)) (found ++ read.0 ∷ []) read.1))
+  unfolding rest_from
+  rest_turn n at found pending i below =
+      one_more (λ m. rest_from inner m found pending i) n at below
+      ∙ either (ends_file pending (kind i)) (pure found) (statement_rule inner pending >>= (λ read. eat k.Semicolon >> rest_from inner (n - (at + 1)) (found ++ read.0 ∷ []) read.1)) i
+
+  pub rest_none : (n at : ℕ) (found : List Statement) (pending : Option Name) (i : Input) → n ≤ at → rest_from inner (n - at) found pending i ≡ Err (refusal i)
+  unfolding rest_from
+  rest_none n at found pending i done = no_more (λ m. rest_from inner m found pending i) n at done
 
   pub node_names_turn : (n at : ℕ) (found : List NodeName) (i : Input) → at < n
       → node_names_from inner (n - at) found i

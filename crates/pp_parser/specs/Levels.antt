@@ -7,6 +7,7 @@ use Rattle.pp_parser.specs.declared.inset.InsetTree.TheVariants as part
 use Rattle.pp_parser.specs.Input.{Parser, ◌<$>◌, refuse}
 use Rattle.pp_parser.specs.Inner.{Inner}
 use Rattle.pp_parser.specs.Expressions.{whole, operand, interpolated, param_rule, case_option}
+use Rattle.pp_parser.specs.FunctionBodies.{function_statements}
 use Rattle.pp_parser.specs.Statements.{statements, query}
 
 abbrev pub max_levels : ℕ
@@ -19,6 +20,7 @@ part_by inner (goal.Operand bars) = part.Expr <$> operand inner bars
 part_by inner goal.Interpolated = part.Expr <$> interpolated inner
 part_by inner (goal.Param bars) = part.Param <$> param_rule inner bars
 part_by inner goal.Statements = part.Block <$> statements inner
+part_by inner goal.FunctionStatements = part.Block <$> function_statements inner
 part_by inner goal.CaseOption = part.CaseOption <$> case_option inner
 part_by inner goal.Query = part.Query <$> query inner
 

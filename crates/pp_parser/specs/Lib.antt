@@ -1,8 +1,9 @@
--- What the clauses of `site_main` rest on, and a reader has to believe: Definitions, Expressions, Inner, Input, Keys,
--- Kinds, Levels, Manifest, Params, Statements
--- What functions promise one another, what types keep, and what proofs read: Nests
+-- What the clauses of `site_main` rest on, and a reader has to believe: Definitions, Expressions, FunctionBodies,
+-- Inner, Input, Keys, Kinds, Levels, Manifest, Params, Statements, Templates
+-- What functions promise one another, what types keep, and what proofs read: Nests, TemplateLines
 pub mod Definitions
 pub mod Expressions
+pub mod FunctionBodies
 pub mod Inner
 pub mod Input
 pub mod Keys
@@ -12,3 +13,5 @@ pub mod Manifest
 pub mod Nests
 pub mod Params
 pub mod Statements
+pub mod TemplateLines
+pub mod Templates

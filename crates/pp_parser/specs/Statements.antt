@@ -368,7 +368,23 @@ module _ (inner : Inner) where
     first ← operand_rule
     chain_from at first
 
+  -- ---- in a template
+
+  -- what stands outside of its tags
+  abbrev pub emitted_text : Parser Read
+  emitted_text = (λ t. (statement.Emit t.text, None)) <$> take
+
+  -- `<%= value %>`
+  unfoldable pub emitted_value : Parser Read
+  emitted_value = do
+    take
+    x ← whole inner false false
+    expect k.TagEnd
+    pure (statement.EmitValue x, None)
+
   abbrev pub statement_by : Option Kind → Parser Read
+  statement_by (Some k.RenderString) = emitted_text
+  statement_by (Some k.RenderExpr) = emitted_value
   statement_by (Some k.StatementFunction) = taken_name >>= function
   statement_by (Some k.Type) = taken_name >>= typed
   statement_by _ = chain_here

@@ -4,9 +4,9 @@ ghost use Rattle.std.specs.Prelude.{◌≡◌, ◌+◌, length, true, Some, None
 ghost use Rattle.pp_parser.specs.Input as spec;
 ghost use Rattle.pp_parser.specs.Input.{Reads, Takes};
 ghost use Rattle.pp_parser.specs.Keys.{earlier_line};
-ghost use Rattle.pp_parser.specs.Kinds.{is_name, is_word, is_bar};
+ghost use Rattle.pp_parser.specs.Kinds.{is_name, is_word, is_bar, ends_params};
 
-use crate::kinds::{is_bar, is_name, is_word};
+use crate::kinds::{ends_params, is_bar, is_name, is_word};
 use crate::refusal::Refusal;
 use pp_lexer::kind::Kind;
 use pp_lexer::queue::Queue;
@@ -143,6 +143,17 @@ impl<'a> Cursor<'a> {
         ensures { Takes (spec.expect_any is_bar self.old) result self.new }
     {
         if !is_bar(self.peek()) {
+            return Err(self.refusal());
+        }
+        self.take()
+    }
+
+    /// A bar that may end the parameters of a template.
+    #[tactic(auto, unfolding(crate::specs::Input::expect_any))]
+    pub fn expect_params_end(&mut self) -> Result<Token<'a>, Refusal>
+        ensures { Takes (spec.expect_any ends_params self.old) result self.new }
+    {
+        if !ends_params(self.peek()) {
             return Err(self.refusal());
         }
         self.take()

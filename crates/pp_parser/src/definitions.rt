@@ -1,4 +1,4 @@
-//! Classes, defines and nodes.
+//! Classes, defines, functions and nodes.
 
 ghost use Rattle.pp_lexer.specs.declared.kind.Kind.TheVariants as k;
 ghost use Rattle.pp_parser.specs.Definitions as spec;
@@ -7,7 +7,7 @@ ghost use Rattle.pp_parser.specs.Inner.{param_in};
 ghost use Rattle.pp_parser.specs.Input.{Reads, separated_from, turns};
 ghost use Rattle.pp_parser.specs.Levels.{within};
 ghost use Rattle.pp_parser.specs.Nests.{Nests};
-ghost use Rattle.std.specs.Prelude.{◌≡◌, false};
+ghost use Rattle.std.specs.Prelude.{◌≡◌, IfOk, false};
 
 use crate::cursor::Cursor;
 use crate::inset::{Inset, InsetTree};
@@ -16,10 +16,12 @@ use crate::operands::{name_of, taken_name};
 use crate::refusal::Refusal;
 use crate::rules::Rules;
 use pp_lexer::kind::Kind;
-use pp_tree::definition::{Class, Define, Definition, Name, Node, NodeName};
+use pp_tree::definition::{Class, Define, Definition, Function, Name, Node, NodeName};
+use pp_tree::expr::{Args, Expr, Form, Postfix};
 use pp_tree::param::Params;
-use pp_values::Items;
+use pp_values::memory::Memory;
 use pp_values::text::Text;
+use pp_values::{Boxed, Items};
 use std::alloc::Global;
 
 /// `default` as a text is the word `default`.
@@ -29,8 +31,20 @@ fn node_name(text: Text) -> Option<Text>
     if text.is("default") { None } else { Some(text) }
 }
 
-impl<F: Fn(Global, &mut Cursor<'_>, usize, Inset) -> Result<InsetTree, Refusal>> Rules<F> {
-    /// The name of a class or a define.
+/// A type with arguments.
+fn applied_type(alloc: Global, kind: Name, args: Args) -> Result<Expr, Memory>
+    ensures { IfOk result (λ x. x ≡ spec.applied_type kind args) }
+{
+    let Name { text, at } = kind;
+    let mut postfixes = Items::new(alloc);
+    put(alloc, &mut postfixes, Postfix::Access(args), false)?;
+    let bare = Expr::new(alloc, at, Form::Type(text))?;
+    let form = Form::Postfix(Boxed::new(alloc, bare)?, postfixes);
+    Expr::new(alloc, at, form)
+}
+
+impl<F: Fn(Global, &mut Cursor<'_>, usize, Goal) -> Result<Part, Refusal>> Rules<F> {
+    /// The name of a class, a define or a function.
     #[tactic(auto, unfolding(crate::specs::Definitions::name_rule))]
     fn definition_name(&self, tokens: &mut Cursor<'_>) -> Result<Name, Refusal>
         ensures { Reads (spec.name_rule (within self.now.levels) tokens.old) result tokens.new }
@@ -127,6 +141,70 @@ impl<F: Fn(Global, &mut Cursor<'_>, usize, Inset) -> Result<InsetTree, Refusal>>
         Ok(Definition::Define(Define {
             name,
             params,
+            block,
+            at,
+        }))
+    }
+
+    /// Behind the name of a type: its arguments, where it has any.
+    #[tactic(auto, unfolding(crate::specs::Definitions::type_from))]
+    fn type_from(&self, tokens: &mut Cursor<'_>, kind: Name) -> Result<Expr, Refusal>
+        requires { Nests self.now.levels (F.pre self.now.inner) (F.post self.now.inner) }
+        ensures { Reads (spec.type_from (within self.now.levels) kind tokens.old) result tokens.new }
+    {
+        match tokens.peek() {
+            Some(Kind::TightBracket) => {
+                let args = self.access(tokens)?;
+                Ok(applied_type(self.alloc, kind, args)?)
+            }
+            _ => Ok(Expr::new(self.alloc, kind.at, Form::Type(kind.text))?),
+        }
+    }
+
+    /// Behind `>>`: the type of what a function gives.
+    #[tactic(auto, unfolding(crate::specs::Definitions::return_type))]
+    fn return_type(&self, tokens: &mut Cursor<'_>) -> Result<Expr, Refusal>
+        requires { Nests self.now.levels (F.pre self.now.inner) (F.post self.now.inner) }
+        ensures { Reads (spec.return_type (within self.now.levels) tokens.old) result tokens.new }
+    {
+        let token = tokens.expect(Kind::Type)?;
+        let kind = name_of(self.alloc, &token)?;
+        self.type_from(tokens, kind)
+    }
+
+    /// `>> type` or nothing
+    #[tactic(auto, unfolding(crate::specs::Definitions::optional_return))]
+    fn optional_return(&self, tokens: &mut Cursor<'_>) -> Result<Option<Expr>, Refusal>
+        requires { Nests self.now.levels (F.pre self.now.inner) (F.post self.now.inner) }
+        ensures { Reads (spec.optional_return (within self.now.levels) tokens.old) result tokens.new }
+    {
+        match tokens.peek() {
+            Some(Kind::Returns) => {
+                tokens.take()?;
+                Ok(Some(self.return_type(tokens)?))
+            }
+            _ => Ok(None),
+        }
+    }
+
+    /// Behind the word `function`.
+    #[tactic(auto, unfolding(crate::specs::Definitions::function_definition))]
+    pub fn function_definition(
+        &self,
+        tokens: &mut Cursor<'_>,
+        at: u32,
+    ) -> Result<Definition, Refusal>
+        requires { Nests self.now.levels (F.pre self.now.inner) (F.post self.now.inner) }
+        ensures { Reads (spec.function_definition (within self.now.levels) at tokens.old) result tokens.new }
+    {
+        let name = self.definition_name(tokens)?;
+        let params = self.optional_params(tokens)?;
+        let return_type = self.optional_return(tokens)?;
+        let block = self.function_block(tokens)?;
+        Ok(Definition::Function(Function {
+            name,
+            params,
+            return_type,
             block,
             at,
         }))

@@ -19,7 +19,7 @@ use pp_tree::resource::ResourceForm;
 use std::alloc::Global;
 
 /// Whether a file ends here.
-fn ends_file(pending: &Option<Name>, next: Option<Kind>) -> bool
+pub fn ends_file(pending: &Option<Name>, next: Option<Kind>) -> bool
     ensures { result ≡ spec.ends_file pending.now next }
 {
     match (pending, next) {
@@ -79,6 +79,11 @@ impl<F: Fn(Global, &mut Cursor<'_>, usize, Inset) -> Result<InsetTree, Refusal>>
                 let word = tokens.take()?;
                 Ok(Item::Definition(self.define(tokens, word.line())?))
             }
+            Some(Kind::Function) => {
+                let word = tokens.take()?;
+                let function = self.function_definition(tokens, word.line())?;
+                Ok(Item::Definition(function))
+            }
             Some(Kind::Node) => {
                 let word = tokens.take()?;
                 Ok(Item::Definition(self.node(tokens, word.line())?))
@@ -118,7 +123,7 @@ impl<F: Fn(Global, &mut Cursor<'_>, usize, Inset) -> Result<InsetTree, Refusal>>
         Err(tokens.refusal())
     }
 
-    /// A class or a define.
+    /// A class, a define or a function.
     #[tactic(auto, unfolding(crate::specs::Definitions::module_item))]
     fn module_item(&self, tokens: &mut Cursor<'_>) -> Result<Definition, Refusal>
         requires { Nests self.now.levels (F.pre self.now.inner) (F.post self.now.inner) }
@@ -133,11 +138,15 @@ impl<F: Fn(Global, &mut Cursor<'_>, usize, Inset) -> Result<InsetTree, Refusal>>
                 let word = tokens.take()?;
                 self.define(tokens, word.line())
             }
+            Some(Kind::Function) => {
+                let word = tokens.take()?;
+                self.function_definition(tokens, word.line())
+            }
             _ => Err(tokens.refusal()),
         }
     }
 
-    /// A module file: classes and defines, each with at most one `;` behind it.
+    /// A module file: classes, defines and functions, each with at most one `;` behind it.
     #[tactic(auto, using(crate::proofs::Loops::module_turn, crate::proofs::Loops::module_none), unfolding(crate::specs::Definitions::module_file))]
     pub fn module_file(&self, tokens: &mut Cursor<'_>) -> Result<Found, Refusal>
         requires { Nests self.now.levels (F.pre self.now.inner) (F.post self.now.inner) }

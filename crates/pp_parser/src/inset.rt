@@ -18,6 +18,8 @@ pub enum Inset {
     Param(bool),
     /// The statements of a block up to its end.
     Statements,
+    /// The statements of a function's body up to its end.
+    FunctionStatements,
     /// An option of a `case`.
     CaseOption,
     /// The query of a collector, or one in parentheses.

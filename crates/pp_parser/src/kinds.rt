@@ -88,6 +88,16 @@ pub fn is_bar(next: Option<Kind>) -> bool
     }
 }
 
+/// A bar that may end the parameters of a template.
+pub fn ends_params(next: Option<Kind>) -> bool
+    ensures { result ≡ spec.ends_params next }
+{
+    match next {
+        Some(Kind::Bar | Kind::LastBar | Kind::ParamsEnd) => true,
+        _ => false,
+    }
+}
+
 /// The end of the attributes of a resource's body.
 pub fn ends_body(next: Option<Kind>) -> bool
     ensures { result ≡ spec.ends_body next }

@@ -3,12 +3,14 @@
 ghost use Rattle.pp_parser.specs.Definitions as definitions;
 ghost use Rattle.pp_parser.specs.Input.{Reads};
 ghost use Rattle.pp_parser.specs.Levels.{within, part_by, max_levels};
+ghost use Rattle.pp_parser.specs.Templates as templates;
 
 use crate::cursor::Cursor;
 use crate::found::Found;
 use crate::inset::{Inset, InsetTree};
 use crate::refusal::Refusal;
 use crate::rules::Rules;
+use pp_tree::template::Template;
 use std::alloc::Global;
 
 /// As many levels may be open.
@@ -30,13 +32,14 @@ pub fn part(
         inner: part,
     };
     match goal {
-        Inset::Whole(bars) => rules.whole(tokens, bars, bars).map(InsetTree::Expr),
-        Inset::Operand(bars) => rules.operand(tokens, bars).map(InsetTree::Expr),
-        Inset::Interpolated => rules.interpolated(tokens).map(InsetTree::Expr),
-        Inset::Param(bars) => rules.param(tokens, bars).map(InsetTree::Param),
-        Inset::Statements => rules.statements(tokens).map(InsetTree::Block),
-        Inset::CaseOption => rules.case_option(tokens).map(InsetTree::CaseOption),
-        Inset::Query => rules.query(tokens).map(InsetTree::Query),
+        Goal::Whole(bars) => rules.whole(tokens, bars, bars).map(Part::Expr),
+        Goal::Operand(bars) => rules.operand(tokens, bars).map(Part::Expr),
+        Goal::Interpolated => rules.interpolated(tokens).map(Part::Expr),
+        Goal::Param(bars) => rules.param(tokens, bars).map(Part::Param),
+        Goal::Statements => rules.statements(tokens).map(Part::Block),
+        Goal::FunctionStatements => rules.function_statements(tokens).map(Part::Block),
+        Goal::CaseOption => rules.case_option(tokens).map(Part::CaseOption),
+        Goal::Query => rules.query(tokens).map(Part::Query),
     }
 }
 
@@ -52,7 +55,7 @@ pub fn main_manifest(alloc: Global, tokens: &mut Cursor<'_>) -> Result<Found, Re
     .main_manifest(tokens)
 }
 
-/// Classes and defines up to the end of the file.
+/// Classes, defines and functions up to the end of the file.
 pub fn module_file(alloc: Global, tokens: &mut Cursor<'_>) -> Result<Found, Refusal>
     ensures { Reads (definitions.module_file (within max_levels) tokens.old) result tokens.new }
 {
@@ -62,4 +65,16 @@ pub fn module_file(alloc: Global, tokens: &mut Cursor<'_>) -> Result<Found, Refu
         inner: part,
     }
     .module_file(tokens)
+}
+
+/// A template up to its end.
+pub fn template(alloc: Global, tokens: &mut Cursor<'_>) -> Result<Template, Refusal>
+    ensures { Reads (templates.template (within max_levels) tokens.old) result tokens.new }
+{
+    Rules {
+        alloc,
+        levels: MAX_LEVELS,
+        inner: part,
+    }
+    .template(tokens)
 }

@@ -11,6 +11,7 @@ pub mod cursor;
 pub mod definitions;
 pub mod files;
 pub mod found;
+pub mod function_bodies;
 pub mod functions;
 pub mod inset;
 pub mod item;
@@ -28,6 +29,9 @@ pub mod resources;
 pub mod rules;
 pub mod started;
 pub mod statements;
+pub mod template_reading;
+pub mod templates;
 pub mod texts;
 
 pub use manifest::parse;
+pub use template_reading::read_template;

@@ -37,7 +37,7 @@ fn read_file(alloc: Global, file: &Text, tokens: &mut Cursor<'_>) -> Result<Foun
     }
 }
 
-fn fault_at(alloc: Global, file: &Text, what: What, line: u32) -> Result<Fault, Memory>
+pub(crate) fn fault_at(alloc: Global, file: &Text, what: What, line: u32) -> Result<Fault, Memory>
     ensures { IfOk result (λ fault. fault ≡ manifest.fault_at file.now what line) }
 {
     let what = Kept::new(what);

@@ -148,6 +148,16 @@ impl<F: Fn(Global, &mut Cursor<'_>, usize, Inset) -> Result<InsetTree, Refusal>>
         block_of(tokens, part)
     }
 
+    /// The statements of a function's body.
+    #[tactic(auto, unfolding(crate::specs::Inner::function_statements_in))]
+    pub fn function_statements_in(&self, tokens: &mut Cursor<'_>) -> Result<Block, Refusal>
+        requires { Nests self.now.levels (F.pre self.now.inner) (F.post self.now.inner) }
+        ensures { Reads (spec.function_statements_in (within self.now.levels) tokens.old) result tokens.new }
+    {
+        let part = self.read(tokens, Goal::FunctionStatements)?;
+        block_of(tokens, part)
+    }
+
     /// An option of a `case`.
     #[tactic(auto, unfolding(crate::specs::Inner::case_option_in))]
     pub fn case_option_in(&self, tokens: &mut Cursor<'_>) -> Result<CaseOption, Refusal>

@@ -158,12 +158,34 @@ impl<F: Fn(Global, &mut Cursor<'_>, usize, Inset) -> Result<InsetTree, Refusal>>
         self.chain_from(tokens, at, first)
     }
 
+    /// In a template: text that stands outside of its tags.
+    fn emitted_text(&self, tokens: &mut Cursor<'_>) -> Result<Read, Refusal>
+        ensures { Reads (spec.emitted_text (within self.now.levels) tokens.old) result tokens.new }
+    {
+        let token = tokens.take()?;
+        Ok((Statement::Emit(token.text(self.alloc)?), None))
+    }
+
+    /// In a template: a value between `<%=` and the end of its tag.
+    #[tactic(auto, unfolding(crate::specs::Statements::emitted_value))]
+    fn emitted_value(&self, tokens: &mut Cursor<'_>) -> Result<Read, Refusal>
+        requires { Nests self.now.levels (F.pre self.now.inner) (F.post self.now.inner) }
+        ensures { Reads (spec.emitted_value (within self.now.levels) tokens.old) result tokens.new }
+    {
+        tokens.take()?;
+        let x = self.whole(tokens, false, false)?;
+        tokens.expect(Kind::TagEnd)?;
+        Ok((Statement::EmitValue(x), None))
+    }
+
     /// A statement of which nothing was taken yet.
     fn statement_here(&self, tokens: &mut Cursor<'_>) -> Result<Read, Refusal>
         requires { Nests self.now.levels (F.pre self.now.inner) (F.post self.now.inner) }
         ensures { Reads (spec.statement_from (within self.now.levels) None tokens.old) result tokens.new }
     {
         match tokens.peek() {
+            Some(Kind::RenderString) => self.emitted_text(tokens),
+            Some(Kind::RenderExpr) => self.emitted_value(tokens),
             Some(Kind::StatementFunction) => {
                 let name = taken_name(self.alloc, tokens)?;
                 self.function(tokens, name)

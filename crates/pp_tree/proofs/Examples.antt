@@ -1,16 +1,17 @@
 -- The definitions at worked examples.
-use Rattle.std.proofs.Common.{◌≡◌, false, [], ◌∷◌, Option, None, Some, Ok, Err, refl}
+use Rattle.std.proofs.Common.{◌≡◌, true, false, [], ◌∷◌, Option, None, Some, Ok, Err, refl}
 use Rattle.std.specs.Prelude.{codes, pos}
 use Rattle.std.specs.declared.cmp.Ordering.TheVariants.{Less, Equal, Greater}
 use Rattle.pp_tree.specs.declared.definition.Definition.TheVariants as d
 use Rattle.pp_tree.specs.declared.definition.Class.{Class}
 use Rattle.pp_tree.specs.declared.definition.Define.{Define}
+use Rattle.pp_tree.specs.declared.definition.Function.{Function}
 use Rattle.pp_tree.specs.declared.definition.Node.{Node}
 use Rattle.pp_tree.specs.declared.expr.Form.{Form}
 use Rattle.pp_tree.specs.declared.expr.Form.TheVariants as f
 use Rattle.pp_tree.specs.declared.table.DefinitionName.TheVariants as n
 use Rattle.pp_tree.specs.declared.table.TableStop.TheVariants.{Doubled}
-use Rattle.pp_tree.specs.Building.{expr_at, line_of, form_of, Text, name_at, class_of, define_of, node_of, node_name}
+use Rattle.pp_tree.specs.Building.{expr_at, line_of, form_of, Text, name_at, class_of, define_of, function_of, node_of, node_name}
 use Rattle.pp_tree.specs.Names.{without_front_colons, normal, same_name, name_cmp}
 use Rattle.pp_tree.specs.Tables.{table_of, table_from, all_rows, rows_of, place_of}
 
@@ -34,6 +35,18 @@ class_is_no_node = refl
 -- the names of nodes are as they are written
 nodes_keep_case : same_name (n.Node (Some (codes "A"))) (n.Node (Some (codes "a"))) ≡ false
 nodes_keep_case = refl
+
+-- a class and a function may have one name, and functions keep their case
+functions_apart : (same_name (n.Code (codes "a")) (n.Function (codes "a")) ≡ false)
+    × (same_name (n.Node (Some (codes "a"))) (n.Function (codes "a")) ≡ false)
+    × (same_name (n.Function (codes "aB")) (n.Function (codes "ab")) ≡ false)
+    × (same_name (n.Function (codes "aB")) (n.Function (codes "aB")) ≡ true)
+functions_apart = (refl, refl, refl, refl)
+
+functions_in_order : (name_cmp (n.Node (Some (codes "z"))) (n.Function (codes "a")) ≡ Less)
+    × (name_cmp (n.Function (codes "a")) (n.Code (codes "z")) ≡ Greater)
+    × (name_cmp (n.Function (codes "B")) (n.Function (codes "a")) ≡ Less)
+functions_in_order = (refl, refl, refl)
 
 -- classes and defines come before nodes, and `default` before the other nodes; letters by their bytes
 names_in_order : (name_cmp (n.Code (codes "z")) (n.Node None) ≡ Less) × (name_cmp (n.Node None) (n.Node (Some [])) ≡ Less)
@@ -92,6 +105,19 @@ doubled_code = refl
 doubled_in_node : table_of (d.Class class_a ∷ d.Node node_twice ∷ []) ≡ Err (Doubled 6)
 unfolding table_of table_from all_rows rows_of normal without_front_colons
 doubled_in_node = refl
+
+abbrev function_aB : Function
+function_aB = function_of (name_at (codes "::aB") 7) [] (Some (expr_at 7 (f.Type (codes "Integer")))) [] 7
+
+-- `class a {}` and `function ::aB() >> Integer {}`: the name keeps its letters
+with_function : table_of (d.Class class_a ∷ d.Function function_aB ∷ [])
+    ≡ Ok ((n.Code (codes "a"), d.Class class_a) ∷ (n.Function (codes "aB"), d.Function function_aB) ∷ [])
+unfolding table_of table_from all_rows rows_of normal without_front_colons
+with_function = refl
+
+doubled_function : table_of (d.Function function_aB ∷ d.Class class_a ∷ d.Function function_aB ∷ []) ≡ Err (Doubled 7)
+unfolding table_of table_from all_rows rows_of normal without_front_colons
+doubled_function = refl
 
 -- no definitions, no names; nothing for a node without a name
 empty_table : table_of (d.Node (node_of [] [] 1) ∷ d.SameNode None ∷ []) ≡ Ok []

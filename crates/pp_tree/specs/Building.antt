@@ -16,6 +16,7 @@ use Rattle.pp_tree.specs.declared.conditions.If.{If, roll-If}
 use Rattle.pp_tree.specs.declared.conditions.Unless.{Unless, roll-Unless}
 use Rattle.pp_tree.specs.declared.definition.Class.{Class}
 use Rattle.pp_tree.specs.declared.definition.Define.{Define}
+use Rattle.pp_tree.specs.declared.definition.Function.{Function}
 use Rattle.pp_tree.specs.declared.definition.Name.{Name}
 use Rattle.pp_tree.specs.declared.definition.Node.{Node}
 use Rattle.pp_tree.specs.declared.definition.NodeName.{NodeName}
@@ -42,6 +43,7 @@ use Rattle.pp_tree.specs.declared.statement.Link.{Link}
 use Rattle.pp_tree.specs.declared.statement.Operand.{Operand}
 use Rattle.pp_tree.specs.declared.statement.Statement.{Statement}
 use Rattle.pp_tree.specs.declared.statement.Words.{Words}
+use Rattle.pp_tree.specs.declared.template.Template.{Template}
 
 -- a text is seen as its bytes, and a block as its statements
 abbrev pub Text : Type 0
@@ -153,8 +155,15 @@ class_of name params inherits block at =
 abbrev pub define_of : Name → List (Param Expr) → Block → ℕ → Define
 define_of name params block at = record { name = name; params = params; block = block; at = at }
 
+abbrev pub function_of : Name → List (Param Expr) → Option Expr → Block → ℕ → Function
+function_of name params type block at = record { name = name; params = params; return_type = type; block = block; at = at }
+
 abbrev pub node_of : List NodeName → Block → ℕ → Node
 node_of names block at = record { names = names; block = block; at = at }
 
 abbrev pub node_name : Option Text → ℕ → NodeName
 node_name name at = record { name = name; at = at }
+
+-- templates
+abbrev pub template_of : Option (List (Param Expr)) → Block → Template
+template_of params block = record { params = params; block = block }

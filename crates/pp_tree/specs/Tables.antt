@@ -13,7 +13,7 @@ use Rattle.pp_tree.specs.declared.table.DefinitionName.{DefinitionName}
 use Rattle.pp_tree.specs.declared.table.DefinitionName.TheVariants as n
 use Rattle.pp_tree.specs.declared.table.TableStop.{TableStop}
 use Rattle.pp_tree.specs.declared.table.TableStop.TheVariants.{Doubled, Memory}
-use Rattle.pp_tree.specs.Names.{normal, same_name, name_cmp}
+use Rattle.pp_tree.specs.Names.{normal, same_name, name_cmp, without_front_colons}
 
 -- a table is seen as its names and definitions, in the order in which they were put in
 abbrev pub Entries : Type 0
@@ -44,6 +44,7 @@ node_rows node (first ∷ more) = row (n.Node first.name) (d.Node node) first.at
 unfoldable pub rows_of : Definition → List Row
 rows_of (d.Class c) = row (n.Code (normal c.name.text)) (d.Class c) c.name.at ∷ []
 rows_of (d.Define f) = row (n.Code (normal f.name.text)) (d.Define f) f.name.at ∷ []
+rows_of (d.Function f) = row (n.Function (without_front_colons f.name.text)) (d.Function f) f.name.at ∷ []
 rows_of (d.Node node) = node_rows node node.names
 rows_of (d.SameNode first) = []
 

@@ -1,9 +1,10 @@
+use crate::expr::Expr;
 use crate::param::Params;
 use crate::statement::Block;
 use pp_values::Items;
 use pp_values::text::Text;
 
-/// The name of a class or a define, as it is written, and its line.
+/// The name of a class, a define or a function, as it is written, and its line.
 #[derive(Drop)]
 pub struct Name {
     pub text: Text,
@@ -29,6 +30,16 @@ pub struct Define {
     pub at: u32,
 }
 
+/// `function f(Integer $n) >> Integer { $n * 2 }`. The type of what it gives stands behind `>>`.
+#[derive(Drop)]
+pub struct Function {
+    pub name: Name,
+    pub params: Params,
+    pub return_type: Option<Expr>,
+    pub block: Block,
+    pub at: u32,
+}
+
 /// `node 'a', default { }`
 #[derive(Drop)]
 pub struct Node {
@@ -49,6 +60,7 @@ pub struct NodeName {
 pub enum Definition {
     Class(Class),
     Define(Define),
+    Function(Function),
     Node(Node),
     /// In a table alone: a further name of the node definition that stands under this first name.
     SameNode(Option<Text>),

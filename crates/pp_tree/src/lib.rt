@@ -13,10 +13,11 @@ pub mod resource;
 pub mod rows;
 pub mod statement;
 pub mod table;
+pub mod template;
 
 pub use collector::{Collector, Comparison, Conjunction, Query, Test};
 pub use conditions::{Case, CaseOption, Elsif, If, Unless};
-pub use definition::{Class, Define, Definition, Name, Node, NodeName};
+pub use definition::{Class, Define, Definition, Function, Name, Node, NodeName};
 pub use expr::{Args, Call, Expr, Form, Lambda, Operation, Pair, Piece, Postfix};
 pub use file::File;
 pub use manifest_file::ManifestFile;
@@ -28,3 +29,4 @@ pub use resource::{
 };
 pub use statement::{Arrow, Block, Chain, Link, Operand, Statement, Words};
 pub use table::{DefinitionName, Table, TableStop, table_of};
+pub use template::Template;

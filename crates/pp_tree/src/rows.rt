@@ -1,6 +1,6 @@
 //! What the definitions of a file put into its table.
 ghost use Rattle.std.specs.Prelude.{◌≡◌, [], ◌∷◌, ◌++◌, IfOk, OnOk, map, reverse};
-ghost use Rattle.pp_tree.specs.declared.definition.Definition.TheVariants.{Class, Define, Node, SameNode};
+ghost use Rattle.pp_tree.specs.declared.definition.Definition.TheVariants.{Class, Define, Function, Node, SameNode};
 ghost use Rattle.pp_tree.specs.Tables.{rows_of, all_rows, node_rows, further_row};
 
 use crate::definition::{Definition, Node, NodeName};
@@ -64,6 +64,16 @@ fn put_rows(alloc: Global, rows: &mut Vec<Row>, definition: Definition) -> Resul
             rows.push(Row {
                 name,
                 definition: Definition::Define(define),
+                at,
+            })?;
+            Ok(())
+        }
+        Definition::Function(function) => {
+            let name = DefinitionName::function(alloc, &function.name.text)?;
+            let at = function.name.at;
+            rows.push(Row {
+                name,
+                definition: Definition::Function(function),
                 at,
             })?;
             Ok(())

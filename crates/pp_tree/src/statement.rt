@@ -13,6 +13,10 @@ pub type Block = Items<Statement>;
 pub enum Statement {
     Chain(Chain<Operand>),
     Words(Boxed<Words<Expr>>),
+    /// In a template alone: text that stands outside of its tags, and is emitted.
+    Emit(Text),
+    /// In a template alone: `<%= $a %>`, whose value is emitted.
+    EmitValue(Expr),
 }
 
 /// Operands with arrows between them: `A['x'] -> B['y']`. An operand alone is a chain without links.

@@ -3,7 +3,7 @@ ghost use Rattle.std.specs.Prelude.{◌≡◌, [], ◌∷◌, ◌++◌, ◌↔�
 ghost use Rattle.std.specs.Option.{option_copied, option_map};
 ghost use Rattle.std.specs.Map.{lookup};
 ghost use Rattle.std.specs.Map.Iter.{deref_pair};
-ghost use Rattle.pp_tree.specs.declared.table.DefinitionName.TheVariants.{Code};
+ghost use Rattle.pp_tree.specs.declared.table.DefinitionName.TheVariants.{Code, Function};
 ghost use Rattle.pp_tree.specs.Names.{normal, same_name, without_front_colons};
 ghost use Rattle.pp_tree.specs.Tables.{table_of, table_from, doubled_told};
 ghost use Rattle.pp_values.specs.Answers.{AnswersBy};
@@ -25,6 +25,8 @@ pub enum DefinitionName {
     Code(Text),
     /// Of a node, as it is written, or none for `default`.
     Node(Option<Text>),
+    /// Of a function: without a leading `::`, with its letters as they are written.
+    Function(Text),
 }
 
 impl DefinitionName {
@@ -38,12 +40,21 @@ impl DefinitionName {
         Ok(DefinitionName::Code(Text::new(name)))
     }
 
+    /// The name under which a function of this written name stands.
+    pub fn function(alloc: Global, written: &Text) -> Result<DefinitionName, Memory>
+        ensures { IfOk result (λ name. name ≡ Function (without_front_colons written.now)) }
+    {
+        let name = Text::from_str(alloc, without_front_colons(written.as_str()))?;
+        Ok(DefinitionName::Function(name))
+    }
+
     pub fn copy(&self, alloc: Global) -> Result<DefinitionName, Memory>
         ensures { IfOk result (λ name. name ≡ self.now) }
     {
         match self {
             DefinitionName::Code(text) => Ok(DefinitionName::Code(text.copy(alloc)?)),
             DefinitionName::Node(name) => Ok(DefinitionName::Node(copy_name(alloc, name)?)),
+            DefinitionName::Function(text) => Ok(DefinitionName::Function(text.copy(alloc)?)),
         }
     }
 }
@@ -83,6 +94,7 @@ impl PartialEq for DefinitionName {
             (DefinitionName::Code(a), DefinitionName::Code(b)) => a == b,
             (DefinitionName::Node(None), DefinitionName::Node(None)) => true,
             (DefinitionName::Node(Some(a)), DefinitionName::Node(Some(b))) => a == b,
+            (DefinitionName::Function(a), DefinitionName::Function(b)) => a == b,
             _ => false,
         }
     }
@@ -130,6 +142,11 @@ impl Ord for DefinitionName {
             (DefinitionName::Node(None), DefinitionName::Node(Some(_))) => Ordering::Less,
             (DefinitionName::Node(Some(_)), DefinitionName::Node(None)) => Ordering::Greater,
             (DefinitionName::Node(Some(a)), DefinitionName::Node(Some(b))) => a.cmp(b),
+            (DefinitionName::Code(_), DefinitionName::Function(_)) => Ordering::Less,
+            (DefinitionName::Node(_), DefinitionName::Function(_)) => Ordering::Less,
+            (DefinitionName::Function(_), DefinitionName::Code(_)) => Ordering::Greater,
+            (DefinitionName::Function(_), DefinitionName::Node(_)) => Ordering::Greater,
+            (DefinitionName::Function(a), DefinitionName::Function(b)) => a.cmp(b),
         }
     }
 }
@@ -244,10 +261,12 @@ impl Table {
     }
 }
 
-/// The table of these definitions, in their order: each class and define under its name, each node under its first name,
-/// and what that was under each further one. A node without a name, and what is no definition as written, is left out.
+/// The table of these definitions, in their order: each class, define and function under its name, each node under its
+/// first name, and what that was under each further one. A node without a name, and what is no definition as written, is
+/// left out.
 ///
-/// `Doubled` where a name comes a second time. Classes and defines share their names, and nodes have their own.
+/// `Doubled` where a name comes a second time. Classes and defines share their names; functions have their own, and so
+/// have nodes.
 #[tactic(auto, unfolding(crate::specs::Tables::table_of, crate::specs::Tables::table_from), using(crate::proofs::TableLemmas::row_doubled, crate::proofs::TableLemmas::row_put))]
 pub fn table_of(alloc: Global, definitions: Items<Definition>) -> Result<Table, TableStop>
     ensures { AnswersBy doubled_told result (table_of definitions) }

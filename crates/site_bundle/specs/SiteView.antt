@@ -3,7 +3,7 @@ use Rattle.std.specs.Prelude.{◌≡◌, ℕ, Bool, not, List, [], ◌∷◌, fi
 use Rattle.std.specs.Coded.{Coded, code_by, coded×, coded_list}
 use Rattle.std.specs.FinMap.{find, put, is_sorted}
 use Rattle.std.specs.List.{list_all}
-use Rattle.std.specs.Option.{unwrap_or}
+use Rattle.std.specs.Option.{option_or, unwrap_or}
 use Rattle.pp_values.specs.Datum.{Datum}
 use Rattle.pp_values.specs.Codes.{coded_text, coded_datum}
 use Rattle.pp_values.specs.Facts.{are_facts}
@@ -28,6 +28,10 @@ pub record SiteView : Type 0 where
 -- the text at a path, if a manifest stands there
 abbrev pub text_at : SiteView → List ℕ → Option (List ℕ)
 text_at s path = find text_cmp path s.manifests
+
+-- the text of the file at a path, a manifest or another one: none exactly where the site has no such file
+abbrev pub file_in : SiteView → List ℕ → Option (List ℕ)
+file_in s path = option_or (text_at s path) (find text_cmp path s.data)
 
 -- the text of the main manifest; each site has one
 abbrev pub main_text : SiteView → List ℕ

@@ -1,6 +1,7 @@
 //! Sites.
 ghost use Rattle.std.specs.Prelude.{◌≡◌, ◌+◌, ◌^◌, ◌<◌, [], ◌∷◌, length, IsSome, IsTrue, IfOk, IfSome, option_map};
 ghost use Rattle.std.specs.FinMap.{find};
+ghost use Rattle.std.specs.Option.{option_copied};
 ghost use Rattle.pp_values.specs.Rising.{text_cmp};
 ghost use Rattle.pp_parser.specs.Manifest.{file_of};
 ghost use Rattle.pp_values.specs.Facts.{are_facts};
@@ -8,7 +9,7 @@ ghost use Rattle.pp_values.specs.Views.{view};
 ghost use Rattle.pp_values.specs.declared.place.TheConstants.{MAIN_MANIFEST};
 ghost use Rattle.site_bundle.specs.Given.{are_distinct, has_main, are_short};
 ghost use Rattle.site_bundle.specs.Keeping.{kept};
-ghost use Rattle.site_bundle.specs.SiteView.{facts_for, main_text, have_facts, put_in, site_of};
+ghost use Rattle.site_bundle.specs.SiteView.{facts_for, file_in, main_text, have_facts, put_in, site_of};
 
 use crate::kept_files::KeptFiles;
 use crate::listed_nodes::ListedNodes;
@@ -98,6 +99,25 @@ pub fn data_of(site: &Site) -> &SiteData
     ensures { result.now ≡ site.now.data }
 {
     &site.data
+}
+
+/// The text of the file at this path, a manifest or another one, where the site has such a file.
+pub fn file_text<'a>(site: &'a Site, path: &Text) -> Option<&'a Text>
+    ensures { option_copied result ≡ file_in site.now path.now }
+{
+    match site.manifests.get(path) {
+        Some(file) => Some(&file.text),
+        None => other_text(&site.data, path),
+    }
+}
+
+fn other_text<'a>(files: &'a SiteData, path: &Text) -> Option<&'a Text>
+    ensures { option_copied result ≡ find text_cmp path.now files.now }
+{
+    match files.get(path) {
+        Some(file) => Some(&file.text),
+        None => None,
+    }
 }
 
 /// The site of these files and nodes. Each file is read here.

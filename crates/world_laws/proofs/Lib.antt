@@ -9,6 +9,8 @@ mod OfForms
 mod OfClasses
 mod OfLines
 mod OfCollectors
+mod OfFunctions
+mod OfTemplates
 mod OfCalls
 mod OfResources
 mod OfOverrides

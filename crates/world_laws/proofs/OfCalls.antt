@@ -1,6 +1,6 @@
 -- Calls, lambdas, and the functions that take them.
 use Rattle.std.proofs.Common.{ℕ, ◌≤◌, Bool, true, false, List, [], ◌∷◌, length, Option, None, Some, Ok, Err}
-use Rattle.std.proofs.Common.{option_map, arith}
+use Rattle.std.proofs.Common.{option_map}
 use Rattle.std.specs.Prelude.{codes}
 use Rattle.std.specs.Str.{bytes_eq}
 use Rattle.hiera_merge.specs.declared.merge.Merge.{Merge}
@@ -28,23 +28,26 @@ use Rattle.eval_world.specs.declared.here.Here.{Here}
 use Rattle.eval_world.specs.declared.world.World.{World}
 use Rattle.eval_classes.specs.Included.{including_of}
 use Rattle.eval_classes.specs.declared.including.Including.{Including}
-use Rattle.eval_calls.specs.Calls.{log_rule, data_rule, site_by, site_rule, without_lambda_by, evaluated_rule}
-use Rattle.eval_calls.specs.Calls.{plain_rule, stray_lambda_rule, with_lambda_by, with_lambda_rule, called, invoked}
-use Rattle.eval_calls.specs.Calls.{call_rule, invoked_on, method_rule, words_rule}
-use Rattle.eval_calls.specs.Iterating.{turns_from, over_rule, iterate_rule, reduce_from, reduced, reduce_rule}
-use Rattle.eval_calls.specs.Iterating.{with_rule, lambda_function_rule}
+use Rattle.eval_calls.specs.Calls.{log_rule, data_rule, template_or_data, site_by, site_rule, without_lambda_by}
+use Rattle.eval_calls.specs.Calls.{evaluated_rule, other_rule, plain_rule}
+use Rattle.eval_calls.specs.Calls.{stray_lambda_rule, with_lambda_by, with_lambda_rule, called, invoked, call_rule}
+use Rattle.eval_calls.specs.Calls.{invoked_on, method_rule, words_rule}
+use Rattle.eval_calls.specs.Iterating.{turns_from, over_rule, iterate_rule, reduce_from, reduced, reduce_rule, with_rule}
+use Rattle.eval_calls.specs.Iterating.{lambda_function_rule}
 use Rattle.eval_calls.specs.Lambdas.{Opened, opened, typed, bind_rule, bind_from, lambda_rule}
 use Rattle.eval_calls.specs.LookUps.{Request, request_of, or_next, first_found, default_or_fault, found_or, found_rule}
 use Rattle.eval_calls.specs.LookUps.{fitting, of_type, lookup_by, lookup_rule}
-use Rattle.eval_calls.specs.Names.{is_function, is_log}
+use Rattle.eval_calls.specs.Names.{is_computed, is_function, is_log}
 use Rattle.eval_calls.specs.Realizing.{references_asked, realize_from, realize_all, realized_by, realized}
 use Rattle.world_laws.specs.Extends.{Extends}
 use Rattle.world_laws.specs.Growing.{Reaches, Grows, GrowsInner}
 use Rattle.world_laws.proofs.OfClasses.{included_grows, type_grows}
 use Rattle.world_laws.proofs.OfCollectors.{realize_grows}
+use Rattle.world_laws.proofs.OfFunctions.{defined_grows, lambda_refused_grows}
 use Rattle.world_laws.proofs.OfWorld.{assign_grows, log_grows, look_up_grows, values_grow}
-use Rattle.world_laws.proofs.Steps.{and_then, pure_grows, answer_grows, fault_grows, either, told}
-use Rattle.world_laws.proofs.Worlds.{extends_on, scope_entered, left_again}
+use Rattle.world_laws.proofs.OfTemplates.{epp_grows, inline_grows}
+use Rattle.world_laws.proofs.Steps.{and_then, pure_grows, answer_grows, fault_grows, either, told, ends, not_less}
+use Rattle.world_laws.proofs.Worlds.{extends_on, scope_entered}
 
 -- ---- lambdas
 
@@ -144,15 +147,6 @@ own_of here w = record { scope = record { number = length w.scopes.scopes }; own
 abbrev entered_by : Here → World → World
 entered_by here w = record w { scopes = scopes.entered kind.Lambda here.scope.number w.scopes }
 
--- what is done in a scope that was not there before, and ends then
-ends : (w v : World) (own : Here) (o : Outcome Datum) → Extends w v → length w.scopes.scopes ≤ own.scope.number →
-    Reaches v o → Reaches w (go_on o (λ d. leave own >> pure d))
-ends w v own (Ok p) f past r = left_again w p.1 own.scope.number past (extends_on w v p.1 f r)
-ends w v own (Err e) f past r = tt
-
-not_less : (n : ℕ) → n ≤ n
-not_less n = omega arith
-
 module _ (inner : Inner) (g : GrowsInner inner) where
   block_ends : (w v : World) (own : Here) (b : List Statement) (line : ℕ) (o : Outcome (Unit {0})) → Extends w v →
       length w.scopes.scopes ≤ own.scope.number → Reaches v o →
@@ -230,10 +224,18 @@ module _ (inner : Inner) (g : GrowsInner inner) where
   unfolding log_rule
   log_rule_grows f arguments = and_then (log_grows f _) (λ u. pure_grows)
 
+  template_or_data_grows : (f : List ℕ) (arguments : List Datum) (line : ℕ) (here : Here) →
+      Grows (template_or_data inner f arguments line here)
+  unfolding template_or_data
+  template_or_data_grows f arguments line here =
+      either (bytes_eq f (codes "epp")) (epp_grows inner g f arguments line here)
+      (either (bytes_eq f (codes "inline_epp")) (inline_grows inner g f arguments line here)
+      (data_grows f arguments line here))
+
   site_by_grows : (i : Option Including) (f : List ℕ) (arguments : List Datum) (line : ℕ) (here : Here) →
       Grows (site_by inner i f arguments line here)
   site_by_grows (Some i) f arguments line here = included_grows inner g i f arguments line here
-  site_by_grows None f arguments line here = data_grows f arguments line here
+  site_by_grows None f arguments line here = template_or_data_grows f arguments line here
 
   site_grows : (f : List ℕ) (arguments : List Datum) (line : ℕ) (here : Here) →
       Grows (site_rule inner f arguments line here)
@@ -251,17 +253,23 @@ module _ (inner : Inner) (g : GrowsInner inner) where
   evaluated_grows f arguments line here = either (is_log f) (log_rule_grows f arguments)
       (without_lambda_grows (lambda_function f) f arguments line here)
 
+  other_grows : (f : List ℕ) (arguments : List Datum) (line : ℕ) (here : Here) →
+      Grows (other_rule inner f arguments line here)
+  unfolding other_rule
+  other_grows f arguments line here =
+      either (is_computed f) (answer_grows _) (defined_grows inner g f arguments line here)
+
   plain_grows : (f : List ℕ) (arguments : List Datum) (line : ℕ) (here : Here) →
       Grows (plain_rule inner f arguments line here)
   unfolding plain_rule
   plain_grows f arguments line here =
-      either (needs_evaluator f) (evaluated_grows f arguments line here) (answer_grows _)
+      either (needs_evaluator f) (evaluated_grows f arguments line here) (other_grows f arguments line here)
 
   -- ---- with a lambda
 
   stray_grows : (f : List ℕ) (line : ℕ) (here : Here) → Grows (stray_lambda_rule f line here)
   unfolding stray_lambda_rule
-  stray_grows f line here = either (is_function f) (fault_grows _) (fault_grows _)
+  stray_grows f line here = either (is_function f) (fault_grows _) (lambda_refused_grows f line here)
 
   with_lambda_by_grows : (o : Option LambdaFunction) (f : List ℕ) (l : Opened) (arguments : List Datum) (line : ℕ)
       (here : Here) → Grows (with_lambda_by inner o f l arguments line here)

@@ -270,7 +270,7 @@ module _ (inner : Inner) (g : GrowsInner inner) where
   unfolding has_type
   type_grows kind value own = and_then (g.value kind _) (λ of_kind. answer_grows _)
 
-  typed_grows : (kind : Option Expr) (v : Datum) (x : List ℕ) (at : Place) (own : Here) →
+  pub typed_grows : (kind : Option Expr) (v : Datum) (x : List ℕ) (at : Place) (own : Here) →
       Grows (typed inner kind v x at own)
   typed_grows None v x at own = pure_grows
   typed_grows (Some kind) v x at own = and_then (type_grows kind v own) (λ fits. answer_grows _)

@@ -14,11 +14,13 @@ use Rattle.pp_tree.specs.declared.statement.Chain.{Chain}
 use Rattle.pp_tree.specs.declared.statement.Link.{Link}
 use Rattle.pp_tree.specs.declared.statement.Operand.{Operand, out-Operand}
 use Rattle.pp_tree.specs.declared.statement.Statement.{Statement, out-Statement}
+use Rattle.pp_tree.specs.declared.template.Template.{Template}
 use Rattle.pp_types.specs.Names.{bare_name, data_type_named}
 use Rattle.pp_types.specs.declared.data_type.DataType.{DataType}
 use Rattle.pp_values.specs.Datum as datum
 use Rattle.pp_values.specs.Datum.{Datum}
 use Rattle.pp_values.specs.Settings.{Setting}
+use Rattle.pp_values.specs.TextOf.{text_of}
 use Rattle.pp_values.specs.declared.place.Place.{Place}
 use Rattle.scope_core.specs.declared.scope_kind.ScopeKind.TheVariants as kind
 use Rattle.eval_world.specs.Inner.{Inner}
@@ -26,12 +28,12 @@ use Rattle.eval_world.specs.Outcomes.{Step}
 use Rattle.eval_world.specs.Worlds.{top}
 use Rattle.eval_world.specs.declared.here.Here.{Here}
 use Rattle.class_eval.specs.Evaluating.{at_depth, value_at, block_at, node_of, has_nodes, node_owner, node_rule, chosen}
-use Rattle.class_eval.specs.Evaluating.{nodes_by, nodes_rule, main_rule, class_number, class_given, class_within}
-use Rattle.class_eval.specs.Evaluating.{class_at, instance_at}
+use Rattle.class_eval.specs.Evaluating.{nodes_by, nodes_rule, main_rule, class_number, class_given, class_within, class_at}
+use Rattle.class_eval.specs.Evaluating.{instance_at, render_at}
 use Rattle.class_eval.specs.Meaning.{value_by, value_rule, deep, one_more, within}
 use Rattle.class_eval.specs.Postfixes.{PostfixLayer, postfix_by, postfix_rule, postfixes_from, postfixed_rule}
-use Rattle.class_eval.specs.Statements.{valued, unvalued, operand_by, operand_rule, chained_by, chain_rule}
-use Rattle.class_eval.specs.Statements.{statement_by, statement_rule, or_before, statements_from}
+use Rattle.class_eval.specs.Statements.{valued, unvalued, operand_by, operand_rule, chained_by, chain_rule, statement_by}
+use Rattle.class_eval.specs.Statements.{emitted_value, statement_rule, or_before, statements_from}
 use Rattle.class_eval.specs.TypeNames.{there_by, named_by, type_named_rule}
 use Rattle.world_laws.specs.Growing.{Grows, GrowsInner}
 use Rattle.world_laws.proofs.OfCalls.{call_grows, method_grows, words_grow}
@@ -44,7 +46,8 @@ use Rattle.world_laws.proofs.OfForms.{accessed_grows}
 use Rattle.world_laws.proofs.OfCollectors.{collector_grows}
 use Rattle.world_laws.proofs.OfOverrides.{override_grows, defaults_grow, target_grows}
 use Rattle.world_laws.proofs.OfResources.{resource_grows}
-use Rattle.world_laws.proofs.OfWorld.{read_grows}
+use Rattle.world_laws.proofs.OfTemplates.{rendered_grows, template_grows}
+use Rattle.world_laws.proofs.OfWorld.{emit_grows, read_grows}
 use Rattle.world_laws.proofs.Steps.{and_then, pure_grows, answer_grows, fault_grows}
 use Rattle.world_laws.proofs.Worlds.{same_world}
 
@@ -115,9 +118,14 @@ module _ (inner : Inner) (g : GrowsInner inner) where
   unfolding chain_rule
   chain_grows c here = chained_grows c.first c.links c.at here
 
+  emitted_grows : (e : Expr) (here : Here) → Grows (emitted_value inner e here)
+  emitted_grows e here = and_then (g.value e here) (λ v. emit_grows (text_of v))
+
   statement_by_grows : (s : StatementLayer) (here : Here) → Grows (statement_by inner s here)
   statement_by_grows (Statement-F.Chain c) here = chain_grows c here
   statement_by_grows (Statement-F.Words x) here = valued_grows (inner.words x here) (g.words x here)
+  statement_by_grows (Statement-F.Emit t) here = unvalued_grows _ (emit_grows t)
+  statement_by_grows (Statement-F.EmitValue e) here = unvalued_grows _ (emitted_grows e here)
 
   statement_grows : (s : Statement) (here : Here) → Grows (statement_rule inner s here)
   unfolding statement_rule
@@ -166,6 +174,7 @@ module _ (inner : Inner) (g : GrowsInner inner) where
     target = target_grows inner g;
     class = class_grows inner g;
     instance = instance_grows inner g;
+    template = template_grows inner g (λ b own. statements_grow datum.undef b own);
   }
 
   -- ---- a class that is declared from without
@@ -195,6 +204,7 @@ deep_grows = record {
   target = λ r here. fault_grows _;
   class = λ n line here. fault_grows _;
   instance = λ n line here. fault_grows _;
+  template = λ r here. fault_grows _;
 }
 
 pub within_grows : (levels : ℕ) → GrowsInner (within levels)
@@ -241,3 +251,7 @@ class_at_grows x given at here depth = class_within_grows (at_depth depth) (at_d
 
 pub instance_at_grows : (number depth : ℕ) → Grows (instance_at number depth)
 instance_at_grows number depth = run_grows (at_depth depth) (at_depth_grows depth) number
+
+pub render_at_grows : (t : Template) (here : Here) (depth : ℕ) → Grows (render_at t here depth)
+render_at_grows t here depth = rendered_grows (at_depth depth) t.block here
+    (statements_grow (at_depth depth) (at_depth_grows depth) datum.undef t.block here)

@@ -1,6 +1,6 @@
 -- The steps over one table of the world, and arguments.
 use Rattle.std.proofs.Common.{◌≡◌, ℕ, Bool, true, false, cond, List, [], ◌∷◌, Option, None, Some, Result, Ok, Err}
-use Rattle.std.proofs.Common.{refl, ◌||◌, ◌&&◌, is_some}
+use Rattle.std.proofs.Common.{refl, ◌||◌, ◌&&◌, is_some, ◌++◌}
 use Rattle.hiera_merge.specs.declared.merge.Merge.{Merge}
 use Rattle.pp_tree.specs.declared.expr.Expr.{Expr}
 use Rattle.pp_values.specs.Datum.{Datum}
@@ -20,7 +20,7 @@ use Rattle.eval_world.specs.Arguments.{argument_rule, values_from}
 use Rattle.eval_world.specs.Data.{look_up}
 use Rattle.eval_world.specs.Inner.{Inner}
 use Rattle.eval_world.specs.Owners.{owner_at}
-use Rattle.eval_world.specs.Worlds.{read, with_scopes, assign, write_log, place_at, with_book, put}
+use Rattle.eval_world.specs.Worlds.{read, with_scopes, assign, assign_at, emit, write_log, place_at, with_book, put}
 use Rattle.eval_world.specs.declared.here.Here.{Here}
 use Rattle.eval_world.specs.declared.world.World.{World}
 use Rattle.world_laws.specs.Extends.{IsOpened, IsPlaced}
@@ -29,7 +29,7 @@ use Rattle.world_laws.proofs.Lists.{name_set}
 use Rattle.world_laws.proofs.Marks.{marks-declared}
 use Rattle.world_laws.proofs.Placing.{declared_placed, owner_opened}
 use Rattle.world_laws.proofs.Steps.{and_then, pure_grows, answer_grows}
-use Rattle.world_laws.proofs.Worlds.{scopes_kept, book_grows, log_goes_on}
+use Rattle.world_laws.proofs.Worlds.{scopes_kept, book_grows, log_goes_on, rendered_changes}
 
 -- ---- variables
 
@@ -55,6 +55,19 @@ assign_grows here x d line = record {
   reaches = λ w. assigned w here.scope.number x d (faults.fault (place_at w here line) (what.Reassigned x))
       (is_set here.scope.number x w.scopes) refl;
 }
+
+pub assign_at_grows : (here : Here) (x : List ℕ) (d : Datum) (at : Place) → Grows (assign_at here x d at)
+unfolding assign_at scopes.assign
+assign_at_grows here x d at = record {
+  reaches = λ w. assigned w here.scope.number x d (faults.fault at (what.Reassigned x))
+      (is_set here.scope.number x w.scopes) refl;
+}
+
+-- ---- what a template emits
+
+pub emit_grows : (t : List ℕ) → Grows (emit t)
+unfolding emit
+emit_grows t = record { reaches = λ w. rendered_changes w (w.rendered ++ t) }
 
 -- ---- the log, and the data
 

@@ -18,7 +18,7 @@ use Rattle.res_book.specs.declared.mode.Mode.{Mode}
 use Rattle.res_book.specs.declared.row.Row.{Row}
 use Rattle.pp_values.specs.declared.reference.Reference.{Reference}
 use Rattle.res_core.specs.declared.declared.Declared.{Declared}
-use Rattle.eval_world.specs.Owners.{Owners, owner_at, with_owner}
+use Rattle.eval_world.specs.Owners.{Owners, inline_owner, owner_at, owner_of_file, with_file, with_inline, with_owner}
 use Rattle.eval_world.specs.declared.owner.Owner.{Owner}
 use Rattle.world_laws.specs.Extends.{IsOpened, ArePlaced}
 
@@ -141,6 +141,32 @@ module _ (s : State) (owners : Owners) (book : List Row) (placed : ArePlaced s o
     itself : {A : Type 0} (o : Option A) → option_map (λ y. y) o ≡ o
     itself None = refl
     itself (Some y) = refl
+
+  -- the owner more of what stands in top scope in this file
+  pub file_placed : (file : List ℕ) → ArePlaced s (with_file file owners) book
+  file_placed file = record {
+    nested = more.nested;
+    top = more.top;
+    main = more.main;
+    others = more.others;
+    items = more.items;
+    apart = more.apart;
+  } where
+    more : ArePlaced s (with_owner (owner_of_file file owners) owners) book
+    more = owner_placed (owner_of_file file owners) placed.main
+
+  -- the owner more of the texts that the code of this owner renders
+  pub inline_placed : (number : ℕ) → ArePlaced s (with_inline number owners) book
+  inline_placed number = record {
+    nested = more.nested;
+    top = more.top;
+    main = more.main;
+    others = more.others;
+    items = more.items;
+    apart = more.apart;
+  } where
+    more : ArePlaced s (with_owner (inline_owner number owners) owners) book
+    more = owner_placed (inline_owner number owners) (owner_opened number)
 
   -- one scope more, and its owner
   pub body_placed : (x : Owner) (parent : Option ℕ) → IsWithin s.scopes parent →

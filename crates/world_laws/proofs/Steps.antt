@@ -1,12 +1,15 @@
 -- Steps that grow, and what is made of them.
-use Rattle.std.proofs.Common.{Bool, true, false, Result, Ok, Err}
+use Rattle.std.proofs.Common.{ℕ, ◌≤◌, Bool, true, false, length, Result, Ok, Err, arith}
 use Rattle.std.specs.Prelude.{if◌then◌else◌}
+use Rattle.pp_values.specs.Datum.{Datum}
 use Rattle.pp_values.specs.declared.fault.Fault.{Fault}
-use Rattle.eval_world.specs.Outcomes.{Outcome, Step, go_on, ◌>>=◌, pure, answered}
+use Rattle.eval_world.specs.Outcomes.{Outcome, Step, go_on, ◌>>=◌, ◌>>◌, pure, answered}
+use Rattle.eval_world.specs.Worlds.{leave}
+use Rattle.eval_world.specs.declared.here.Here.{Here}
 use Rattle.eval_world.specs.declared.world.World.{World}
 use Rattle.world_laws.specs.Extends.{Extends}
 use Rattle.world_laws.specs.Growing.{Reaches, Grows}
-use Rattle.world_laws.proofs.Worlds.{same_world, extends_on}
+use Rattle.world_laws.proofs.Worlds.{same_world, extends_on, left_again}
 
 module _ {A : Type 0} where
   -- what a world reaches that extends another one, the other one reaches
@@ -54,3 +57,14 @@ module _ {A B : Type 0} where
   -- one step, and then the next one
   pub and_then : {p : Step A} {next : A → Step B} → Grows p → ((a : A) → Grows (next a)) → Grows (p >>= next)
   and_then {p = p} {next = next} f g = record { reaches = λ w. from_there w (p w) next (f.reaches w) g }
+
+-- ---- scopes of calls
+
+-- what is done in a scope that was not there before, and ends then
+pub ends : (w v : World) (own : Here) (o : Outcome Datum) → Extends w v → length w.scopes.scopes ≤ own.scope.number →
+    Reaches v o → Reaches w (go_on o (λ d. leave own >> pure d))
+ends w v own (Ok p) f past r = left_again w p.1 own.scope.number past (extends_on w v p.1 f r)
+ends w v own (Err e) f past r = tt
+
+pub not_less : (n : ℕ) → n ≤ n
+not_less n = omega arith

@@ -1,6 +1,9 @@
 -- Worlds that extend each other: one table changes, and the others stay.
 use Rattle.std.proofs.Common.{◌≡◌, ℕ, ◌≤◌, List, [], ◌∷◌, ◌++◌, length, Option, refl, ◌∙◌, arith}
-use Rattle.std.specs.Prelude.{slice_get}
+use Rattle.std.specs.Prelude.{None, Some, slice_get}
+use Rattle.std.specs.BTreeMap.{is_at}
+use Rattle.std.specs.Map.{lookup}
+use Rattle.std.specs.Ordering.{nat_cmp}
 use Rattle.override_rules.proofs.Opening.{opened_stays, same_scopes, scopes_on}
 use Rattle.override_rules.specs.Meaning.{State, scope_opened}
 use Rattle.override_rules.specs.Ways.{IsWithin}
@@ -9,15 +12,17 @@ use Rattle.res_book.specs.Growth as rows
 use Rattle.res_book.specs.Relations.{Related}
 use Rattle.res_book.specs.declared.row.Row.{Row}
 use Rattle.res_core.specs.declared.log_line.LogLine.{LogLine}
+use Rattle.pp_values.specs.Rising.{text_cmp}
 use Rattle.scope_core.specs.Scopes.{Scopes, entered, left}
 use Rattle.scope_core.specs.declared.scope_kind.ScopeKind.{ScopeKind}
-use Rattle.eval_world.specs.Owners.{Owners, with_owner}
+use Rattle.eval_world.specs.Owners.{Owners, inline_by, inline_in, inline_owner, numbered, owner_in, owner_of_file}
+use Rattle.eval_world.specs.Owners.{with_file, with_inline, with_owner}
 use Rattle.eval_world.specs.declared.owner.Owner.{Owner}
 use Rattle.eval_world.specs.declared.world.World.{World}
 use Rattle.world_laws.specs.Extends.{AreKept, ArePlaced, Extends, IsPlaced, MarksStay, OverridesStay, OwnersStay}
 use Rattle.world_laws.specs.Extends.{RelationsGoOn}
 use Rattle.world_laws.proofs.Lists.{goes_on, stays, further, all_kept, all_kept_on, kept_before, kept_beside}
-use Rattle.world_laws.proofs.Placing.{body_placed, opened_here, owner_placed, same_placed}
+use Rattle.world_laws.proofs.Placing.{body_placed, file_placed, inline_placed, opened_here, owner_placed, same_placed}
 
 -- ---- tables that stay
 
@@ -26,6 +31,12 @@ same_owners o = record { main = refl; others = stays o.others }
 
 pub one_owner : (x : Owner) (o : Owners) → OwnersStay o (with_owner x o)
 one_owner x o = record { main = refl; others = goes_on o.others (x ∷ []) }
+
+one_file : (file : List ℕ) (o : Owners) → OwnersStay o (with_file file o)
+one_file file o = record { main = refl; others = goes_on o.others (owner_of_file file o ∷ []) }
+
+one_inline : (number : ℕ) (o : Owners) → OwnersStay o (with_inline number o)
+one_inline number o = record { main = refl; others = goes_on o.others (inline_owner number o ∷ []) }
 
 pub same_overrides : (s : State) → OverridesStay s s
 same_overrides s = record {
@@ -170,7 +181,57 @@ log_goes_on w x = record {
   placed = λ p. p;
 }
 
+-- what a template emits
+pub rendered_changes : (w : World) (t : List ℕ) → Extends w (record w { rendered = t })
+rendered_changes w t = record {
+  environment = refl;
+  declarations = grows-not w.book;
+  marks = λ n is. is;
+  scopes = all_kept w.scopes.scopes;
+  owners = same_owners w.owners;
+  overrides = same_overrides w.overrides;
+  relations = same_relations w.relations;
+  log = stays w.log;
+  placed = λ p. p;
+}
+
+owners_go_on : (w : World) (o : Owners) → OwnersStay w.owners o → (IsPlaced w → ArePlaced w.overrides o w.book) →
+    Extends w (record w { owners = o })
+owners_go_on w o stay placed = record {
+  environment = refl;
+  declarations = grows-not w.book;
+  marks = λ n is. is;
+  scopes = all_kept w.scopes.scopes;
+  owners = stay;
+  overrides = same_overrides w.overrides;
+  relations = same_relations w.relations;
+  log = stays w.log;
+  placed = placed;
+}
+
 -- ---- bodies
+
+owner_numbered : (w : World) (o : Option ℕ) (file : List ℕ) → Extends w (record w { owners = (numbered o file w.owners).1 })
+owner_numbered w (Some n) file = owners_go_on w w.owners (same_owners w.owners) (λ p. p)
+owner_numbered w None file =
+    owners_go_on w (with_file file w.owners) (one_file file w.owners)
+    (λ p. file_placed w.overrides w.owners w.book p file)
+
+-- the owner of what stands in top scope in a file, which is there or is added
+pub owner_in_stays : (w : World) (file : List ℕ) → Extends w (record w { owners = (owner_in file w.owners).1 })
+unfolding owner_in
+owner_in_stays w file = owner_numbered w (lookup (is_at (text_cmp file)) w.owners.files) file
+
+inline_numbered : (w : World) (o : Option ℕ) (number : ℕ) → Extends w (record w { owners = (inline_by o number w.owners).1 })
+inline_numbered w (Some n) number = owners_go_on w w.owners (same_owners w.owners) (λ p. p)
+inline_numbered w None number =
+    owners_go_on w (with_inline number w.owners) (one_inline number w.owners)
+    (λ p. inline_placed w.overrides w.owners w.book p number)
+
+-- the owner of the texts that the code of an owner renders, which is there or is added
+pub inline_in_stays : (w : World) (number : ℕ) → Extends w (record w { owners = (inline_in number w.owners).1 })
+unfolding inline_in
+inline_in_stays w number = inline_numbered w (lookup (is_at (nat_cmp number)) w.owners.inlines) number
 
 -- the next owner, in a scope that is opened from one that was
 pub owner_added : (w : World) (x : Owner) (parent : Option ℕ) → (IsPlaced w → IsWithin w.overrides.scopes parent) →

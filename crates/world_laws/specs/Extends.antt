@@ -94,7 +94,7 @@ IsPlaced w = ArePlaced w.overrides w.owners w.book
 -- ---- all of it
 
 -- One world extends another one. What becomes of the declarations is what becomes of a book, and marks stay. Where all
--- stands in scopes that were opened, it goes on to do so.
+-- stands in scopes that were opened, it goes on to do so. Of what a template has emitted so far nothing is said.
 pub record Extends (old new : World) : Type 0 where
   pub environment : new.environment ≡ old.environment
   pub declarations : rows.Grows old.book new.book

@@ -4,6 +4,7 @@ ghost use Rattle.std.specs.Prelude.{ℕ, List, Option};
 ghost use Rattle.pp_tree.specs.declared.expr.Expr.{Expr};
 ghost use Rattle.pp_tree.specs.declared.file.File.{File};
 ghost use Rattle.pp_tree.specs.declared.statement.Statement.{Statement};
+ghost use Rattle.pp_tree.specs.declared.template.Template.{Template};
 ghost use Rattle.pp_values.specs.Datum.{Datum};
 ghost use Rattle.pp_values.specs.Settings.{Setting};
 ghost use Rattle.pp_values.specs.declared.place.Place.{Place};
@@ -11,7 +12,7 @@ ghost use Rattle.scope_core.specs.Names.{Name};
 ghost use Rattle.eval_world.specs.Environment.{Environment};
 ghost use Rattle.eval_world.specs.declared.here.Here.{Here};
 ghost use Rattle.eval_world.specs.declared.world.World.{World};
-ghost use Rattle.class_eval.specs.Evaluating.{value_at, block_at, main_rule, class_at, instance_at};
+ghost use Rattle.class_eval.specs.Evaluating.{value_at, block_at, main_rule, class_at, instance_at, render_at};
 ghost use Rattle.class_eval.specs.Meaning.{within};
 ghost use Rattle.class_eval.specs.Starting.{started};
 ghost use Rattle.world_laws.specs.Extends.{Extends, IsPlaced};
@@ -30,8 +31,8 @@ pub fn all_is_placed()
 {}
 
 /// Whatever part of a manifest is evaluated, with whatever levels left: an expression, a block, a call without
-/// parentheses, the target of an override, the body of a class or an instance. Where a world comes out, it extends the
-/// one before.
+/// parentheses, the target of an override, the body of a class, an instance or a template. Where a world comes out, it
+/// extends the one before.
 pub fn parts_only_add()
     ensures { (levels : ℕ) → GrowsInner (within levels) }
 {}
@@ -44,4 +45,5 @@ pub fn calls_only_add()
     ensures declare_class { (x : List ℕ) (given : Option (List Setting)) (at : Place) (here : Here) (depth : ℕ)
         → Grows (class_at x given at here depth) }
     ensures run_instance { (number depth : ℕ) → Grows (instance_at number depth) }
+    ensures render { (t : Template) (here : Here) (depth : ℕ) → Grows (render_at t here depth) }
 {}

@@ -4,25 +4,30 @@ use Rattle.pp_lexer.specs.declared.kind.Kind.{Kind}
 use Rattle.pp_lexer.specs.declared.kind.Kind.TheVariants as k
 use Rattle.pp_lexer.specs.Seen.{Token}
 use Rattle.pp_tree.specs.declared.expr.Expr.{Expr}
+use Rattle.pp_tree.specs.declared.expr.Form.TheVariants as form
 use Rattle.pp_tree.specs.declared.param.Param.{Param}
 use Rattle.pp_tree.specs.declared.statement.Statement.{Statement}
 use Rattle.pp_tree.specs.declared.definition.Name.{Name}
 use Rattle.pp_tree.specs.declared.definition.NodeName.{NodeName}
 use Rattle.pp_tree.specs.declared.definition.Definition.{Definition}
 use Rattle.pp_tree.specs.declared.definition.Definition.TheVariants as definitions
-use Rattle.pp_tree.specs.Building.{class_of, define_of, node_of}
+use Rattle.pp_tree.specs.Building.{expr_at, class_of, define_of, function_of, node_of}
 use Rattle.pp_grammar.proofs.Reader.Input.{Input, ◌<$>◌, kind, turns}
 use Rattle.pp_grammar.proofs.Reader.Inner.{Inner, param_in}
 use Rattle.pp_grammar.specs.Kinds.{is_kind, same_kind, is_name}
-use Rattle.pp_grammar.proofs.Reader.Definitions.{name_rule, params, params_by, optional_params, inherits_by, optional_inherits, class, define, plain_text, taken_text, node_name_by, node_name_rule, node_names_from, node_names, node}
+use Rattle.pp_grammar.proofs.Reader.Definitions.{name_rule, params, params_by, optional_params, inherits_by, optional_inherits, class, define, type_from_by, type_from, return_type, return_by, optional_return, function_definition, plain_text, taken_text, node_name_by, node_name_rule, node_names_from, node_names, node}
 use Rattle.pp_grammar.specs.Places.{Within, Stands, Maybe}
-use Rattle.pp_grammar.specs.Expressions.{InnerParam, IsBlock}
-use Rattle.pp_grammar.specs.Files.{IsName, AreParams, OptionalParams, IsParent, IsNodeName, AreNodeNames, IsClassOrDefine, IsDefinition}
+use Rattle.pp_grammar.specs.Expressions.{Inner as InnerExpr, InnerParam, IsBlock}
+use Rattle.pp_grammar.specs.FunctionBodies.{IsFunctionBlock}
+use Rattle.pp_grammar.specs.Files.{IsName, AreParams, OptionalParams, IsParent, IsReturnType, IsReturn, IsNodeName, AreNodeNames, IsModuleDefinition, IsDefinition}
 use Rattle.pp_grammar.proofs.Complete.Steps.{line_there, word_there, fits_there, stands_falls, take_gives, expect_gives, expect_any_gives, eat_gives, eat_leaves}
-use Rattle.pp_grammar.proofs.Complete.Lists.{GivenSome, Stops, one_more, separated_falls, maybe_falls, separated_gives, maybe_gives}
-use Rattle.pp_grammar.proofs.Complete.Within.{IsFalling, IsComplete, inner_param_falls, open_gives, param_in_gives}
+use Rattle.pp_grammar.proofs.Complete.Lists.{GivenSome, Stops, one_more, separated_falls, some_falls, maybe_falls, separated_gives, maybe_gives}
+use Rattle.pp_grammar.proofs.Complete.Within.{IsFalling, IsComplete, inner_falls, inner_param_falls, open_gives, param_in_gives}
 use Rattle.pp_grammar.proofs.Complete.ExpressionFalls.{block_falls}
 use Rattle.pp_grammar.proofs.Complete.Parts.{block_complete}
+use Rattle.pp_grammar.proofs.Complete.Expressions.{access_complete}
+use Rattle.pp_grammar.proofs.Complete.FunctionBodies.{function_block_falls, function_block_complete}
+use Rattle.pp_grammar.proofs.Reader.Statements.{name_of}
 
 -- ---- how much they take
 
@@ -52,13 +57,23 @@ module _ (N : Within) (w : IsFalling N) where
   node_names_fall (AreNodeNames.last i j x d e) = node_name_falls d
   node_names_fall (AreNodeNames.more i j l m t x xs d s ds) = omega (arith, node_name_falls d, stands_falls s, node_names_fall ds)
 
-  pub class_or_define_falls : {i j : Input} {d : Definition} → IsClassOrDefine N i d j → length j.left < length i.left
-  class_or_define_falls (IsClassOrDefine.class i j l m n o t name ps parent ss s d ds e b) =
+  return_type_falls : {i j : Input} {x : Expr} → IsReturnType N i x j → length j.left < length i.left
+  return_type_falls (IsReturnType.bare i j t s e) = omega (arith, stands_falls s)
+  return_type_falls (IsReturnType.applied i j l m n t opener closer xs s o ds e) =
+      omega (arith, stands_falls s, stands_falls o.token, some_falls (InnerExpr N false) (inner_falls N w false) (is_kind k.CloseBracket) k.Comma ds, stands_falls e)
+
+  return_falls : (i j : Input) (x : Expr) → IsReturn N i x j → length j.left < length i.left
+  return_falls _ _ _ (IsReturn.returns i j l t x s d) = omega (arith, stands_falls s, return_type_falls d)
+
+  pub module_definition_falls : {i j : Input} {d : Definition} → IsModuleDefinition N i d j → length j.left < length i.left
+  module_definition_falls (IsModuleDefinition.class i j l m n o t name ps parent ss s d ds e b) =
       omega (arith, stands_falls s, name_falls d, optional_params_fall ds, maybe_falls (IsParent N) parent_falls (is_kind k.Inherits) e, block_falls N w b)
-  class_or_define_falls (IsClassOrDefine.define i j l m n t name ps ss s d ds b) = omega (arith, stands_falls s, name_falls d, optional_params_fall ds, block_falls N w b)
+  module_definition_falls (IsModuleDefinition.define i j l m n t name ps ss s d ds b) = omega (arith, stands_falls s, name_falls d, optional_params_fall ds, block_falls N w b)
+  module_definition_falls (IsModuleDefinition.function i j l m n o t name ps type ss s d ds e b) =
+      omega (arith, stands_falls s, name_falls d, optional_params_fall ds, maybe_falls (IsReturn N) return_falls (is_kind k.Returns) e, function_block_falls N w b)
 
   pub definition_falls : {i j : Input} {d : Definition} → IsDefinition N i d j → length j.left < length i.left
-  definition_falls (IsDefinition.class_or_define i j d r) = class_or_define_falls r
+  definition_falls (IsDefinition.of_module i j d r) = module_definition_falls r
   definition_falls (IsDefinition.node i j l m t names ss s ds b) = omega (arith, stands_falls s, node_names_fall ds, block_falls N w b)
 
 -- ---- what is read
@@ -112,6 +127,41 @@ module _ (inner : Inner) (N : Within) (c : IsComplete inner N) where
       → define inner at i ≡ Ok (definitions.Define (define_of name ps ss at), m)
   unfolding define
   define_complete at d ds b = rw (name_complete d, optional_params_complete ds, block_complete inner N c b) refl
+
+  -- ---- functions
+
+  no_arguments : (type : Name) (next : Option Kind) (i : Input) → is_kind k.TightBracket next ≡ false → type_from_by inner type next i ≡ Ok (expr_at type.at (form.Type type.text), i)
+  unfolding is_kind same_kind
+  no_arguments type (Some k.TightBracket) i e = cc
+  no_arguments type _ i e = refl
+
+  return_type_complete : {i j : Input} {x : Expr} → IsReturnType N i x j → return_type inner i ≡ Ok (x, j)
+  unfolding return_type type_from
+  return_type_complete (IsReturnType.bare i j t s e) = rw (expect_gives k.Type s) (no_arguments (name_of t) (kind j) j e)
+  return_type_complete (IsReturnType.applied i j l m n t opener closer xs s o ds e) = rw (expect_gives k.Type s, word_there o.token, access_complete inner N c o ds e) refl
+
+  no_return : (next : Option Kind) (i : Input) → is_kind k.Returns next ≡ false → return_by inner next i ≡ Ok (None, i)
+  unfolding is_kind same_kind
+  no_return (Some k.Returns) i e = cc
+  no_return _ i e = refl
+
+  return_stops : Stops (optional_return inner) (is_kind k.Returns)
+  unfolding optional_return
+  return_stops i e = no_return (kind i) i e
+
+  return_given : GivenSome (optional_return inner) (is_kind k.Returns) (IsReturn N)
+  unfolding optional_return
+  return_given _ _ _ begun (IsReturn.returns i j l t x s d) = rw (word_there s, take_gives s, return_type_complete d) refl
+
+  return_complete : {i j : Input} {type : Option Expr} → Maybe (IsReturn N) (is_kind k.Returns) i type j → optional_return inner i ≡ Ok (type, j)
+  return_complete d = maybe_gives (IsReturn N) (is_kind k.Returns) (optional_return inner) return_stops return_given d
+
+  -- behind `function`
+  pub function_definition_complete : (at : ℕ) {i j l m n : Input} {name : Name} {ps : List (Param Expr)} {type : Option Expr} {ss : List Statement}
+      → IsName N i name j → OptionalParams N j ps l → Maybe (IsReturn N) (is_kind k.Returns) l type m → IsFunctionBlock N m ss n
+      → function_definition inner at i ≡ Ok (definitions.Function (function_of name ps type ss at), n)
+  unfolding function_definition
+  function_definition_complete at d ds e b = rw (name_complete d, optional_params_complete ds, return_complete e, function_block_complete inner N c b) refl
 
   -- ---- nodes
 

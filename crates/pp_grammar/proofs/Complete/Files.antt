@@ -13,8 +13,6 @@ use Rattle.pp_tree.specs.declared.statement.Operand.{Operand}
 use Rattle.pp_tree.specs.declared.resource.Resource.{Resource}
 use Rattle.pp_tree.specs.declared.resource.ResourceForm.{ResourceForm}
 use Rattle.pp_tree.specs.declared.resource.ResourceForm.TheVariants as resource_form
-use Rattle.pp_tree.specs.declared.resource.Reference.{Reference}
-use Rattle.pp_tree.specs.declared.collector.Collector.{Collector}
 use Rattle.pp_tree.specs.declared.definition.Name.{Name}
 use Rattle.pp_tree.specs.declared.definition.Definition.{Definition}
 use Rattle.pp_parser.specs.declared.inset.Inset.{Inset}
@@ -26,51 +24,29 @@ use Rattle.pp_parser.specs.declared.item.Item.TheVariants as item
 use Rattle.pp_grammar.proofs.Reader.Input.{Input, Outcome, ◌<$>◌, kind, line_at, eat, turns}
 use Rattle.pp_grammar.proofs.Reader.Inner.{Inner}
 use Rattle.pp_grammar.specs.Kinds.{is_kind, same_kind, is_name, begins_expression}
-use Rattle.pp_grammar.proofs.Reader.Statements.{Read, name_of, names_resource, resource, chain_from, statement_rule}
+use Rattle.pp_grammar.proofs.Reader.Statements.{Read, name_of, resource, chain_from, statement_rule}
 use Rattle.pp_parser.specs.declared.found.Found.{Found}
 use Rattle.pp_grammar.proofs.Reader.Definitions.{nothing_yet, with_statement, with_definition, class, read_of, class_item_by, class_item, item_by, item_rule, ends_file, manifest_from, main_manifest, module_item, module_from, module_file}
 use Rattle.pp_grammar.proofs.Reader.Levels.{part_by, within_to, deepest_to, read_to}
 use Rattle.pp_grammar.specs.Places.{Within, Stands, Many}
-use Rattle.pp_grammar.specs.Statements.{marks, is_arrow, IsResource, IsCollector, IsReference, IsExpressionOperand, IsOperand, IsLink, IsChain, IsStatement}
-use Rattle.pp_grammar.specs.Files.{IsName, IsClassOrDefine, IsDefinition, IsMain, IsModule, IsPart, LevelsTo}
+use Rattle.pp_grammar.specs.Statements.{marks, is_arrow, IsResource, IsOperand, IsLink, IsChain, IsStatement}
+use Rattle.pp_grammar.specs.Files.{IsName, IsModuleDefinition, IsDefinition, IsMain, IsModule, IsPart, LevelsTo}
 use Rattle.pp_grammar.proofs.Complete.Steps.{kind_is, fits_kind, line_there, word_there, fits_there, take_gives}
 use Rattle.pp_grammar.proofs.Complete.Lists.{one_more}
 use Rattle.pp_grammar.proofs.Complete.Within.{IsFalling, IsComplete, least}
 use Rattle.pp_grammar.proofs.Complete.ExpressionFalls.{whole_falls, operand_falls, interpolated_falls, param_falls, case_option_falls}
 use Rattle.pp_grammar.proofs.Complete.StatementFalls.{query_falls, statement_falls, end_falls, statements_fall}
-use Rattle.pp_grammar.proofs.Complete.Begins.{whole_begins}
+use Rattle.pp_grammar.proofs.Complete.StatementBegins.{begins_statement, collector_begins, expression_begins, reference_begins, statement_begins}
 use Rattle.pp_grammar.proofs.Complete.Expressions.{operand_complete}
 use Rattle.pp_grammar.proofs.Complete.Wholes.{whole_complete, interpolated_complete, param_complete, case_option_complete}
 use Rattle.pp_grammar.proofs.Complete.Resources.{query_complete, bodies_complete, bodies_begin}
 use Rattle.pp_grammar.proofs.Complete.Operands.{fits_as, chain_from_complete}
 use Rattle.pp_grammar.proofs.Complete.Words.{Behind}
+use Rattle.pp_grammar.proofs.Complete.FunctionBodies.{function_statements_fall, function_statements_complete}
 use Rattle.pp_grammar.proofs.Complete.Statements.{Resumed, statement_complete, end_complete, end_eaten, statements_complete}
-use Rattle.pp_grammar.proofs.Complete.Definitions.{class_or_define_falls, definition_falls, class_complete, define_complete, node_complete}
+use Rattle.pp_grammar.proofs.Complete.Definitions.{module_definition_falls, definition_falls, class_complete, define_complete, function_definition_complete, node_complete}
 
--- ---- what a statement begins with: it is no word that begins only definitions, and not the end of the file
-
-abbrev begins_statement : Option Kind → Bool
-begins_statement (Some k.Define) = false
-begins_statement (Some k.Node) = false
-begins_statement (Some _) = true
-begins_statement None = false
-
-resources_begin : (next : Option Kind) → names_resource next ≡ true → begins_statement next ≡ true
-resources_begin (Some k.Define) e = cc
-resources_begin (Some k.Node) e = cc
-resources_begin None e = cc
-resources_begin _ e = refl
-
-marks_begin : (form : ResourceForm) (next : Option Kind) → marks form next ≡ true → begins_statement next ≡ true
-marks_begin resource_form.Virtual (Some k.At) e = refl
-marks_begin resource_form.Exported (Some k.AtAt) e = refl
-marks_begin _ _ e = cc
-
-expressions_begin : (next : Option Kind) → begins_expression next ≡ true → begins_statement next ≡ true
-expressions_begin (Some k.Define) e = cc
-expressions_begin (Some k.Node) e = cc
-expressions_begin None e = cc
-expressions_begin _ e = refl
+-- ---- the word `class` begins nothing else
 
 class_or_mark : (form : ResourceForm) (next : Option Kind) → marks form next ≡ true → next ≡ Some k.Class → ⊥
 class_or_mark resource_form.Virtual (Some k.At) a b = cc
@@ -87,6 +63,14 @@ class_or_type next a b = cc
 class_or_function : (next : Option Kind) → next ≡ Some k.StatementFunction → next ≡ Some k.Class → ⊥
 class_or_function next a b = cc
 
+class_or_text : (next : Option Kind) → next ≡ Some k.RenderString → next ≡ Some k.Class → ⊥
+class_or_text next a b = cc
+
+class_or_value : (next : Option Kind) → next ≡ Some k.RenderExpr → next ≡ Some k.Class → ⊥
+class_or_value next a b = cc
+
+-- ---- nor does a name
+
 name_or_class : (next : Option Kind) → is_name next ≡ true → next ≡ Some k.Class → ⊥
 name_or_class (Some k.Name) a b = cc
 name_or_class _ a b = cc
@@ -95,41 +79,17 @@ name_or_define : (next : Option Kind) → is_name next ≡ true → next ≡ Som
 name_or_define (Some k.Name) a b = cc
 name_or_define _ a b = cc
 
+name_or_function : (next : Option Kind) → is_name next ≡ true → next ≡ Some k.Function → ⊥
+name_or_function (Some k.Name) a b = cc
+name_or_function _ a b = cc
+
 name_or_node : (next : Option Kind) → is_name next ≡ true → next ≡ Some k.Node → ⊥
 name_or_node (Some k.Name) a b = cc
 name_or_node _ a b = cc
 
-name_or_none : (next : Option Kind) → is_name next ≡ true → next ≡ None → ⊥
+pub name_or_none : (next : Option Kind) → is_name next ≡ true → next ≡ None → ⊥
 name_or_none (Some k.Name) a b = cc
 name_or_none _ a b = cc
-
-module _ (N : Within) where
-  resource_begins : {i j : Input} {r : Resource Expr} → IsResource N i r j → begins_statement (kind i) ≡ true
-  resource_begins (IsResource.plain i j l name bs s d) = resources_begin (kind i) (fits_there s)
-  resource_begins (IsResource.marked i j l m form mark name bs s e d) = marks_begin form (kind i) (fits_there s)
-
-  pub collector_begins : {i j : Input} {x : Collector} → IsCollector N i x j → kind i ≡ Some k.Type
-  collector_begins (IsCollector.collector i j l m n o exported type opener closer q attrs s e d f ds) = word_there s
-
-  expression_begins : {i j : Input} {x : Expr} → IsExpressionOperand N i x j → begins_expression (kind i) ≡ true
-  expression_begins (IsExpressionOperand.expression i j x a b w) = whole_begins N w
-
-  operand_begins : {i j : Input} {o : Operand} → IsOperand N i o j → begins_statement (kind i) ≡ true
-  operand_begins (IsOperand.resource i j r d) = resource_begins d
-  operand_begins (IsOperand.collector i j x d) = rw (collector_begins d) refl
-  operand_begins (IsOperand.expression i j x d) = expressions_begin (kind i) (expression_begins d)
-
-  chain_begins : {i j : Input} {s : Statement} → IsChain N i s j → begins_statement (kind i) ≡ true
-  chain_begins (IsChain.chain i j l first links d ds) = operand_begins d
-
-  reference_begins : {i j : Input} {r : Reference Expr} → IsReference N i r j → kind i ≡ Some k.Type
-  reference_begins (IsReference.reference i j l m n type opener closer xs s o ds e) = word_there s
-
-  pub statement_begins : {i j : Input} {s : Statement} → IsStatement N i s j → begins_statement (kind i) ≡ true
-  statement_begins (IsStatement.chain i j s a b d) = chain_begins d
-  statement_begins (IsStatement.override i j l r attrs d ds) = rw (reference_begins d) refl
-  statement_begins (IsStatement.defaults i j l t attrs s ds) = rw (word_there s) refl
-  statement_begins (IsStatement.words i j l t xs s e ds) = rw (word_there s) refl
 
 module _ (inner : Inner) (N : Within) (c : IsComplete inner N) where
   -- ---- a statement that begins with `class` is a resource
@@ -172,6 +132,8 @@ module _ (inner : Inner) (N : Within) (c : IsComplete inner N) where
   class_statement (IsStatement.override i j l r attrs d ds) e = absurd (class_or_type (kind i) (reference_begins N d) e)
   class_statement (IsStatement.defaults i j l t attrs s ds) e = absurd (class_or_type (kind i) (word_there s) e)
   class_statement (IsStatement.words i j l t xs s f ds) e = absurd (class_or_function (kind i) (word_there s) e)
+  class_statement (IsStatement.emitted_text i j t s) e = absurd (class_or_text (kind i) (word_there s) e)
+  class_statement (IsStatement.emitted_value i j l m opener closer x s d f) e = absurd (class_or_value (kind i) (word_there s) e)
 
   -- ---- items of a main manifest
 
@@ -188,6 +150,7 @@ module _ (inner : Inner) (N : Within) (c : IsComplete inner N) where
   unfolding is_kind same_kind
   other_item (Some k.Class) i e f = cc
   other_item (Some k.Define) i e f = cc
+  other_item (Some k.Function) i e f = cc
   other_item (Some k.Node) i e f = cc
   other_item _ i e f = refl
 
@@ -217,22 +180,24 @@ module _ (inner : Inner) (N : Within) (c : IsComplete inner N) where
   name_there : {i j : Input} {name : Name} → IsName N i name j → is_name (kind i) ≡ true
   name_there (IsName.name i j t s) = fits_there s
 
-  class_or_define_item : {i j : Input} {d : Definition} → IsClassOrDefine N i d j → item_by inner (kind i) i ≡ Ok (item.Definition d, j)
+  module_definition_item : {i j : Input} {d : Definition} → IsModuleDefinition N i d j → item_by inner (kind i) i ≡ Ok (item.Definition d, j)
   unfolding class_item
-  class_or_define_item (IsClassOrDefine.class i j l m n o t name ps parent ss s d ds e b) =
+  module_definition_item (IsModuleDefinition.class i j l m n o t name ps parent ss s d ds e b) =
       rw (word_there s, take_gives s) (a_class (name_of t) (kind j) j (name_there d) ∙ rw (class_complete inner N c t.line d ds e b) refl)
-  class_or_define_item (IsClassOrDefine.define i j l m n t name ps ss s d ds b) = rw (word_there s, take_gives s, define_complete inner N c t.line d ds b) refl
+  module_definition_item (IsModuleDefinition.define i j l m n t name ps ss s d ds b) = rw (word_there s, take_gives s, define_complete inner N c t.line d ds b) refl
+  module_definition_item (IsModuleDefinition.function i j l m n o t name ps type ss s d ds e b) = rw (word_there s, take_gives s, function_definition_complete inner N c t.line d ds e b) refl
 
   definition_there : {i j : Input} {d : Definition} → IsDefinition N i d j → item_by inner (kind i) i ≡ Ok (item.Definition d, j)
-  definition_there (IsDefinition.class_or_define i j d r) = class_or_define_item r
+  definition_there (IsDefinition.of_module i j d r) = module_definition_item r
   definition_there (IsDefinition.node i j l m t names ss s ds b) = rw (word_there s, take_gives s, node_complete inner N c t.line ds b) refl
 
-  no_name_defines : {i j : Input} {d : Definition} → IsClassOrDefine N i d j → is_name (kind i) ≡ true → ⊥
-  no_name_defines (IsClassOrDefine.class i j l m n o t name ps parent ss s d ds e b) f = name_or_class (kind i) f (word_there s)
-  no_name_defines (IsClassOrDefine.define i j l m n t name ps ss s d ds b) f = name_or_define (kind i) f (word_there s)
+  no_name_defines : {i j : Input} {d : Definition} → IsModuleDefinition N i d j → is_name (kind i) ≡ true → ⊥
+  no_name_defines (IsModuleDefinition.class i j l m n o t name ps parent ss s d ds e b) f = name_or_class (kind i) f (word_there s)
+  no_name_defines (IsModuleDefinition.define i j l m n t name ps ss s d ds b) f = name_or_define (kind i) f (word_there s)
+  no_name_defines (IsModuleDefinition.function i j l m n o t name ps type ss s d ds e b) f = name_or_function (kind i) f (word_there s)
 
   no_name_there : {i j : Input} {d : Definition} → IsDefinition N i d j → is_name (kind i) ≡ true → ⊥
-  no_name_there (IsDefinition.class_or_define i j d r) f = no_name_defines r f
+  no_name_there (IsDefinition.of_module i j d r) f = no_name_defines r f
   no_name_there (IsDefinition.node i j l m t names ss s ds b) f = name_or_node (kind i) f (word_there s)
 
   definition_item : {i h j : Input} {name : Option Name} {d : Definition} → Behind i name h → IsDefinition N i d j → item_rule inner name h ≡ Ok (item.Definition d, j)
@@ -247,20 +212,21 @@ module _ (inner : Inner) (N : Within) (c : IsComplete inner N) where
   file_ends n found Behind.here e = rw e refl
   file_ends n found {i = i} (Behind.pending t l f brace) e = absurd (name_or_none (kind i) (fits_there f) e)
 
-  no_end : (next : Option Kind) → begins_statement next ≡ true → ends_file None next ≡ false
+  pub no_end : (next : Option Kind) → begins_statement next ≡ true → ends_file None next ≡ false
   no_end None e = cc
   no_end _ e = refl
 
-  file_goes_on : {i h : Input} {name : Option Name} → Behind i name h → begins_statement (kind i) ≡ true → ends_file name (kind h) ≡ false
+  pub file_goes_on : {i h : Input} {name : Option Name} → Behind i name h → begins_statement (kind i) ≡ true → ends_file name (kind h) ≡ false
   file_goes_on {i = i} Behind.here e = no_end (kind i) e
   file_goes_on (Behind.pending t l f brace) e = refl
 
-  definitions_begin : {i j : Input} {d : Definition} → IsClassOrDefine N i d j → ends_file None (kind i) ≡ false
-  definitions_begin (IsClassOrDefine.class i j l m n o t name ps parent ss s d ds e b) = rw (word_there s) refl
-  definitions_begin (IsClassOrDefine.define i j l m n t name ps ss s d ds b) = rw (word_there s) refl
+  definitions_begin : {i j : Input} {d : Definition} → IsModuleDefinition N i d j → ends_file None (kind i) ≡ false
+  definitions_begin (IsModuleDefinition.class i j l m n o t name ps parent ss s d ds e b) = rw (word_there s) refl
+  definitions_begin (IsModuleDefinition.define i j l m n t name ps ss s d ds b) = rw (word_there s) refl
+  definitions_begin (IsModuleDefinition.function i j l m n o t name ps type ss s d ds e b) = rw (word_there s) refl
 
   definition_begins : {i j : Input} {d : Definition} → IsDefinition N i d j → ends_file None (kind i) ≡ false
-  definition_begins (IsDefinition.class_or_define i j d r) = definitions_begin r
+  definition_begins (IsDefinition.of_module i j d r) = definitions_begin r
   definition_begins (IsDefinition.node i j l m t names ss s ds b) = rw (word_there s) refl
 
   file_goes_on_too : {i h j : Input} {name : Option Name} {d : Definition} → Behind i name h → IsDefinition N i d j → ends_file name (kind h) ≡ false
@@ -311,16 +277,17 @@ module _ (inner : Inner) (N : Within) (c : IsComplete inner N) where
 
   -- ---- module files
 
-  module_item_complete : {i j : Input} {d : Definition} → IsClassOrDefine N i d j → module_item inner i ≡ Ok (d, j)
+  module_item_complete : {i j : Input} {d : Definition} → IsModuleDefinition N i d j → module_item inner i ≡ Ok (d, j)
   unfolding module_item
-  module_item_complete (IsClassOrDefine.class i j l m n o t name ps parent ss s d ds e b) = rw (word_there s, take_gives s) (class_complete inner N c t.line d ds e b)
-  module_item_complete (IsClassOrDefine.define i j l m n t name ps ss s d ds b) = rw (word_there s, take_gives s) (define_complete inner N c t.line d ds b)
+  module_item_complete (IsModuleDefinition.class i j l m n o t name ps parent ss s d ds e b) = rw (word_there s, take_gives s) (class_complete inner N c t.line d ds e b)
+  module_item_complete (IsModuleDefinition.define i j l m n t name ps ss s d ds b) = rw (word_there s, take_gives s) (define_complete inner N c t.line d ds b)
+  module_item_complete (IsModuleDefinition.function i j l m n o t name ps type ss s d ds e b) = rw (word_there s, take_gives s) (function_definition_complete inner N c t.line d ds e b)
 
   module_ends : (n : ℕ) (found : Found) (i : Input) → kind i ≡ None → module_from inner (suc n) found i ≡ Ok (found, i)
   unfolding module_from
   module_ends n found i e = rw e refl
 
-  module_definition : (n : ℕ) (found : Found) {i j l : Input} {d : Definition} {more : Bool} → IsClassOrDefine N i d j → eat k.Semicolon j ≡ Ok (more, l) → module_from inner (suc n) found i ≡ module_from inner n (with_definition found d) l
+  module_definition : (n : ℕ) (found : Found) {i j l : Input} {d : Definition} {more : Bool} → IsModuleDefinition N i d j → eat k.Semicolon j ≡ Ok (more, l) → module_from inner (suc n) found i ≡ module_from inner n (with_definition found d) l
   unfolding module_from
   module_definition n found d e = rw (definitions_begin d, module_item_complete d, e) refl
 
@@ -329,7 +296,7 @@ module _ (inner : Inner) (N : Within) (c : IsComplete inner N) where
   module_from_complete zero d below found = absurd (omega arith)
   module_from_complete (suc n) (IsModule.end i e) below found = module_ends n found i e ∙ ap (λ (f : Found). Ok (f, i)) (nothing_more found)
   module_from_complete (suc n) (IsModule.definition i j l m d ds r e more) below found =
-      let less : length l.left < n = omega (arith, class_or_define_falls N c.falling r, end_falls N c.falling e) in
+      let less : length l.left < n = omega (arith, module_definition_falls N c.falling r, end_falls N c.falling e) in
       module_definition n found r (end_eaten inner N c e).read ∙ module_from_complete n more less (with_definition found d) ∙ ap (λ (f : Found). Ok (f, m)) (definition_more found d [] ds)
 
   pub module_file_complete : {i j : Input} {ds : List Definition} → IsModule N i ds j → module_file inner i ≡ Ok (record { statements = []; definitions = ds }, j)
@@ -344,6 +311,7 @@ part_falls N w (goal.Operand bars) i j (part.Expr x) d = omega (arith, operand_f
 part_falls N w goal.Interpolated i j (part.Expr x) d = omega (arith, interpolated_falls N w d)
 part_falls N w (goal.Param bars) i j (part.Param x) d = omega (arith, param_falls N w d)
 part_falls N w goal.Statements i j (part.Block x) d = omega (arith, statements_fall N w d)
+part_falls N w goal.FunctionStatements i j (part.Block x) d = omega (arith, function_statements_fall N w d)
 part_falls N w goal.CaseOption i j (part.CaseOption x) d = omega (arith, case_option_falls N w d)
 part_falls N w goal.Query i j (part.Query x) d = omega (arith, query_falls N w d)
 part_falls N w _ i j _ d = absurd d
@@ -361,6 +329,7 @@ part_complete inner N c (goal.Operand bars) i j (part.Expr x) d = rw (operand_co
 part_complete inner N c goal.Interpolated i j (part.Expr x) d = rw (interpolated_complete inner N c d) refl
 part_complete inner N c (goal.Param bars) i j (part.Param x) d = rw (param_complete inner N c d) refl
 part_complete inner N c goal.Statements i j (part.Block x) d = rw (statements_complete inner N c d) refl
+part_complete inner N c goal.FunctionStatements i j (part.Block x) d = rw (function_statements_complete inner N c d) refl
 part_complete inner N c goal.CaseOption i j (part.CaseOption x) d = rw (case_option_complete inner N c d) refl
 part_complete inner N c goal.Query i j (part.Query x) d = rw (query_complete inner N c d) refl
 part_complete inner N c _ i j _ d = absurd d

@@ -94,6 +94,8 @@ module _ (N : Within) (w : IsFalling N) where
   statement_falls (IsStatement.override i j l r attrs d ds) = omega (arith, reference_falls d, attributes_fall ds)
   statement_falls (IsStatement.defaults i j l t attrs s ds) = omega (arith, stands_falls s, attributes_fall ds)
   statement_falls (IsStatement.words i j l t xs s e ds) = omega (arith, stands_falls s, words_fall ds)
+  statement_falls (IsStatement.emitted_text i j t s) = omega (arith, stands_falls s)
+  statement_falls (IsStatement.emitted_value i j l m opener closer x s d e) = omega (arith, stands_falls s, whole_falls N w d, stands_falls e)
 
   pub end_falls : {i j : Input} → IsEnd N i j → length j.left ≤ length i.left
   end_falls (IsEnd.left_out i e) = omega arith

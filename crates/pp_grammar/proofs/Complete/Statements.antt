@@ -21,27 +21,29 @@ use Rattle.pp_grammar.proofs.Reader.Input.{Input, Outcome, ◌>>=◌, kind, line
 use Rattle.pp_grammar.proofs.Reader.Inner.{Inner}
 use Rattle.pp_grammar.specs.Kinds.{is_kind, same_kind, is_name}
 use Rattle.pp_grammar.proofs.Reader.Expressions.{loosest, postfixed, access, operand_from, chain}
-use Rattle.pp_grammar.proofs.Reader.Statements.{Read, name_of, expression_from, behind_name, behind_type, operand_rule, chain_from, defaults_rule, override_rule, reference_by, reference_rule, typed_by, typed, words, function_by, function, statement_by, statement_rule, ends_block, statements_from, statements}
+use Rattle.pp_grammar.proofs.Reader.Statements.{Read, name_of, expression_from, behind_name, behind_type, operand_rule, chain_from, defaults_rule, override_rule, reference_by, reference_rule, typed_by, typed, words, function_by, function, emitted_value, statement_by, statement_rule, ends_block, statements_from, statements}
 use Rattle.pp_grammar.specs.Places.{Within, Stands, Many, Begins}
-use Rattle.pp_grammar.specs.Expressions.{begins_postfix, IsPostfix}
+use Rattle.pp_grammar.specs.Expressions.{begins_postfix, IsPostfix, IsWhole}
 use Rattle.pp_grammar.specs.Statements.{calls_or_declares, opens_query, opens_collector, is_arrow, AreAttributes, IsCollector, IsReference, IsExpressionOperand, IsOperand, IsLink, IsChain, AreWords, BeginsAlone, IsStatement, IsEnd, AreStatements}
-use Rattle.pp_grammar.proofs.Complete.Steps.{kind_is, fits_kind, kind_there, line_there, word_there, fits_there, take_gives, eat_gives, eat_leaves}
+use Rattle.pp_grammar.proofs.Complete.Steps.{kind_is, fits_kind, kind_there, line_there, word_there, fits_there, take_gives, expect_gives, eat_gives, eat_leaves}
 use Rattle.pp_grammar.proofs.Complete.Lists.{one_more}
 use Rattle.pp_grammar.proofs.Complete.Within.{IsComplete}
 use Rattle.pp_grammar.proofs.Complete.StatementFalls.{statement_falls, end_falls}
 use Rattle.pp_grammar.proofs.Complete.Begins.{name_or_type}
+use Rattle.pp_grammar.proofs.Complete.StatementBegins.{begins_operand, chain_begins, reference_begins, name_or_text, name_or_value}
 use Rattle.pp_grammar.proofs.Complete.Expressions.{is_false, access_complete, postfixes_complete}
+use Rattle.pp_grammar.proofs.Complete.Wholes.{whole_complete}
 use Rattle.pp_grammar.proofs.Complete.Resources.{attributes_complete, attributes_begin}
 use Rattle.pp_grammar.proofs.Complete.Operands.{same_behind, same_token, TypeRead, type_read, expression_behind_type, collector_behind_type, operand_at_name, AtType, no_resource_at_type, operand_rule_complete, chain_from_complete}
 use Rattle.pp_grammar.proofs.Complete.Words.{Behind, words_from_complete}
 
-is_true : (b : Bool) → (not b ≡ true → ⊥) → b ≡ true
+pub is_true : (b : Bool) → (not b ≡ true → ⊥) → b ≡ true
 is_true true f = refl
 is_true false f = absurd (f refl)
 
 -- ---- kinds
 
-function_is_name : (next : Option Kind) → next ≡ Some k.StatementFunction → is_name next ≡ true
+pub function_is_name : (next : Option Kind) → next ≡ Some k.StatementFunction → is_name next ≡ true
 function_is_name next e = rw e refl
 
 dot_or_bracket : (next : Option Kind) → next ≡ Some k.Dot → next ≡ Some k.TightBracket → ⊥
@@ -234,14 +236,16 @@ module _ (inner : Inner) (N : Within) (c : IsComplete inner N) where
 
   -- ---- statements
 
-  other_statement : (next : Option Kind) (i : Input) → is_kind k.StatementFunction next ≡ false → is_kind k.Type next ≡ false → statement_by inner next i ≡ (operand_rule inner >>= chain_from inner (line_at i.left)) i
+  other_statement : (next : Option Kind) (i : Input) → begins_operand next ≡ true → is_kind k.StatementFunction next ≡ false → is_kind k.Type next ≡ false → statement_by inner next i ≡ (operand_rule inner >>= chain_from inner (line_at i.left)) i
   unfolding is_kind same_kind
-  other_statement (Some k.StatementFunction) i e f = cc
-  other_statement (Some k.Type) i e f = cc
-  other_statement _ i e f = refl
+  other_statement (Some k.RenderString) i b e f = cc
+  other_statement (Some k.RenderExpr) i b e f = cc
+  other_statement (Some k.StatementFunction) i b e f = cc
+  other_statement (Some k.Type) i b e f = cc
+  other_statement _ i b e f = refl
 
   other_chain : {i j : Input} {s : Statement} → is_kind k.StatementFunction (kind i) ≡ false → is_kind k.Type (kind i) ≡ false → IsChain N i s j → statement_by inner (kind i) i ≡ Ok ((s, None), j)
-  other_chain e f (IsChain.chain i j l first links d ds) = other_statement (kind i) i e f ∙ rw (operand_rule_complete inner N c d) (chain_from_complete inner N c (line_at i.left) first ds)
+  other_chain e f (IsChain.chain i j l first links d ds) = other_statement (kind i) i (chain_begins N (IsChain.chain i j l first links d ds)) e f ∙ rw (operand_rule_complete inner N c d) (chain_from_complete inner N c (line_at i.left) first ds)
 
   typed_read : {i j : Input} {s : Statement} → kind i ≡ Some k.Type → TypedRead i s j → statement_by inner (kind i) i ≡ Ok ((s, None), j)
   typed_read e there = rw (e, take_gives there.stands) there.read
@@ -268,15 +272,21 @@ module _ (inner : Inner) (N : Within) (c : IsComplete inner N) where
   unfolding typed defaults_rule
   defaults_complete s d = rw (word_there s, take_gives s, attributes_begin inner N c d, attributes_complete inner N c false d) refl
 
+  emitted_text_complete : {i j : Input} {t : Token} → Stands (is_kind k.RenderString) i t j → statement_by inner (kind i) i ≡ Ok ((statement.Emit t.text, None), j)
+  emitted_text_complete s = rw (word_there s, take_gives s) refl
+
+  emitted_value_complete : {i j l m : Input} {t end : Token} {x : Expr} → Stands (is_kind k.RenderExpr) i t j → IsWhole N false false j x l → Stands (is_kind k.TagEnd) l end m → statement_by inner (kind i) i ≡ Ok ((statement.EmitValue x, None), m)
+  unfolding emitted_value
+  emitted_value_complete s w e = rw (word_there s, take_gives s, whole_complete inner N c w, expect_gives k.TagEnd e) refl
+
   -- where no name was taken
   pub statement_there : {i j : Input} {s : Statement} → IsStatement N i s j → Resumed (statement_by inner (kind i) i) s j
   statement_there (IsStatement.chain i j s words alone d) = none_taken (chain_read (is_kind k.StatementFunction (kind i)) (is_kind k.Type (kind i)) refl refl words alone d)
   statement_there (IsStatement.override i j l r attrs d ds) = none_taken (override_complete d ds)
   statement_there (IsStatement.defaults i j l t attrs s ds) = none_taken (defaults_complete s ds)
   statement_there (IsStatement.words i j l t xs s e ds) = function_words s e ds
-
-  reference_begins : {i j : Input} {r : Reference Expr} → IsReference N i r j → kind i ≡ Some k.Type
-  reference_begins (IsReference.reference i j l m n type opener closer xs s o ds e) = word_there s
+  statement_there (IsStatement.emitted_text i j t s) = none_taken (emitted_text_complete s)
+  statement_there (IsStatement.emitted_value i j l m opener closer x s d e) = none_taken (emitted_value_complete s d e)
 
   brace_declares : (next : Option Kind) → next ≡ Some k.OpenBrace → calls_or_declares next ≡ false → ⊥
   brace_declares (Some k.OpenBrace) e f = cc
@@ -285,9 +295,11 @@ module _ (inner : Inner) (N : Within) (c : IsComplete inner N) where
   -- where its name was taken, which `{` follows
   statement_behind : {i j h : Input} {s : Statement} {t : Token} → Stands is_name i t h → kind h ≡ Some k.OpenBrace → IsStatement N i s j → Resumed (statement_rule inner (Some (name_of t)) h) s j
   statement_behind f brace (IsStatement.chain i j s words alone d) = none_taken (pending_chain f (chain_at_name d (fits_there f)))
-  statement_behind f brace (IsStatement.override i j l r attrs d ds) = absurd (name_or_type (kind i) (fits_there f) (reference_begins d))
+  statement_behind f brace (IsStatement.override i j l r attrs d ds) = absurd (name_or_type (kind i) (fits_there f) (reference_begins N d))
   statement_behind f brace (IsStatement.defaults i j l t attrs s ds) = absurd (name_or_type (kind i) (fits_there f) (word_there s))
   statement_behind f brace (IsStatement.words i j l t xs s e ds) = absurd (brace_declares (kind j) (rw (same_behind s f) brace) e)
+  statement_behind f brace (IsStatement.emitted_text i j t s) = absurd (name_or_text (kind i) (fits_there f) (word_there s))
+  statement_behind f brace (IsStatement.emitted_value i j l m opener closer x s d e) = absurd (name_or_value (kind i) (fits_there f) (word_there s))
 
   pub statement_complete : {i j h : Input} {s : Statement} {name : Option Name} → Behind i name h → IsStatement N i s j → Resumed (statement_rule inner name h) s j
   unfolding statement_rule

@@ -9,7 +9,7 @@ use Rattle.pp_parser.specs.declared.inset.Inset.TheVariants as goal
 use Rattle.pp_parser.specs.declared.inset.InsetTree.{InsetTree}
 use Rattle.pp_parser.specs.declared.inset.InsetTree.TheVariants as part
 use Rattle.pp_grammar.proofs.Reader.Input.{Input}
-use Rattle.pp_grammar.proofs.Reader.Inner.{Inner, opening, whole_in, operand_in, interpolated_in, param_in, statements_in, case_option_in, query_in}
+use Rattle.pp_grammar.proofs.Reader.Inner.{Inner, opening, whole_in, operand_in, interpolated_in, param_in, statements_in, function_statements_in, case_option_in, query_in}
 use Rattle.pp_grammar.specs.Keys.{doubled_key}
 use Rattle.pp_grammar.specs.Places.{Within, Opens}
 use Rattle.pp_grammar.specs.Expressions as phrase
@@ -20,6 +20,7 @@ use Rattle.pp_grammar.proofs.Complete.Lists.{Falls, Given}
 -- the fewest tokens that a goal's part takes: a block may have no statement
 abbrev pub least : Inset → ℕ
 least goal.Statements = 0
+least goal.FunctionStatements = 0
 least _ = 1
 
 pub record IsFalling (N : Within) : Type 0 where
@@ -68,6 +69,10 @@ module _ (inner : Inner) (N : Within) (c : IsComplete inner N) where
   pub statements_in_gives : (i j : Input) (ss : List Statement) → N.reads goal.Statements i (part.Block ss) j → statements_in inner i ≡ Ok (ss, j)
   unfolding statements_in
   statements_in_gives i j ss d = rw (c.reads goal.Statements i j (part.Block ss) d) refl
+
+  pub function_statements_in_gives : (i j : Input) (ss : List Statement) → N.reads goal.FunctionStatements i (part.Block ss) j → function_statements_in inner i ≡ Ok (ss, j)
+  unfolding function_statements_in
+  function_statements_in_gives i j ss d = rw (c.reads goal.FunctionStatements i j (part.Block ss) d) refl
 
   pub case_option_in_gives : Given (case_option_in inner) (phrase.InnerOption N)
   unfolding case_option_in

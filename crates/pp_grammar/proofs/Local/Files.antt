@@ -12,11 +12,12 @@ use Rattle.pp_parser.specs.declared.item.Item.TheVariants as item
 use Rattle.pp_grammar.proofs.Reader.Input.{Input, Parser, ◌>>=◌, ◌>>◌, pure, kind, eat}
 use Rattle.pp_grammar.proofs.Reader.Inner.{Inner}
 use Rattle.pp_parser.specs.declared.found.Found.{Found}
-use Rattle.pp_grammar.proofs.Reader.Definitions.{nothing_yet, with_definition, found_with, pending_of, taken_text, name_rule, params, params_by, optional_params, inherits_by, optional_inherits, class, define, plain_by, plain_text, node_name_by, node_name_rule, node_names_from, node_names, node, read_of, class_item_by, class_item, item_by, item_rule, ends_file, manifest_from, main_manifest, module_item_by, module_item, module_from, module_file}
+use Rattle.pp_grammar.proofs.Reader.Definitions.{nothing_yet, with_definition, found_with, pending_of, taken_text, name_rule, params, params_by, optional_params, inherits_by, optional_inherits, class, define, type_from_by, type_from, return_type, return_by, optional_return, function_definition, plain_by, plain_text, node_name_by, node_name_rule, node_names_from, node_names, node, read_of, class_item_by, class_item, item_by, item_rule, ends_file, manifest_from, main_manifest, module_item_by, module_item, module_from, module_file}
 use Rattle.pp_grammar.proofs.Local.Steps.{Cut, IsLocal, Falls, any, one, if_true, bind_by, bind_local, first_local, loose_local, map_by, pure_local, refuse_local, peek_local, here_local, if_local, take_local, expect_local, expect_any_local, eat_local, eat_falls}
 use Rattle.pp_grammar.proofs.Local.Lists.{same_then, same_if, same_behind, behind_item, turns_local, separated_local}
 use Rattle.pp_grammar.proofs.Local.Inner.{InnerLocal, opening_local, param_in_local}
-use Rattle.pp_grammar.proofs.Local.Expressions.{block_local}
+use Rattle.pp_grammar.proofs.Local.Expressions.{block_local, access_local}
+use Rattle.pp_grammar.proofs.Local.FunctionBodies.{function_block_local}
 use Rattle.pp_grammar.proofs.Local.Statements.{pending_count, spent, spent_is, taken_name_local, resource_local, chain_from_local, statement_rule_local}
 
 abbrev pub item_stated : Option Name → Item → ℕ
@@ -93,6 +94,32 @@ module _ {c : Cut} {a b : Inner} (I : InnerLocal c a b) where
   unfolding define
   define_local at = first_local name_rule_local (λ _. bind_local optional_params_local (λ _. bind_local (block_local I) (λ _. pure_local _)))
 
+  -- ---- functions
+
+  type_from_by_local : {d : Bool} (type : Name) (next : Option Kind) → IsLocal c d any (type_from_by a type next) (type_from_by b type next)
+  type_from_by_local type (Some k.TightBracket) = bind_local (access_local I) (λ _. pure_local _)
+  type_from_by_local type _ = pure_local _
+
+  pub type_from_local : {d : Bool} (type : Name) → IsLocal c d any (type_from a type) (type_from b type)
+  unfolding type_from
+  type_from_local type = peek_local (type_from_by_local type)
+
+  return_type_local : {d : Bool} → IsLocal c d any (return_type a) (return_type b)
+  unfolding return_type
+  return_type_local = bind_local (expect_local _) (λ _. type_from_local _)
+
+  return_by_local : {d : Bool} (next : Option Kind) → IsLocal c d any (return_by a next) (return_by b next)
+  return_by_local (Some k.Returns) = bind_local take_local (λ _. bind_local return_type_local (λ _. pure_local _))
+  return_by_local _ = pure_local _
+
+  pub optional_return_local : {d : Bool} → IsLocal c d any (optional_return a) (optional_return b)
+  unfolding optional_return
+  optional_return_local = peek_local return_by_local
+
+  pub function_definition_local : {d : Bool} (at : ℕ) → IsLocal c d one (function_definition a at) (function_definition b at)
+  unfolding function_definition
+  function_definition_local at = first_local name_rule_local (λ _. bind_local optional_params_local (λ _. bind_local optional_return_local (λ _. bind_local (function_block_local I) (λ _. pure_local _))))
+
   -- ---- nodes
 
   pub plain_by_local : {d : Bool} (next : Option Kind) → IsLocal c d any (plain_by a next) (plain_by b next)
@@ -146,6 +173,7 @@ module _ {c : Cut} {a b : Inner} (I : InnerLocal c a b) where
   pub item_by_local : {d : Bool} (next : Option Kind) → IsLocal c d (item_stated None) (item_by a next) (item_by b next)
   item_by_local (Some k.Class) = bind_by 1 (item_stated None) (λ x. omega arith) (λ x. omega arith) taken_name_local class_item_local
   item_by_local (Some k.Define) = bind_by 1 (item_stated None) (λ x. omega arith) (λ x. omega arith) take_local (λ t. defined_local (define_local t.line))
+  item_by_local (Some k.Function) = bind_by 1 (item_stated None) (λ x. omega arith) (λ x. omega arith) take_local (λ t. defined_local (function_definition_local t.line))
   item_by_local (Some k.Node) = bind_by 1 (item_stated None) (λ x. omega arith) (λ x. omega arith) take_local (λ t. defined_local (node_local t.line))
   item_by_local _ = map_by (item_stated None) (read_of a) (λ x. omega arith) (statement_rule_local I None)
 
@@ -170,6 +198,7 @@ module _ {c : Cut} {a b : Inner} (I : InnerLocal c a b) where
   pub module_item_by_local : {d : Bool} (next : Option Kind) → IsLocal c d one (module_item_by a next) (module_item_by b next)
   module_item_by_local (Some k.Class) = first_local take_local (λ t. loose_local (class_local t.line))
   module_item_by_local (Some k.Define) = first_local take_local (λ t. loose_local (define_local t.line))
+  module_item_by_local (Some k.Function) = first_local take_local (λ t. loose_local (function_definition_local t.line))
   module_item_by_local _ = refuse_local
 
   pub module_item_local : {d : Bool} → IsLocal c d one (module_item a) (module_item b)

@@ -7,7 +7,7 @@ use Rattle.pp_parser.specs.declared.inset.Inset.TheVariants as goal
 use Rattle.pp_parser.specs.declared.inset.InsetTree.{InsetTree}
 use Rattle.pp_parser.specs.declared.inset.InsetTree.TheVariants as part
 use Rattle.pp_grammar.proofs.Reader.Input.{Parser, ◌>>=◌}
-use Rattle.pp_grammar.proofs.Reader.Inner.{Inner, opening, expr_of, param_of, block_of, case_option_of, query_of, whole_in, operand_in, interpolated_in, param_in, statements_in, case_option_in, query_in}
+use Rattle.pp_grammar.proofs.Reader.Inner.{Inner, opening, expr_of, param_of, block_of, case_option_of, query_of, whole_in, operand_in, interpolated_in, param_in, statements_in, function_statements_in, case_option_in, query_in}
 use Rattle.pp_grammar.proofs.Local.Steps.{Cut, IsLocal, any, one, bind_local, first_local, Opening, open_local, pure_local, refuse_local}
 
 pub record InnerLocal (c : Cut) (inner outer : Inner) : Type 0 where
@@ -63,6 +63,10 @@ module _ {c : Cut} {a b : Inner} (I : InnerLocal c a b) where
   pub statements_in_local : IsLocal c I.deepest any (statements_in a) (statements_in b)
   unfolding statements_in
   statements_in_local = bind_local (I.reads goal.Statements) block_of_local
+
+  pub function_statements_in_local : IsLocal c I.deepest any (function_statements_in a) (function_statements_in b)
+  unfolding function_statements_in
+  function_statements_in_local = bind_local (I.reads goal.FunctionStatements) block_of_local
 
   pub case_option_in_local : IsLocal c I.deepest one (case_option_in a) (case_option_in b)
   unfolding case_option_in

@@ -1,4 +1,4 @@
--- Readers of files look at the next token alone.
+-- Readers of files and of templates look at the next token alone.
 use Rattle.std.proofs.Common.{◌≡◌, ◌≢◌, ℕ, ◌+◌, ◌-◌, ◌<◌, ◌≤◌, Bool, true, false, ◌⊎◌, inl, inr, List, [], ◌∷◌, ◌++◌, length, take, drop, Ok, Err, refl, sym, ap, subst, ◌∙◌, length-drop, arith}
 use Rattle.std.proofs.lemmas.List.{take-append-drop}
 use Rattle.std.proofs.Math.Decide.{dec_le}
@@ -7,12 +7,14 @@ use Rattle.pp_parser.specs.declared.refusal.Refusal.TheVariants as refusals
 use Rattle.pp_grammar.proofs.Reader.Input.{Input, Outcome, Parser}
 use Rattle.pp_grammar.proofs.Reader.Levels.{within}
 use Rattle.pp_grammar.proofs.Reader.Definitions.{main_manifest, module_file}
+use Rattle.pp_grammar.proofs.Reader.Templates.{template}
 use Rattle.pp_grammar.proofs.Reader.Manifest.{start}
 use Rattle.pp_grammar.specs.Laws.{SameHead}
 use Rattle.pp_grammar.proofs.Local.Ahead.{Past, RefusedAt, DeepAt, LooksAtNext}
 use Rattle.pp_grammar.proofs.Local.Steps.{Cut, Alike, at_it, before_it, AlikeAt, Falls, Follows, Deepens, IsLocal, any}
 use Rattle.pp_grammar.proofs.Local.Levels.{within_local}
 use Rattle.pp_grammar.proofs.Local.Files.{main_manifest_local, module_file_local}
+use Rattle.pp_grammar.proofs.Local.Templates.{template_local}
 
 abbrev cut : (r s : List Token) → SameHead r s → Bool → Cut
 cut r s same deeper = record { rest = r; other = s; same = same; deeper = λ _. deeper }
@@ -155,3 +157,6 @@ main_manifest_looks = looks_at_next (λ n. main_manifest (within n)) (λ c n m h
 
 pub module_file_looks : LooksAtNext (λ n. module_file (within n))
 module_file_looks = looks_at_next (λ n. module_file (within n)) (λ c n m h way. module_file_local (within_local c n m h way))
+
+pub template_looks : LooksAtNext (λ n. template (within n))
+template_looks = looks_at_next (λ n. template (within n)) (λ c n m h way. template_local (within_local c n m h way))

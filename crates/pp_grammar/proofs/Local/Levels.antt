@@ -11,6 +11,7 @@ use Rattle.pp_grammar.proofs.Local.Steps.{Cut, AlikeAt, IsLocal, any, one, Openi
 use Rattle.pp_grammar.proofs.Local.Inner.{InnerLocal}
 use Rattle.pp_grammar.proofs.Local.Expressions.{whole_local, operand_local, interpolated_local, param_rule_local, case_option_local}
 use Rattle.pp_grammar.proofs.Local.Statements.{statements_local, query_local}
+use Rattle.pp_grammar.proofs.Local.FunctionBodies.{function_statements_local}
 
 module _ {c : Cut} {a b : Inner} (I : InnerLocal c a b) where
   part_local : {d : Bool} (g : Inset) → IsLocal c d any (part_by a g) (part_by b g)
@@ -20,6 +21,7 @@ module _ {c : Cut} {a b : Inner} (I : InnerLocal c a b) where
   part_local goal.Interpolated = bind_local (interpolated_local I) (λ _. pure_local _)
   part_local (goal.Param bars) = bind_local (param_rule_local I bars) (λ _. pure_local _)
   part_local goal.Statements = bind_local (statements_local I) (λ _. pure_local _)
+  part_local goal.FunctionStatements = bind_local (function_statements_local I) (λ _. pure_local _)
   part_local goal.CaseOption = bind_local (case_option_local I) (λ _. pure_local _)
   part_local goal.Query = bind_local (query_local I) (λ _. pure_local _)
 

@@ -1,18 +1,13 @@
 -- Two readers of the same text, of which the second one may open more levels from some place on, or everywhere.
-use Rattle.std.proofs.Common.{◌≡◌, ℕ, ◌+◌, ◌<◌, ◌≤◌, ltb, Bool, true, false, not, if◌then◌else◌, [], length, Ok, Err, refl, sym, ap, subst, ◌∙◌, arith}
+use Rattle.std.proofs.Common.{◌≡◌, ℕ, ◌+◌, ◌<◌, ◌≤◌, ltb, Bool, true, false, not, [], length, Ok, Err, refl, sym, ap, subst, ◌∙◌, arith}
 use Rattle.pp_lexer.specs.Seen.{Token}
 use Rattle.pp_parser.specs.declared.refusal.Refusal.TheVariants as refusals
-use Rattle.pp_grammar.proofs.Reader.Input.{Input, Outcome}
-use Rattle.pp_grammar.proofs.Reader.Manifest.{start}
-use Rattle.pp_parser.specs.declared.found.Found.{Found}
+use Rattle.pp_grammar.proofs.Reader.Input.{Input, Outcome, Parser}
 use Rattle.pp_grammar.proofs.Reader.Inner.{Inner}
 use Rattle.pp_grammar.proofs.Reader.Levels.{within_to, within}
-use Rattle.pp_grammar.proofs.Reader.Definitions.{main_manifest, module_file}
-use Rattle.pp_grammar.proofs.Local.Ahead.{Past}
 use Rattle.pp_grammar.proofs.Local.Steps.{Cut, Alike, AlikeAt, Deepens, Follows, IsLocal, any}
 use Rattle.pp_grammar.proofs.Local.Inner.{InnerLocal}
 use Rattle.pp_grammar.proofs.Local.Levels.{from_place, more_levels, more_behind}
-use Rattle.pp_grammar.proofs.Local.Files.{main_manifest_local, module_file_local}
 use Rattle.pp_grammar.proofs.Local.Laws.{alike_itself, alike_same, same_place}
 
 -- the same text twice, and where the second one may open more
@@ -44,22 +39,18 @@ deep_too deeper o other k e h =
 pub no_memory : {A : Type 0} (deeper : ℕ → Bool) (o other : Outcome A) → o ≡ Err refusals.Memory → Follows (twice deeper) o other → ⊥
 no_memory deeper o other e h = subst (λ (w : Outcome _). Follows (twice deeper) w other) e h
 
--- ---- whole files
+-- ---- whole texts
 
-files_follow : (main : Bool) (deeper : ℕ → Bool) (a b : Inner) (i : Input) → InnerLocal (twice deeper) a b
-    → Follows (twice deeper) (if main then main_manifest a i else module_file a i) (if main then main_manifest b i else module_file b i)
-files_follow true deeper a b i I = (main_manifest_local I {d = false}).follows refl i i (itself_at deeper i)
-files_follow false deeper a b i I = (module_file_local I {d = false}).follows refl i i (itself_at deeper i)
+module _ {A : Type 0} (p : Inner → Parser A) (each : (deeper : ℕ → Bool) (a b : Inner) → InnerLocal (twice deeper) a b → IsLocal (twice deeper) false any (p a) (p b)) where
+  follow : (deeper : ℕ → Bool) (a b : Inner) (i : Input) → InnerLocal (twice deeper) a b → Follows (twice deeper) (p a i) (p b i)
+  follow deeper a b i I = (each deeper a b I).follows refl i i (itself_at deeper i)
 
--- as many levels up to a place, and more from there on, or from an earlier place on
-pub sooner : (main : Bool) (first behind levels more greater : ℕ) (i : Input) → first ≤ behind → more < greater
-    → Follows (twice (λ k. not (ltb behind k))) (if main then main_manifest (within_to first levels more) i else module_file (within_to first levels more) i)
-    (if main then main_manifest (within_to behind levels greater) i else module_file (within_to behind levels greater) i)
-sooner main first behind levels more greater i h k =
-    files_follow main (λ n. not (ltb behind n)) (within_to first levels more) (within_to behind levels greater) i (more_behind first behind levels more greater h k)
+  -- as many levels up to a place, and more from there on, or from an earlier place on
+  pub sooner : (first behind levels more greater : ℕ) (i : Input) → first ≤ behind → more < greater
+      → Follows (twice (λ k. not (ltb behind k))) (p (within_to first levels more) i) (p (within_to behind levels greater) i)
+  sooner first behind levels more greater i h k =
+      follow (λ n. not (ltb behind n)) (within_to first levels more) (within_to behind levels greater) i (more_behind first behind levels more greater h k)
 
--- more than all of them everywhere
-pub wider : (main : Bool) (behind levels more n : ℕ) (i : Input) → levels + more < n
-    → Follows (twice (λ k. true)) (if main then main_manifest (within_to behind levels more) i else module_file (within_to behind levels more) i)
-    (if main then main_manifest (within n) i else module_file (within n) i)
-wider main behind levels more n i h = files_follow main (λ k. true) (within_to behind levels more) (within n) i (more_levels (twice (λ k. true)) behind levels more n (λ k. refl) h)
+  -- more than all of them everywhere
+  pub wider : (behind levels more n : ℕ) (i : Input) → levels + more < n → Follows (twice (λ k. true)) (p (within_to behind levels more) i) (p (within n) i)
+  wider behind levels more n i h = follow (λ k. true) (within_to behind levels more) (within n) i (more_levels (twice (λ k. true)) behind levels more n (λ k. refl) h)

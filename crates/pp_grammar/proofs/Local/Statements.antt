@@ -2,6 +2,7 @@
 use Rattle.std.proofs.Common.{◌≡◌, ℕ, zero, suc, ◌+◌, ◌<◌, ◌≤◌, Bool, true, false, if◌then◌else◌, List, [], ◌∷◌, ◌++◌, length, Option, Some, None, refl, ap, arith}
 use Rattle.pp_lexer.specs.declared.kind.Kind.{Kind}
 use Rattle.pp_lexer.specs.declared.kind.Kind.TheVariants as k
+use Rattle.pp_lexer.specs.Seen.{Token}
 use Rattle.pp_tree.specs.declared.expr.Expr.{Expr}
 use Rattle.pp_tree.specs.declared.expr.Postfix.{Postfix}
 use Rattle.pp_tree.specs.declared.expr.Postfix.TheVariants as postfix
@@ -19,7 +20,7 @@ use Rattle.pp_grammar.proofs.Reader.Input.{Input, Parser, ◌>>=◌, ◌>>◌, p
 use Rattle.pp_grammar.proofs.Reader.Inner.{Inner}
 use Rattle.pp_grammar.specs.Kinds.{is_name, begins_expression, ends_body}
 use Rattle.pp_grammar.proofs.Reader.Expressions.{loosest, is_at}
-use Rattle.pp_grammar.proofs.Reader.Statements.{Read, arrow_at, taken_name, assigns_by, assigns, setting_rule, splat_rule, attribute_by, attribute, attributes, body, resource, marked, compares_by, compares, comparison_rule, query_in_parentheses, test_by, test_rule, another_by, another, conjunction_rule, query, optional_query, settings_by, optional_settings, collector, expression_from, behind_name_by, behind_name, behind_type_by, behind_type, operand_by, operand_rule, link_by, link_rule, chain_from, defaults_rule, override_rule, reference_by, reference_rule, typed_by, typed, argument_from_by, argument_from, argument_rule, argument_then, words_from, words, function_by, function, statement_by, statement_rule, ends_block, statements_from, statements}
+use Rattle.pp_grammar.proofs.Reader.Statements.{Read, arrow_at, taken_name, assigns_by, assigns, setting_rule, splat_rule, attribute_by, attribute, attributes, body, resource, marked, compares_by, compares, comparison_rule, query_in_parentheses, test_by, test_rule, another_by, another, conjunction_rule, query, optional_query, settings_by, optional_settings, collector, expression_from, behind_name_by, behind_name, behind_type_by, behind_type, operand_by, operand_rule, link_by, link_rule, chain_from, defaults_rule, override_rule, reference_by, reference_rule, typed_by, typed, argument_from_by, argument_from, argument_rule, argument_then, words_from, words, function_by, function, emitted_value, statement_by, statement_rule, ends_block, statements_from, statements}
 use Rattle.pp_grammar.proofs.Local.Steps.{Cut, IsLocal, Falls, any, one, if_given, if_true, bind_by, bind_local, first_local, loose_local, given_local, map_by, none_local, pure_by, pure_local, refuse_local, peek_local, here_local, if_local, take_local, expect_local, expect_any_local, eat_local, eat_falls}
 use Rattle.pp_grammar.proofs.Local.Lists.{same_then, same_if, turns_local, repeat_local, separated_local, separated_some_local}
 use Rattle.pp_grammar.proofs.Local.Inner.{InnerLocal, opening_local, whole_in_local, query_in_local}
@@ -303,7 +304,14 @@ module _ {c : Cut} {a b : Inner} (I : InnerLocal c a b) where
   unfolding function
   function_local name = peek_local (function_by_local name)
 
+  emitted_value_local : {d : Bool} → IsLocal c d (stated None) (emitted_value a) (emitted_value b)
+  unfolding emitted_value
+  emitted_value_local = bind_by 1 (stated None) (λ x. omega arith) (λ x. omega arith) take_local
+      (λ _. bind_local (whole_local I false false) (λ x. bind_local (expect_local _) (λ _. pure_by (statement.EmitValue x, None) refl)))
+
   pub statement_by_local : {d : Bool} (next : Option Kind) → IsLocal c d (stated None) (statement_by a next) (statement_by b next)
+  statement_by_local (Some k.RenderString) = map_by (stated None) (λ (t : Token). (statement.Emit t.text, None)) (λ x. omega arith) take_local
+  statement_by_local (Some k.RenderExpr) = emitted_value_local
   statement_by_local (Some k.StatementFunction) = bind_by 1 (stated None) (λ x. omega arith) (λ x. omega arith) taken_name_local function_local
   statement_by_local (Some k.Type) = bind_by 1 (stated None) (λ x. omega arith) (λ x. omega arith) taken_name_local typed_local
   statement_by_local _ = here_local (λ at. bind_by 1 (stated None) (λ x. omega arith) (λ x. omega arith) operand_rule_local (chain_from_local at))

@@ -11,7 +11,9 @@ use Rattle.pp_tree.specs.declared.definition.Definition.{Definition}
 use Rattle.pp_tree.specs.declared.definition.Definition.TheVariants as definition
 use Rattle.pp_tree.specs.declared.resource.ResourceForm.TheVariants as resource_form
 use Rattle.pp_tree.specs.declared.expr.Expr.{Expr}
-use Rattle.pp_tree.specs.Building.{class_of, define_of, node_of, node_name as node_name_at}
+use Rattle.pp_tree.specs.declared.expr.Form.TheVariants as form
+use Rattle.pp_tree.specs.declared.expr.Postfix.TheVariants as postfix
+use Rattle.pp_tree.specs.Building.{expr_at, class_of, define_of, function_of, node_of, node_name as node_name_at}
 use Rattle.pp_parser.specs.declared.found.Found.{Found}
 use Rattle.pp_parser.specs.declared.item.Item.{Item}
 use Rattle.pp_parser.specs.declared.item.Item.TheVariants as item
@@ -19,7 +21,8 @@ use Rattle.pp_grammar.proofs.Reader.Input.{Parser, ◌>>=◌, ◌>>◌, ◌<$>�
 use Rattle.pp_grammar.proofs.Reader.Inner.{Inner, opening, param_in}
 use Rattle.pp_grammar.specs.Kinds.{is_name}
 pub use Rattle.pp_grammar.specs.Names.{node_name}
-use Rattle.pp_grammar.proofs.Reader.Expressions.{block, is_at}
+use Rattle.pp_grammar.proofs.Reader.Expressions.{block, access, is_at}
+use Rattle.pp_grammar.proofs.Reader.FunctionBodies.{function_block}
 use Rattle.pp_grammar.proofs.Reader.Statements.{Read, name_of, taken_name, resource, chain_from, statement_rule}
 
 abbrev pub nothing_yet : Found
@@ -44,6 +47,10 @@ pending_of (item.Statement s pending) = pending
 abbrev pub ends_file : Option Name → Option Kind → Bool
 ends_file None None = true
 ends_file _ _ = false
+
+-- a type with arguments: `Array[Integer]`
+abbrev pub applied_type : Name → List Expr → Expr
+applied_type type args = expr_at type.at (form.Postfix (expr_at type.at (form.Type type.text)) (postfix.Access args ∷ []))
 
 -- the next token as a text
 abbrev pub taken_text : Parser (List ℕ)
@@ -91,6 +98,38 @@ module _ (inner : Inner) where
     found ← optional_params
     body ← block inner
     pure (definition.Define (define_of name found body at))
+
+  -- ---- functions
+
+  abbrev pub type_from_by : Name → Option Kind → Parser Expr
+  type_from_by type (Some k.TightBracket) = applied_type type <$> access inner
+  type_from_by type _ = pure (expr_at type.at (form.Type type.text))
+
+  -- behind the name of a type: its arguments, where it has any
+  unfoldable pub type_from : Name → Parser Expr
+  type_from type = peek >>= type_from_by type
+
+  -- behind `>>`: what the function gives
+  unfoldable pub return_type : Parser Expr
+  return_type = do
+    t ← expect k.Type
+    type_from (name_of t)
+
+  abbrev pub return_by : Option Kind → Parser (Option Expr)
+  return_by (Some k.Returns) = take >> Some <$> return_type
+  return_by _ = pure None
+
+  unfoldable pub optional_return : Parser (Option Expr)
+  optional_return = peek >>= return_by
+
+  -- behind `function`
+  unfoldable pub function_definition : ℕ → Parser Definition
+  function_definition at = do
+    name ← name_rule
+    found ← optional_params
+    type ← optional_return
+    body ← function_block inner
+    pure (definition.Function (function_of name found type body at))
 
   -- ---- nodes
 
@@ -170,6 +209,7 @@ module _ (inner : Inner) where
   abbrev pub item_by : Option Kind → Parser Item
   item_by (Some k.Class) = taken_name >>= class_item
   item_by (Some k.Define) = take >>= (λ t. item.Definition <$> define t.line)
+  item_by (Some k.Function) = take >>= (λ t. item.Definition <$> function_definition t.line)
   item_by (Some k.Node) = take >>= (λ t. item.Definition <$> node t.line)
   item_by _ = statement_item None
 
@@ -198,6 +238,7 @@ module _ (inner : Inner) where
   abbrev pub module_item_by : Option Kind → Parser Definition
   module_item_by (Some k.Class) = take >>= (λ t. class t.line)
   module_item_by (Some k.Define) = take >>= (λ t. define t.line)
+  module_item_by (Some k.Function) = take >>= (λ t. function_definition t.line)
   module_item_by _ = refuse
 
   unfoldable pub module_item : Parser Definition
@@ -212,6 +253,6 @@ module _ (inner : Inner) where
       eat k.Semicolon
       module_from n (with_definition found d))
 
-  -- a module file: classes and defines
+  -- a module file: classes, defines and functions
   unfoldable pub module_file : Parser Found
   module_file = λ i. module_from (turns i) nothing_yet i

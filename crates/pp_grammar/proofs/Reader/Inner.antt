@@ -65,6 +65,9 @@ param_in inner bars = inner.read (goal.Param bars) >>= param_of
 unfoldable pub statements_in : Inner → Parser (List Statement)
 statements_in inner = inner.read goal.Statements >>= block_of
 
+unfoldable pub function_statements_in : Inner → Parser (List Statement)
+function_statements_in inner = inner.read goal.FunctionStatements >>= block_of
+
 unfoldable pub case_option_in : Inner → Parser CaseOption
 case_option_in inner = inner.read goal.CaseOption >>= case_option_of
 

@@ -10,6 +10,7 @@ use Rattle.pp_grammar.specs.Keys.{doubled_key}
 use Rattle.pp_grammar.proofs.Reader.Inner.{Inner}
 use Rattle.pp_grammar.proofs.Reader.Expressions.{whole, operand, interpolated, param_rule, case_option}
 use Rattle.pp_grammar.proofs.Reader.Statements.{statements, query}
+use Rattle.pp_grammar.proofs.Reader.FunctionBodies.{function_statements}
 
 -- what a goal reads, by the readers that stand further in
 unfoldable pub part_by : Inner → Inset → Parser InsetTree
@@ -18,6 +19,7 @@ part_by inner (goal.Operand bars) = part.Expr <$> operand inner bars
 part_by inner goal.Interpolated = part.Expr <$> interpolated inner
 part_by inner (goal.Param bars) = part.Param <$> param_rule inner bars
 part_by inner goal.Statements = part.Block <$> statements inner
+part_by inner goal.FunctionStatements = part.Block <$> function_statements inner
 part_by inner goal.CaseOption = part.CaseOption <$> case_option inner
 part_by inner goal.Query = part.Query <$> query inner
 

@@ -1,9 +1,10 @@
--- What a manifest is, by what was read of it: its tree, or its first fault.
+-- What a manifest or a template is, by what was read of it: its tree, or its first fault.
 use Rattle.std.specs.Prelude.{ℕ, ◌-◌, List, length, drop, Option, Some, None, Result, Ok, Err}
 use Rattle.pp_values.specs.declared.fault.Fault.{Fault}
 use Rattle.pp_values.specs.declared.fault.What.TheVariants.{Syntax, DepthLimit}
 use Rattle.pp_lexer.specs.Seen.{Token}
 use Rattle.pp_tree.specs.declared.file.File.{File}
+use Rattle.pp_tree.specs.declared.template.Template.{Template}
 use Rattle.pp_tree.specs.declared.table.TableStop.{TableStop}
 use Rattle.pp_tree.specs.Tables.{Entries, table_of}
 use Rattle.pp_parser.specs.declared.refusal.Refusal.TheVariants as refusals
@@ -32,3 +33,14 @@ file_from path end ts (Ok p) = file_with path p.0 p.1.doubled
 file_from path end ts (Err (refusals.Wrong left)) = Err (fault_at path Syntax (line_of end ts left))
 file_from path end ts (Err (refusals.Deep left)) = Err (fault_at path DepthLimit (line_of end ts left))
 file_from path end ts (Err refusals.Memory) = Err (fault_at path Syntax 0)
+
+-- a key that stands twice in a hash literal is a fault once the template has a tree
+abbrev pub template_with : List ℕ → Template → Option ℕ → Result Template Fault
+template_with path found (Some line) = Err (fault_at path Syntax line)
+template_with path found None = Ok found
+
+abbrev pub template_from : List ℕ → ℕ → List Token → Outcome Template → Result Template Fault
+template_from path end ts (Ok p) = template_with path p.0 p.1.doubled
+template_from path end ts (Err (refusals.Wrong left)) = Err (fault_at path Syntax (line_of end ts left))
+template_from path end ts (Err (refusals.Deep left)) = Err (fault_at path DepthLimit (line_of end ts left))
+template_from path end ts (Err refusals.Memory) = Err (fault_at path Syntax 0)

@@ -3,6 +3,7 @@ use Rattle.std.proofs.Common.{◌≡◌, ℕ, zero, suc, Bool, true, false, if�
 use Rattle.pp_lexer.specs.declared.kind.Kind.{Kind}
 use Rattle.pp_lexer.specs.declared.kind.Kind.TheVariants as k
 use Rattle.pp_lexer.specs.Seen.{Token}
+use Rattle.pp_tree.specs.declared.expr.Expr.{Expr}
 use Rattle.pp_tree.specs.declared.statement.Statement.{Statement}
 use Rattle.pp_tree.specs.declared.definition.Name.{Name}
 use Rattle.pp_tree.specs.declared.definition.NodeName.{NodeName}
@@ -21,14 +22,15 @@ use Rattle.pp_grammar.proofs.Reader.Definitions as rule
 use Rattle.pp_grammar.specs.Places.{Within, Stands, Maybe}
 use Rattle.pp_grammar.specs.Expressions.{InnerParam}
 use Rattle.pp_grammar.specs.Statements.{IsResource, IsStatement, IsEnd}
-use Rattle.pp_grammar.specs.Files.{IsName, AreParams, OptionalParams, IsParent, IsNodeName, AreNodeNames, IsClassOrDefine, IsDefinition, IsMain, IsModule}
+use Rattle.pp_grammar.specs.Files.{IsName, AreParams, OptionalParams, IsParent, IsReturnType, IsReturn, IsNodeName, AreNodeNames, IsModuleDefinition, IsDefinition, IsMain, IsModule}
 use Rattle.pp_grammar.proofs.Sound.Steps.{Meets, Sound, bind, bind_made, done, refused, either_at, weaker, take_at, take_sound, expect_sound, expect_any_sound, Eaten, eat_sound, at_next, not_begins, line_of_stands, by_kind, other_kind}
 use Rattle.pp_grammar.proofs.Sound.Lists.{separated_sound, From, from_nothing, one_more}
 use Rattle.pp_grammar.proofs.Sound.Inner.{IsSound, opening_sound, param_in_sound}
-use Rattle.pp_grammar.proofs.Sound.Expressions.{block_sound}
+use Rattle.pp_grammar.proofs.Sound.Expressions.{IsAccess, access_sound, block_sound}
+use Rattle.pp_grammar.proofs.Sound.FunctionBodies.{function_block_sound}
 use Rattle.pp_grammar.proofs.Sound.Ends.{EndsOnce}
 use Rattle.pp_grammar.proofs.Sound.Resources.{resource_sound}
-use Rattle.pp_grammar.proofs.Sound.Statements.{Pends, IsRead, end_sound, chain_from_sound, statement_sound, not_alone}
+use Rattle.pp_grammar.proofs.Sound.Statements.{Pends, IsRead, plain_end, end_sound, chain_from_sound, statement_sound, not_alone}
 
 -- what stands at the top of a main manifest, and what was taken behind it
 data IsItemRead (N : Within) (i : Input) : Item → Input → Type 0 where
@@ -56,7 +58,7 @@ a_piece : (j : Input) → kind j ≡ Some k.Piece → is_kind k.Piece (kind j) �
 unfolding is_kind same_kind
 a_piece j e = at_next (is_kind k.Piece) j e refl
 
-no_token : (next : Option Kind) → rule.ends_file None next ≡ true → next ≡ None
+pub no_token : (next : Option Kind) → rule.ends_file None next ≡ true → next ≡ None
 no_token None h = refl
 no_token (Some x) h = absurd cc
 
@@ -88,15 +90,43 @@ module _ (inner : Inner) (N : Within) (s : IsSound inner N) where
       go _ e = done (Maybe.left_out i (at_next (is_kind k.Inherits) i e refl))
 
   -- behind `class` and behind `define`
-  class_sound : (i j : Input) (t : Token) → Stands (is_kind k.Class) i t j → Meets (rule.class inner t.line j) (IsClassOrDefine N i)
+  class_sound : (i j : Input) (t : Token) → Stands (is_kind k.Class) i t j → Meets (rule.class inner t.line j) (IsModuleDefinition N i)
   unfolding rule.class
   class_sound i j t st = bind (name_sound j) λ n l h. bind (optional_params_sound l) λ ps m p. bind (inherits_sound m) λ parent o q. bind (block_sound inner N s o) λ ss v b.
-      done (IsClassOrDefine.class i j l m o v t n ps parent ss st h p q b)
+      done (IsModuleDefinition.class i j l m o v t n ps parent ss st h p q b)
 
-  define_sound : (i j : Input) (t : Token) → Stands (is_kind k.Define) i t j → Meets (rule.define inner t.line j) (IsClassOrDefine N i)
+  define_sound : (i j : Input) (t : Token) → Stands (is_kind k.Define) i t j → Meets (rule.define inner t.line j) (IsModuleDefinition N i)
   unfolding rule.define
   define_sound i j t st = bind (name_sound j) λ n l h. bind (optional_params_sound l) λ ps m p. bind (block_sound inner N s m) λ ss v b.
-      done (IsClassOrDefine.define i j l m v t n ps ss st h p b)
+      done (IsModuleDefinition.define i j l m v t n ps ss st h p b)
+
+  -- ---- functions
+
+  as_return_type : (i j : Input) (t : Token) (xs : List Expr) (l : Input) → Stands (is_kind k.Type) i t j → IsAccess N j xs l → IsReturnType N i (rule.applied_type (name_of t) xs) l
+  as_return_type i j t xs l st (IsAccess.access _ m n _ opener closer _ o h c) = IsReturnType.applied i j m n l t opener closer xs st o h c
+
+  return_type_sound : Sound (rule.return_type inner) (IsReturnType N)
+  unfolding rule.return_type rule.type_from is_kind same_kind
+  return_type_sound i = bind (expect_sound k.Type i) λ t j st. go t j st (kind j) refl
+    where
+      go : (t : Token) (j : Input) → Stands (is_kind k.Type) i t j → (next : Option Kind) → kind j ≡ next → Meets (rule.type_from_by inner (name_of t) next j) (IsReturnType N i)
+      go t j st (Some k.TightBracket) e = bind (access_sound inner N s j) λ xs l a. done (as_return_type i j t xs l st a)
+      go t j st _ e = done (IsReturnType.bare i j t st (at_next (is_kind k.TightBracket) j e refl))
+
+  optional_return_sound : Sound (rule.optional_return inner) (Maybe (IsReturn N) (is_kind k.Returns))
+  unfolding rule.optional_return is_kind same_kind
+  optional_return_sound i = go (kind i) refl
+    where
+      go : (next : Option Kind) → kind i ≡ next → Meets (rule.return_by inner next i) (Maybe (IsReturn N) (is_kind k.Returns) i)
+      go (Some k.Returns) e = bind (take_at (is_kind k.Returns) i _ e refl) λ t j st. bind (return_type_sound j) λ x l h.
+          done (Maybe.given i l x (at_next (is_kind k.Returns) i e refl) (IsReturn.returns i j l t x st h))
+      go _ e = done (Maybe.left_out i (at_next (is_kind k.Returns) i e refl))
+
+  -- behind `function`
+  function_definition_sound : (i j : Input) (t : Token) → Stands (is_kind k.Function) i t j → Meets (rule.function_definition inner t.line j) (IsModuleDefinition N i)
+  unfolding rule.function_definition
+  function_definition_sound i j t st = bind (name_sound j) λ n l h. bind (optional_params_sound l) λ ps m p. bind (optional_return_sound m) λ type o q. bind (function_block_sound inner N s o) λ ss v b.
+      done (IsModuleDefinition.function i j l m o v t n ps type ss st h p q b)
 
   -- ---- nodes
 
@@ -153,13 +183,15 @@ module _ (inner : Inner) (N : Within) (s : IsSound inner N) where
       bind (resource_sound inner N s i j resource_form.Plain t.text t.line (λ bs l h. IsResource.plain i j l t bs (other_kind k.Class st names_resource refl) h)) λ first l h.
       bind (chain_from_sound inner N s i l t.line first (line_of_stands st) h (not_begins (by_kind k.Class (is_kind k.StatementFunction) st refl)) (not_alone N i (by_kind k.Class (is_kind k.Type) st refl))) λ r m read.
       done (read_item i m r read)
-  class_item_sound i j t st _ e = bind (class_sound i j t st) λ d l h. done (IsItemRead.definition l d (IsDefinition.class_or_define i l d h))
+  class_item_sound i j t st _ e = bind (class_sound i j t st) λ d l h. done (IsItemRead.definition l d (IsDefinition.of_module i l d h))
 
   item_by_sound : EndsOnce N → (i : Input) (next : Option Kind) → kind i ≡ next → Meets (rule.item_by inner next i) (IsItemRead N i)
   unfolding rule.class_item is_kind same_kind
   item_by_sound once i (Some k.Class) e = bind_made _ (take_at (is_kind k.Class) i _ e refl) λ t j st. class_item_sound i j t st (kind j) refl
   item_by_sound once i (Some k.Define) e = bind (take_at (is_kind k.Define) i _ e refl) λ t j st. bind (define_sound i j t st) λ d l h.
-      done (IsItemRead.definition l d (IsDefinition.class_or_define i l d h))
+      done (IsItemRead.definition l d (IsDefinition.of_module i l d h))
+  item_by_sound once i (Some k.Function) e = bind (take_at (is_kind k.Function) i _ e refl) λ t j st. bind (function_definition_sound i j t st) λ d l h.
+      done (IsItemRead.definition l d (IsDefinition.of_module i l d h))
   item_by_sound once i (Some k.Node) e = bind (take_at (is_kind k.Node) i _ e refl) λ t j st. bind (node_sound i j t st) λ d l h. done (IsItemRead.definition l d h)
   item_by_sound once i _ e = bind (statement_sound inner N s once None i i (Pends.nothing i)) λ r l h. done (read_item i l r h)
 
@@ -173,13 +205,8 @@ module _ (inner : Inner) (N : Within) (s : IsSound inner N) where
     definition : (j m : Input) (d : Definition) → IsDefinition N i d j → IsEnd N j m → IsItemEnded i (item.Definition d) m
     statement : (j l m : Input) (st : Statement) (waiting : Option Name) → IsStatement N i st j → IsEnd N j l → Pends waiting l m → IsItemEnded i (item.Statement st waiting) m
 
-  -- `;` where nothing was taken before
-  plain_end : (b : Bool) (j m : Input) → Eaten k.Semicolon j b m → IsEnd N j m
-  plain_end b j m (Eaten.eaten _ _ t st) = IsEnd.given j m t st
-  plain_end b j m (Eaten.other _ h) = IsEnd.left_out j h
-
   item_ended_sound : (x : Item) (i l : Input) → IsItemRead N i x l → Meets (eat k.Semicolon l) (λ b m. IsItemEnded i x m)
-  item_ended_sound x i l (IsItemRead.definition _ d h) = weaker (eat_sound k.Semicolon l) λ b m e. IsItemEnded.definition l m d h (plain_end b l m e)
+  item_ended_sound x i l (IsItemRead.definition _ d h) = weaker (eat_sound k.Semicolon l) λ b m e. IsItemEnded.definition l m d h (plain_end N b l m e)
   item_ended_sound x i l (IsItemRead.statement j _ st waiting h p) = weaker (end_sound inner N s waiting j l p) λ b m found. IsItemEnded.statement j found.0 m st waiting h found.1 found.2
 
   file_end : (waiting : Option Name) (i j : Input) → Pends waiting i j → rule.ends_file waiting (kind j) ≡ true → IsMain N i [] [] j
@@ -207,13 +234,14 @@ module _ (inner : Inner) (N : Within) (s : IsSound inner N) where
 
   -- ---- module files
 
-  module_item_sound : Sound (rule.module_item inner) (IsClassOrDefine N)
+  module_item_sound : Sound (rule.module_item inner) (IsModuleDefinition N)
   unfolding rule.module_item is_kind same_kind
   module_item_sound i = go (kind i) refl
     where
-      go : (next : Option Kind) → kind i ≡ next → Meets (rule.module_item_by inner next i) (IsClassOrDefine N i)
+      go : (next : Option Kind) → kind i ≡ next → Meets (rule.module_item_by inner next i) (IsModuleDefinition N i)
       go (Some k.Class) e = bind (take_at (is_kind k.Class) i _ e refl) λ t j st. class_sound i j t st
       go (Some k.Define) e = bind (take_at (is_kind k.Define) i _ e refl) λ t j st. define_sound i j t st
+      go (Some k.Function) e = bind (take_at (is_kind k.Function) i _ e refl) λ t j st. function_definition_sound i j t st
       go _ e = refused
 
   -- definitions alone
@@ -225,7 +253,7 @@ module _ (inner : Inner) (N : Within) (s : IsSound inner N) where
   module_from_sound zero found i = refused
   module_from_sound (suc n) found i = either_at _ _ (λ e. done (found_end found i (refl, IsModule.end i (no_token (kind i) e))))
       (λ e. bind (module_item_sound i) λ d j h. bind (eat_sound k.Semicolon j) λ b l f.
-      weaker (module_from_sound n (with_definition found d) l) (found_definition found d (λ ss ds v a. (a.0, IsModule.definition i j l v d ds h (plain_end b j l f) a.1))))
+      weaker (module_from_sound n (with_definition found d) l) (found_definition found d (λ ss ds v a. (a.0, IsModule.definition i j l v d ds h (plain_end N b j l f) a.1))))
 
   -- What is read of a module file, stands there.
   pub module_file_sound : (i : Input) → Meets (rule.module_file inner i) (λ found j. (found.statements ≡ []) × IsModule N i found.definitions j)

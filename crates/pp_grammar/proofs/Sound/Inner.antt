@@ -6,7 +6,7 @@ use Rattle.pp_parser.specs.declared.inset.Inset.TheVariants as goal
 use Rattle.pp_parser.specs.declared.inset.InsetTree.{InsetTree}
 use Rattle.pp_parser.specs.declared.inset.InsetTree.TheVariants as part
 use Rattle.pp_grammar.proofs.Reader.Input.{Input}
-use Rattle.pp_grammar.proofs.Reader.Inner.{Inner, opening, expr_of, param_of, block_of, case_option_of, query_of, whole_in, operand_in, interpolated_in, param_in, statements_in, case_option_in, query_in}
+use Rattle.pp_grammar.proofs.Reader.Inner.{Inner, opening, expr_of, param_of, block_of, case_option_of, query_of, whole_in, operand_in, interpolated_in, param_in, statements_in, function_statements_in, case_option_in, query_in}
 use Rattle.pp_grammar.specs.Keys.{doubled_key}
 use Rattle.pp_grammar.specs.Places.{Within, Opens}
 use Rattle.pp_grammar.proofs.Sound.Steps.{Meets, Sound, met, bind, done, refused, open_sound}
@@ -53,6 +53,14 @@ module _ (inner : Inner) (N : Within) (s : IsSound inner N) where
   statements_in_sound i = bind (part_sound goal.Statements i) go
     where
       go : (p : InsetTree) (j : Input) → N.reads goal.Statements i p j → Meets (block_of p j) (λ ss l. N.reads goal.Statements i (part.Block ss) l)
+      go (part.Block ss) j h = done h
+      go _ j h = refused
+
+  pub function_statements_in_sound : Sound (function_statements_in inner) (λ i ss j. N.reads goal.FunctionStatements i (part.Block ss) j)
+  unfolding function_statements_in
+  function_statements_in_sound i = bind (part_sound goal.FunctionStatements i) go
+    where
+      go : (p : Part) (j : Input) → N.reads goal.FunctionStatements i p j → Meets (block_of p j) (λ ss l. N.reads goal.FunctionStatements i (part.Block ss) l)
       go (part.Block ss) j h = done h
       go _ j h = refused
 

@@ -6,17 +6,22 @@ use Rattle.pp_parser.specs.declared.inset.InsetTree.{InsetTree}
 use Rattle.pp_grammar.proofs.Reader.Input.{Input, Outcome, Parser}
 use Rattle.pp_grammar.proofs.Reader.Inner.{Inner}
 use Rattle.pp_parser.specs.declared.found.Found.{Found}
+use Rattle.pp_tree.specs.declared.template.Template.{Template}
 use Rattle.pp_grammar.proofs.Reader.Definitions.{main_manifest, module_file}
+use Rattle.pp_grammar.proofs.Reader.Templates.{template}
 use Rattle.pp_grammar.proofs.Reader.Levels.{part_by, within_to, deepest_to, read_to}
 use Rattle.pp_grammar.specs.Places.{Within}
 use Rattle.pp_grammar.specs.Files.{IsMain, IsModule, IsPart, LevelsTo}
+use Rattle.pp_grammar.specs.Templates.{IsTemplate}
 use Rattle.pp_grammar.proofs.Sound.Steps.{Sound, bind, done, reads}
 use Rattle.pp_grammar.proofs.Sound.Inner.{IsSound}
 use Rattle.pp_grammar.proofs.Sound.Expressions.{whole_sound, operand_sound, interpolated_sound, param_sound, case_option_sound}
 use Rattle.pp_grammar.proofs.Sound.Ends.{EndsOnce}
 use Rattle.pp_grammar.proofs.Sound.Resources.{query_sound}
 use Rattle.pp_grammar.proofs.Sound.Statements.{statements_sound}
+use Rattle.pp_grammar.proofs.Sound.FunctionBodies.{function_statements_sound}
 use Rattle.pp_grammar.proofs.Sound.Files.{main_manifest_sound, module_file_sound}
+use Rattle.pp_grammar.proofs.Sound.Templates.{template_sound}
 
 pub part_sound : (inner : Inner) (N : Within) → IsSound inner N → EndsOnce N → (g : Inset) → Sound (part_by inner g) (IsPart N g)
 unfolding part_by
@@ -25,6 +30,7 @@ part_sound inner N s once (goal.Operand bars) i = bind (operand_sound inner N s 
 part_sound inner N s once goal.Interpolated i = bind (interpolated_sound inner N s i) λ x j h. done h
 part_sound inner N s once (goal.Param bars) i = bind (param_sound inner N s bars i) λ x j h. done h
 part_sound inner N s once goal.Statements i = bind (statements_sound inner N s once i) λ x j h. done h
+part_sound inner N s once goal.FunctionStatements i = bind (function_statements_sound inner N s i) λ x j h. done h
 part_sound inner N s once goal.CaseOption i = bind (case_option_sound inner N s i) λ x j h. done h
 part_sound inner N s once goal.Query i = bind (query_sound inner N s i) λ x j h. done h
 
@@ -50,7 +56,7 @@ within_sound behind once zero (suc more) =
 within_sound behind once (suc levels) more =
     record { deepest = refl; keys = refl; reads = λ g i j p e. reads (part_sound (within_to behind levels more) (LevelsTo behind levels more) (within_sound behind once levels more) (once levels more) g) i j p e }
 
--- What is read of a main manifest and of a module file, stands there.
+-- What is read of a main manifest, of a module file and of a template, stands there.
 pub main_sound : (inner : Inner) (N : Within) → IsSound inner N → EndsOnce N
     → (i j : Input) (found : Found) → main_manifest inner i ≡ Ok (found, j) → IsMain N i found.statements found.definitions j
 main_sound inner N s once i j found e = (main_manifest_sound inner N s once i).holds found j e
@@ -58,3 +64,7 @@ main_sound inner N s once i j found e = (main_manifest_sound inner N s once i).h
 pub module_sound : (inner : Inner) (N : Within) → IsSound inner N
     → (i j : Input) (found : Found) → module_file inner i ≡ Ok (found, j) → (found.statements ≡ []) × IsModule N i found.definitions j
 module_sound inner N s i j found e = (module_file_sound inner N s i).holds found j e
+
+pub template_read_sound : (inner : Inner) (N : Within) → IsSound inner N → EndsOnce N
+    → (i j : Input) (found : Template) → template inner i ≡ Ok (found, j) → IsTemplate N i found j
+template_read_sound inner N s once i j found e = (template_sound inner N s once i).holds found j e

@@ -28,7 +28,7 @@ use Rattle.pp_grammar.proofs.Reader.Statements as rule
 use Rattle.pp_grammar.specs.Places.{Within, Stands, Maybe, Begins}
 use Rattle.pp_grammar.specs.Expressions.{begins_postfix, IsCallOrName, IsPrimary, IsWhole}
 use Rattle.pp_grammar.specs.Statements.{opens_collector, calls_or_declares, is_arrow, marks, IsReference, IsResource, IsExpressionOperand, IsOperand, IsLink, IsChain, BeginsArgument, AreWords, BeginsAlone, IsStatement, IsEnd, AreStatements}
-use Rattle.pp_grammar.proofs.Sound.Steps.{Meets, Sound, bind, bind_made, done, refused, either_at, weaker, take_at, take_sound, is_kind_is, Eaten, eat_sound, at_next, not_begins, not_before, line_of_stands, fits_of_stands, behind_of_stands, by_kind, other_kind, by_name, other_name}
+use Rattle.pp_grammar.proofs.Sound.Steps.{Meets, Sound, bind, bind_made, done, refused, either_at, weaker, take_at, take_sound, expect_sound, is_kind_is, Eaten, eat_sound, at_next, not_begins, not_before, line_of_stands, fits_of_stands, behind_of_stands, by_kind, other_kind, by_name, other_name}
 use Rattle.pp_grammar.proofs.Sound.Lists.{repeat_sound, From, from_nothing, at_end, one_more}
 use Rattle.pp_grammar.proofs.Sound.Inner.{IsSound}
 use Rattle.pp_grammar.proofs.Sound.Expressions.{IsAccess, as_postfix, access_sound, call_or_name_sound, postfixes_sound, more_postfixes_sound, begun_sound, whole_sound}
@@ -94,6 +94,11 @@ no_words_before j h = go (kind j) h
     go None e = absurd cc
     go (Some x) e = ap (λ (y : Kind). not (calls_or_declares (Some y))) (is_kind_is k.OpenBrace x e)
 
+-- `;` where nothing was taken before
+pub plain_end : (N : Within) (b : Bool) (j m : Input) → Eaten k.Semicolon j b m → IsEnd N j m
+plain_end N b j m (Eaten.eaten _ _ t st) = IsEnd.given j m t st
+plain_end N b j m (Eaten.other _ h) = IsEnd.left_out j h
+
 no_brace : (next : Option Kind) → rule.ends_block None next ≡ false → is_kind k.CloseBrace next ≡ false
 unfolding is_kind same_kind
 no_brace (Some k.CloseBrace) h = absurd cc
@@ -108,7 +113,7 @@ module _ (inner : Inner) (N : Within) (s : IsSound inner N) where
   -- ---- operands of a chain
 
   -- a value that a name begins, and what follows it
-  by_name_sound : (i j l : Input) (t : Token) (f : Form) → Stands is_name i t j → IsCallOrName N false t.text j f l
+  pub by_name_sound : (i j l : Input) (t : Token) (f : Form) → Stands is_name i t j → IsCallOrName N false t.text j f l
       → Meets (chain inner false loosest (Some (started (expr_at t.line f))) l) (IsWhole N false false i)
   unfolding is_kind same_kind
   by_name_sound i j l t f st c = weaker (begun_sound inner N s false i l _ (postfixes_sound inner N s false i l t.line f (line_of_stands st) (IsPrimary.named i j l t f st c)))
@@ -251,7 +256,10 @@ module _ (inner : Inner) (N : Within) (s : IsSound inner N) where
       (not_alone_type N i j t st (at_next (is_kind k.OpenBrace) j e refl) (at_next (is_kind k.TightBracket) j e refl))
 
   statement_by_sound : EndsOnce N → (i : Input) (next : Option Kind) → kind i ≡ next → Meets (rule.statement_by inner next i) (IsRead N i)
-  unfolding rule.function rule.typed is_kind same_kind
+  unfolding rule.function rule.typed rule.emitted_value is_kind same_kind
+  statement_by_sound once i (Some k.RenderString) e = bind (take_at (is_kind k.RenderString) i _ e refl) λ t j st. done (read_alone i j _ (IsStatement.emitted_text i j t st))
+  statement_by_sound once i (Some k.RenderExpr) e = bind (take_at (is_kind k.RenderExpr) i _ e refl) λ t j st. bind (whole_sound inner N s false false j) λ x l w.
+      bind (expect_sound k.TagEnd l) λ closer m c. done (read_alone i m _ (IsStatement.emitted_value i j l m t closer x st w c))
   statement_by_sound once i (Some k.StatementFunction) e = bind_made _ (take_at (is_kind k.StatementFunction) i _ e refl) λ t j st. function_sound i j t st (kind j) refl
   statement_by_sound once i (Some k.Type) e = bind_made _ (take_at (is_kind k.Type) i _ e refl) λ t j st. typed_sound once i j t st (kind j) refl
   statement_by_sound once i _ e = bind (operand_sound i) λ first j h.

@@ -114,6 +114,7 @@ no_default inner bars _ e = refl
 param_ends : (next : Option Kind) → ends_param next ≡ true → ends_expression next ≡ true
 param_ends (Some k.Comma) e = refl
 param_ends (Some k.CloseParen) e = refl
+param_ends (Some k.ParamsEnd) e = refl
 param_ends _ e = absurd cc
 
 -- what an expression answers where a parameter stands

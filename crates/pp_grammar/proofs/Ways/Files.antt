@@ -8,7 +8,7 @@ use Rattle.pp_tree.specs.declared.definition.Name.{Name}
 use Rattle.pp_tree.specs.declared.definition.NodeName.{NodeName}
 use Rattle.pp_tree.specs.declared.definition.Definition.{Definition}
 use Rattle.pp_tree.specs.declared.resource.ResourceForm.TheVariants as resource_form
-use Rattle.pp_tree.specs.Building.{node_name as node_name_at}
+use Rattle.pp_tree.specs.Building.{expr_at, node_name as node_name_at}
 use Rattle.pp_parser.specs.declared.item.Item.{Item}
 use Rattle.pp_parser.specs.declared.item.Item.TheVariants as item
 use Rattle.pp_grammar.specs.Keys.{doubled_key}
@@ -16,9 +16,10 @@ use Rattle.pp_grammar.proofs.Reader.Input.{Input, Outcome, Parser, and_then, ◌
 use Rattle.pp_grammar.proofs.Reader.Inner.{Inner}
 use Rattle.pp_grammar.specs.Kinds.{is_kind, same_kind, is_name}
 use Rattle.pp_grammar.proofs.Reader.Levels.{within}
-use Rattle.pp_grammar.proofs.Reader.Statements.{taken_name, resource, chain_from, statement_rule}
+use Rattle.pp_tree.specs.declared.expr.Form.TheVariants as form
+use Rattle.pp_grammar.proofs.Reader.Statements.{name_of, taken_name, resource, chain_from, statement_rule}
 use Rattle.pp_parser.specs.declared.found.Found.{Found}
-use Rattle.pp_grammar.proofs.Reader.Definitions.{nothing_yet, with_definition, found_with, pending_of, taken_text, name_rule, params, params_by, optional_params, inherits_by, optional_inherits, class, define, plain_by, plain_text, node_name_by, node_name_rule, node_names_from, node_names, node, read_of, class_item_by, class_item, item_by, item_rule, ends_file, manifest_from, main_manifest, module_item_by, module_item, module_from, module_file}
+use Rattle.pp_grammar.proofs.Reader.Definitions.{nothing_yet, with_definition, found_with, pending_of, taken_text, name_rule, params, params_by, optional_params, inherits_by, optional_inherits, class, define, type_from_by, type_from, return_type, return_by, optional_return, function_definition, plain_by, plain_text, node_name_by, node_name_rule, node_names_from, node_names, node, read_of, class_item_by, class_item, item_by, item_rule, ends_file, manifest_from, main_manifest, module_item_by, module_item, module_from, module_file}
 use Rattle.pp_grammar.proofs.Sound.Steps as sound
 use Rattle.pp_grammar.proofs.Local.Steps.{Falls, any, one, falls_less, falls_then, first_local, loose_local, expect_local}
 use Rattle.pp_grammar.proofs.Local.Lists.{same_then, same_behind, behind_item}
@@ -28,7 +29,8 @@ use Rattle.pp_grammar.proofs.Ways.Steps.{Holds, Fresh, Rule, everything, first, 
 use Rattle.pp_grammar.proofs.Ways.NextToken.{Branch, map_goes, peek_some, peek_none, here_some, leaves, taking, same_holds, same_rule, expect_goes, expect_any_goes, opening_goes, pure_fresh, same_fresh, eat_if, eat_none_fresh}
 use Rattle.pp_grammar.proofs.Ways.Lists.{always}
 use Rattle.pp_grammar.proofs.Ways.Inner.{InnerGoes, here_too, until}
-use Rattle.pp_grammar.proofs.Ways.Expressions.{block_goes}
+use Rattle.pp_grammar.proofs.Ways.Expressions.{block_goes, access_goes}
+use Rattle.pp_grammar.proofs.Ways.FunctionBodies.{function_block_goes}
 use Rattle.pp_grammar.proofs.Ways.Resources.{ends_statement, taken_name_goes, resource_goes}
 use Rattle.pp_grammar.proofs.Ways.Statements.{pending_ends, chain_from_goes, statement_rule_goes, pending_goes}
 use Rattle.pp_grammar.proofs.Ways.Turns.{loop, on, on_goes}
@@ -51,6 +53,14 @@ no_params inner _ e = refl
 no_parent : (inner : Inner) (next : Option Kind) → opens_block next ≡ true → inherits_by inner next ≡ pure None
 no_parent inner (Some k.Inherits) e = absurd cc
 no_parent inner _ e = refl
+
+no_arguments : (inner : Inner) (type : Name) (next : Option Kind) → opens_block next ≡ true → type_from_by inner type next ≡ pure (expr_at type.at (form.Type type.text))
+no_arguments inner type (Some k.TightBracket) e = absurd cc
+no_arguments inner type _ e = refl
+
+no_return : (inner : Inner) (next : Option Kind) → opens_block next ≡ true → return_by inner next ≡ pure None
+no_return inner (Some k.Returns) e = absurd cc
+no_return inner _ e = refl
 
 block_params : (next : Option Kind) → opens_block next ≡ true → behind_params next ≡ true
 block_params (Some k.OpenBrace) e = refl
@@ -86,11 +96,11 @@ abbrev pub file_ends : Option Kind → Bool
 file_ends None = true
 file_ends _ = false
 
-file_statement : (next : Option Kind) → file_ends next ≡ true → ends_statement next ≡ true
+pub file_statement : (next : Option Kind) → file_ends next ≡ true → ends_statement next ≡ true
 file_statement None e = refl
 file_statement (Some x) e = absurd cc
 
-file_apart : (next : Option Kind) → file_ends next ≡ true → not (is_kind k.Semicolon next) ≡ true
+pub file_apart : (next : Option Kind) → file_ends next ≡ true → not (is_kind k.Semicolon next) ≡ true
 unfolding is_kind
 file_apart None e = refl
 file_apart (Some x) e = absurd cc
@@ -104,7 +114,7 @@ behind_any : {A B : Type 0} {Q : B → Input → Type 0} (o : Outcome A) (f : A 
 behind_any (Ok p) f h = h p.0 p.1
 behind_any (Err e) f h = sound.refused
 
-none_fits : (p : Option Name) (j : Input) → p ≡ None → Fits p j
+pub none_fits : (p : Option Name) (j : Input) → p ≡ None → Fits p j
 none_fits p j e = subst (λ (x : Option Name). Fits x j) (sym e) tt
 
 taken_item_none : (inner : Inner) (name : Name) (i : Input) → sound.Meets (taken_item inner name i) (λ x j. pending_of x ≡ None)
@@ -118,6 +128,7 @@ item_by_fits : (inner : Inner) → inner.doubled_key ≡ doubled_key → (next :
 unfolding class_item
 item_by_fits inner keys (Some k.Class) i = behind_any (taken_name i) (class_item inner) (λ word j. class_fits inner word (kind j) j)
 item_by_fits inner keys (Some k.Define) i = behind_any (take i) (λ t. define inner t.line >>= (λ d. pure (item.Definition d))) (λ t j. behind_any (define inner t.line j) (λ d. pure (item.Definition d)) (λ d l. sound.done tt))
+item_by_fits inner keys (Some k.Function) i = behind_any (take i) (λ t. function_definition inner t.line >>= (λ d. pure (item.Definition d))) (λ t j. behind_any (function_definition inner t.line j) (λ d. pure (item.Definition d)) (λ d l. sound.done tt))
 item_by_fits inner keys (Some k.Node) i = behind_any (take i) (λ t. node inner t.line >>= (λ d. pure (item.Definition d))) (λ t j. behind_any (node inner t.line j) (λ d. pure (item.Definition d)) (λ d l. sound.done tt))
 item_by_fits inner keys _ i = sound.bind {o = statement_rule inner None i} {f = λ read. pure (read_of inner read)} (statement_fits inner keys i) (λ read j h. sound.done h)
 
@@ -125,7 +136,7 @@ item_fits : (inner : Inner) → inner.doubled_key ≡ doubled_key → (i : Input
 unfolding item_rule
 item_fits inner keys i = item_by_fits inner keys (kind i) i
 
-file_end : (next : Option Kind) → ends_file None next ≡ file_ends next
+pub file_end : (next : Option Kind) → ends_file None next ≡ file_ends next
 file_end None = refl
 file_end (Some x) = refl
 
@@ -213,6 +224,32 @@ module _ {n : ℕ} (I : InnerGoes n) where
   unfolding define
   define_goes at = first_any name_rule_goes (λ _. after optional_params_goes (λ _. first_any (block_goes I) (λ _. pure_goes _)) (λ _. refl))
 
+  -- ---- functions
+
+  type_from_by_goes : (type : Name) (next : Option Kind) → Branch n (always opens_block) (pure (expr_at type.at (form.Type type.text))) (λ m. pure (expr_at type.at (form.Type type.text))) (type_from_by (within n) type next) (λ m. type_from_by (within m) type next)
+  type_from_by_goes type (Some k.TightBracket) = taking (first_any (access_goes I) (λ _. pure_goes _))
+  type_from_by_goes type _ = leaves refl refl
+
+  type_from_goes : (type : Name) → Rule n None (always opens_block) (type_from (within n) type) (λ m. type_from (within m) type)
+  unfolding type_from
+  type_from_goes type = peek_none (pure_goes _) (type_from_by_goes type) (λ _ next e m. no_arguments (within m) type next e)
+
+  return_type_goes : Rule n (Some k.Type) (always opens_block) (return_type (within n)) (λ m. return_type (within m))
+  unfolding return_type is_kind same_kind
+  return_type_goes = first_any (expect_goes k.Type refl) (λ t. type_from_goes (name_of t))
+
+  return_by_goes : (next : Option Kind) → Branch n (always opens_block) (pure None) (λ m. pure None) (return_by (within n) next) (λ m. return_by (within m) next)
+  return_by_goes (Some k.Returns) = taking (first_any (take_goes {k = k.Returns}) (λ _. first return_type_goes (λ _. pure_goes _) (λ _ _ _ e. e)))
+  return_by_goes _ = leaves refl refl
+
+  optional_return_goes : Rule n None (always opens_block) (optional_return (within n)) (λ m. optional_return (within m))
+  unfolding optional_return
+  optional_return_goes = peek_none (pure_goes None) return_by_goes (λ _ next e m. no_return (within m) next e)
+
+  function_definition_goes : {E : Definition → Option Kind → Bool} (at : ℕ) → Rule n (Some k.Name) E (function_definition (within n) at) (λ m. function_definition (within m) at)
+  unfolding function_definition
+  function_definition_goes at = first_any name_rule_goes (λ _. after optional_params_goes (λ _. after optional_return_goes (λ _. first_any (function_block_goes I) (λ _. pure_goes _)) (λ _. refl)) (λ _. refl))
+
   -- ---- nodes
 
   plain_by_holds : {E : List ℕ → Option Kind → Bool} (next : Option Kind) → Holds n 1 E (plain_by (within n) next) (λ m. plain_by (within m) next)
@@ -267,6 +304,7 @@ module _ {n : ℕ} (I : InnerGoes n) where
   item_by_holds : (next : Option Kind) → Holds n 1 ends_item (item_by (within n) next) (λ m. item_by (within m) next)
   item_by_holds (Some k.Class) = (first_any (taken_name_goes {k = k.Class}) class_item_goes).holds
   item_by_holds (Some k.Define) = (first_any (take_goes {k = k.Define}) (λ t. first_any (define_goes t.line) (λ _. pure_goes _))).holds
+  item_by_holds (Some k.Function) = (first_any (take_goes {k = k.Function}) (λ t. first_any (function_definition_goes t.line) (λ _. pure_goes _))).holds
   item_by_holds (Some k.Node) = (first_any (take_goes {k = k.Node}) (λ t. first_any (node_goes t.line) (λ _. pure_goes _))).holds
   item_by_holds _ = (map_goes (read_of (within n)) (statement_rule_goes I) (λ _ next e. e)).holds
 
@@ -280,6 +318,7 @@ module _ {n : ℕ} (I : InnerGoes n) where
   module_item_by_holds : {E : Definition → Option Kind → Bool} (next : Option Kind) → Holds n 1 E (module_item_by (within n) next) (λ m. module_item_by (within m) next)
   module_item_by_holds (Some k.Class) = (first_any (take_goes {k = k.Class}) (λ t. class_goes t.line)).holds
   module_item_by_holds (Some k.Define) = (first_any (take_goes {k = k.Define}) (λ t. define_goes t.line)).holds
+  module_item_by_holds (Some k.Function) = (first_any (take_goes {k = k.Function}) (λ t. function_definition_goes t.line)).holds
   module_item_by_holds _ = refuse_holds
 
   module_item_goes : {E : Definition → Option Kind → Bool} → Rule n (Some k.Class) E (module_item (within n)) (λ m. module_item (within m))

@@ -23,6 +23,9 @@ use Rattle.pp_grammar.proofs.Ways.Inner.{ends_expression, ends_param, ends_query
 use Rattle.pp_grammar.proofs.Ways.Expressions.{no_call, no_postfix, no_operator, no_default, no_type, Answer, gives, refuses, answer, asks, param_meets, begun_behind, finished, finished_is}
 use Rattle.pp_grammar.proofs.Ways.Resources.{query_ends, no_word}
 use Rattle.pp_grammar.proofs.Ways.Turns.{none_fresh}
+use Rattle.pp_grammar.proofs.Local.FunctionBodies.{next_statement_local}
+use Rattle.pp_grammar.proofs.Reader.FunctionBodies.{next_statement_by, next_statement, function_statements}
+use Rattle.pp_grammar.proofs.Ways.FunctionBodies.{no_statement}
 use Rattle.pp_grammar.proofs.Ways.Blocks.{taken_up, taken_up_none, add_read, read_next, statement_falls, taken_up_falls, block_statement, block_apart, statements_is}
 
 -- ---- a name as an expression
@@ -98,6 +101,7 @@ default_rule_fresh bars = peek_none_fresh (λ next m. default_by (within m) bars
 param_expression : (next : Option Kind) → ends_param next ≡ true → ends_expression next ≡ true
 param_expression (Some k.Comma) e = refl
 param_expression (Some k.CloseParen) e = refl
+param_expression (Some k.ParamsEnd) e = refl
 param_expression _ e = absurd cc
 
 typed_param_fresh : (bars : Bool) (type : Expr) → Fresh (Some k.Variable) (always ends_param) (λ m. typed_param (within m) bars type)
@@ -118,6 +122,14 @@ param_rule_fresh bars = here_fresh k.Name (λ at m. whole (within m) false bars 
 pub statements_fresh : Fresh None (always closes_block) (λ m. statements (within m))
 statements_fresh = same_fresh (λ m i. statements_is (within m) refl i)
     (none_fresh closes_block add_read read_next (λ m. statement_rule (within m) None) (λ m. taken_up (within m)) statement_falls taken_up_falls (λ m name i r e. (taken_up_none (within m) name i).holds r.0 r.1 e) block_statement block_apart [])
+
+next_statement_fresh : Fresh None (always closes_block) (λ m. next_statement (within m))
+unfolding next_statement
+next_statement_fresh = peek_none_fresh (λ next m. next_statement_by (within m) next) (pure_fresh None) (λ next e m. no_statement (within m) next e)
+
+pub function_statements_fresh : Fresh None (always closes_block) (λ m. function_statements (within m))
+unfolding function_statements
+function_statements_fresh = repeat_fresh _ (λ m. (next_statement_local (here_too m) {d = true}).falls) next_statement_fresh
 
 -- with what stands one level further in given
 module _ (S : Fresh None (always closes_block) (λ m. statements_in (within m))) where

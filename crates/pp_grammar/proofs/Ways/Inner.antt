@@ -3,7 +3,7 @@ use Rattle.std.proofs.Common.{◌≡◌, ℕ, Bool, true, false, not, [], Option
 use Rattle.pp_lexer.specs.declared.kind.Kind.{Kind}
 use Rattle.pp_lexer.specs.declared.kind.Kind.TheVariants as k
 use Rattle.pp_grammar.proofs.Reader.Input.{Input, Parser, ◌>>=◌, ◌>>◌, pure, expect, separated}
-use Rattle.pp_grammar.proofs.Reader.Inner.{whole_in, operand_in, interpolated_in, param_in, statements_in, case_option_in, query_in}
+use Rattle.pp_grammar.proofs.Reader.Inner.{whole_in, operand_in, interpolated_in, param_in, statements_in, function_statements_in, case_option_in, query_in}
 use Rattle.pp_grammar.specs.Kinds.{is_kind}
 use Rattle.pp_grammar.proofs.Reader.Levels.{within}
 use Rattle.pp_tree.specs.declared.expr.Expr.{Expr}
@@ -29,12 +29,15 @@ ends_expression (Some k.InterpolationEnd) = true
 ends_expression (Some k.CloseCollector) = true
 ends_expression (Some k.CloseExported) = true
 ends_expression (Some k.Variable) = true
+ends_expression (Some k.TagEnd) = true
+ends_expression (Some k.ParamsEnd) = true
 ends_expression _ = false
 
 -- the end of a parameter
 abbrev pub ends_param : Option Kind → Bool
 ends_param (Some k.Comma) = true
 ends_param (Some k.CloseParen) = true
+ends_param (Some k.ParamsEnd) = true
 ends_param _ = false
 
 -- the end of a block's statements, or of a case's options
@@ -60,6 +63,7 @@ pub record InnerGoes (n : ℕ) : Type 0 where
   pub interpolated : Rule n (Some k.Name) everything (interpolated_in (within n) >>= finish) (λ m. interpolated_in (within m) >>= finish)
   pub param : (bars : Bool) → Rule n (Some k.Name) (always ends_param) (param_in (within n) bars) (λ m. param_in (within m) bars)
   pub statements : Rule n None (always closes_block) (statements_in (within n)) (λ m. statements_in (within m))
+  pub function_statements : Rule n None (always closes_block) (function_statements_in (within n)) (λ m. function_statements_in (within m))
   pub option : Rule n (Some k.Name) everything (case_option_in (within n)) (λ m. case_option_in (within m))
   pub query : Rule n (Some k.Name) (always ends_query) (query_in (within n)) (λ m. query_in (within m))
 

@@ -1,5 +1,5 @@
--- Before the token at which a file is refused, and which no text goes on with, some text goes on: the refused token is the
--- first fault of the file.
+-- Before the token at which a file or a template is refused, and which no text goes on with, some text goes on: the refused
+-- token is the first fault of the file.
 use Rattle.std.proofs.Common.{◌≡◌, ℕ, suc, ◌-◌, ◌<◌, ◌≤◌, Bool, List, [], ◌∷◌, ◌++◌, length, take, drop, Option, None, Err, refl, sym, subst, ◌∙◌, length-drop, append-nil, arith}
 use Rattle.std.proofs.lemmas.List.{take-append-drop}
 use Rattle.std.proofs.Math.Decide.{dec_le}
@@ -9,15 +9,17 @@ use Rattle.pp_parser.specs.declared.refusal.Refusal.TheVariants as refusals
 use Rattle.pp_grammar.proofs.Reader.Input.{Input, Outcome, Parser, kind_at}
 use Rattle.pp_grammar.proofs.Reader.Levels.{within}
 use Rattle.pp_grammar.proofs.Reader.Definitions.{main_manifest, module_file}
+use Rattle.pp_grammar.proofs.Reader.Templates.{template}
 use Rattle.pp_grammar.proofs.Reader.Manifest.{start}
 use Rattle.pp_grammar.proofs.Local.Ahead.{LooksAtNext}
 use Rattle.pp_grammar.proofs.Local.Steps.{Alike, at_it, before_it, Falls}
-use Rattle.pp_grammar.proofs.Local.Laws.{main_manifest_looks, module_file_looks}
+use Rattle.pp_grammar.proofs.Local.Laws.{main_manifest_looks, module_file_looks, template_looks}
 use Rattle.pp_grammar.proofs.Ways.Ahead.{GoesOn}
 use Rattle.pp_grammar.proofs.Ways.Steps.{Way, Goes, Rule}
 use Rattle.pp_grammar.proofs.Ways.Lists.{always}
 use Rattle.pp_grammar.proofs.Ways.Levels.{inner_goes}
 use Rattle.pp_grammar.proofs.Ways.Files.{file_ends, main_manifest_goes, module_file_goes}
+use Rattle.pp_grammar.proofs.Ways.Templates.{template_goes}
 
 alike_behind : (pre r s : List Token) → Alike r s (pre ++ r) (pre ++ s)
 alike_behind [] r s = at_it
@@ -54,3 +56,6 @@ main_manifest_goes_on = goes_on (λ m. main_manifest (within m)) (λ n. main_man
 
 pub module_file_goes_on : (n : ℕ) (ts : List Token) (k : ℕ) → module_file (within n) (start ts) ≡ Err (refusals.Wrong k) → GoesOn (λ m. module_file (within m)) n ts k
 module_file_goes_on = goes_on (λ m. module_file (within m)) (λ n. module_file_goes (inner_goes n)) module_file_looks
+
+pub template_goes_on : (n : ℕ) (ts : List Token) (k : ℕ) → template (within n) (start ts) ≡ Err (refusals.Wrong k) → GoesOn (λ m. template (within m)) n ts k
+template_goes_on = goes_on (λ m. template (within m)) (λ n. template_goes (inner_goes n)) template_looks

@@ -5,10 +5,11 @@ use Rattle.pp_parser.specs.declared.inset.InsetTree.{InsetTree}
 use Rattle.pp_parser.specs.declared.inset.InsetTree.TheVariants as part
 use Rattle.pp_parser.specs.declared.refusal.Refusal.TheVariants as refusals
 use Rattle.pp_grammar.proofs.Reader.Input.{Input, Outcome, Parser, and_then, ◌>>=◌, pure, refuse}
-use Rattle.pp_grammar.proofs.Reader.Inner.{expr_of, param_of, block_of, case_option_of, query_of, whole_in, operand_in, interpolated_in, param_in, statements_in, case_option_in, query_in}
+use Rattle.pp_grammar.proofs.Reader.Inner.{expr_of, param_of, block_of, case_option_of, query_of, whole_in, operand_in, interpolated_in, param_in, statements_in, function_statements_in, case_option_in, query_in}
 use Rattle.pp_grammar.proofs.Reader.Levels.{part_by, within_to, within, deepest_to, read_to}
 use Rattle.pp_grammar.proofs.Reader.Expressions.{whole, operand, interpolated, param_rule, case_option}
 use Rattle.pp_grammar.proofs.Reader.Statements.{statements, query}
+use Rattle.pp_grammar.proofs.Reader.FunctionBodies.{function_statements}
 use Rattle.pp_grammar.proofs.Ways.Steps.{Goes, Holds, Fresh, Rule, refuse_holds}
 use Rattle.pp_grammar.proofs.Ways.NextToken.{same_holds}
 use Rattle.pp_grammar.proofs.Ways.Lists.{always}
@@ -16,7 +17,8 @@ use Rattle.pp_grammar.proofs.Ways.Inner.{closes_block, finish, InnerGoes}
 use Rattle.pp_grammar.proofs.Ways.Expressions.{whole_goes, operand_goes, interpolated_goes, param_rule_goes, case_option_goes}
 use Rattle.pp_grammar.proofs.Ways.Resources.{query_goes}
 use Rattle.pp_grammar.proofs.Ways.Blocks.{statements_goes}
-use Rattle.pp_grammar.proofs.Ways.Fresh.{whole_fresh, operand_fresh, interpolated_fresh, param_rule_fresh, statements_fresh, case_option_fresh, query_fresh}
+use Rattle.pp_grammar.proofs.Ways.FunctionBodies.{function_statements_goes}
+use Rattle.pp_grammar.proofs.Ways.Fresh.{whole_fresh, operand_fresh, interpolated_fresh, param_rule_fresh, statements_fresh, function_statements_fresh, case_option_fresh, query_fresh}
 
 -- ---- one level further in
 
@@ -91,6 +93,10 @@ statements_is : (n : ℕ) (i : Input) → statements_in (within (suc n)) i ≡ s
 unfolding statements_in deepest_to read_to part_by
 statements_is n i = asked (statements (within n) i) part.Block block_of (λ x j. refl)
 
+function_statements_is : (n : ℕ) (i : Input) → function_statements_in (within (suc n)) i ≡ function_statements (within n) i
+unfolding function_statements_in deepest_to read_to part_by
+function_statements_is n i = asked (function_statements (within n) i) part.Block block_of (λ x j. refl)
+
 option_is : (n : ℕ) (i : Input) → case_option_in (within (suc n)) i ≡ case_option (within n) i
 unfolding case_option_in deepest_to read_to part_by
 option_is n i = asked (case_option (within n) i) part.CaseOption case_option_of (λ x j. refl)
@@ -105,13 +111,14 @@ no_statements : Fresh None (always closes_block) (λ m. statements_in (within m)
 no_statements = deeper_fresh _ _ statements_is statements_fresh
 
 deepest_inner : InnerGoes zero
-unfolding deepest_to read_to whole_in operand_in interpolated_in param_in statements_in case_option_in query_in
+unfolding deepest_to read_to whole_in operand_in interpolated_in param_in statements_in function_statements_in case_option_in query_in
 deepest_inner = record {
   whole = λ bars. deepest_rule _ _ (whole_is bars) (λ i. refl) (whole_fresh bars bars);
   operand = λ bars. deepest_rule _ _ (operand_is bars) (λ i. refl) (operand_fresh bars);
   interpolated = deepest_rule _ _ interpolated_is (λ i. refl) interpolated_fresh;
   param = λ bars. deepest_rule _ _ (param_is bars) (λ i. refl) (param_rule_fresh bars);
   statements = deepest_rule _ _ statements_is (λ i. refl) statements_fresh;
+  function_statements = deepest_rule _ _ function_statements_is (λ i. refl) function_statements_fresh;
   option = deepest_rule _ _ option_is (λ i. refl) (case_option_fresh no_statements);
   query = deepest_rule _ _ query_is (λ i. refl) query_fresh;
 }
@@ -123,6 +130,7 @@ deeper_inner n I = record {
   interpolated = deeper_rule _ _ interpolated_is (λ i. sym (interpolated_is n i)) (interpolated_goes I) interpolated_fresh;
   param = λ bars. deeper_rule _ _ (param_is bars) (λ i. sym (param_is bars n i)) (param_rule_goes I bars) (param_rule_fresh bars);
   statements = deeper_rule _ _ statements_is (λ i. sym (statements_is n i)) (statements_goes I) statements_fresh;
+  function_statements = deeper_rule _ _ function_statements_is (λ i. sym (function_statements_is n i)) (function_statements_goes I) function_statements_fresh;
   option = deeper_rule _ _ option_is (λ i. sym (option_is n i)) (case_option_goes I) (case_option_fresh no_statements);
   query = deeper_rule _ _ query_is (λ i. sym (query_is n i)) (query_goes I) query_fresh;
 }

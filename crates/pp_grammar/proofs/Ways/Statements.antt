@@ -17,13 +17,13 @@ use Rattle.pp_grammar.proofs.Reader.Inner.{Inner}
 use Rattle.pp_grammar.specs.Kinds.{is_kind, same_kind, is_name, begins_expression}
 use Rattle.pp_grammar.proofs.Reader.Levels.{within}
 use Rattle.pp_grammar.proofs.Reader.Expressions.{call_or_name_by, call_or_name, chain, loosest, started, whole}
-use Rattle.pp_grammar.proofs.Reader.Statements.{Read, taken_name, resource, expression_from, behind_name_by, behind_name, behind_type, chain_from, defaults_rule, override_rule, reference_by, reference_rule, typed_by, typed, argument_from_by, argument_from, argument_rule, argument_then, words_from, words, function_by, function, statement_by, statement_rule}
+use Rattle.pp_grammar.proofs.Reader.Statements.{Read, taken_name, resource, expression_from, behind_name_by, behind_name, behind_type, chain_from, defaults_rule, override_rule, reference_by, reference_rule, typed_by, typed, argument_from_by, argument_from, argument_rule, argument_then, words_from, words, function_by, function, emitted_value, statement_by, statement_rule}
 use Rattle.pp_grammar.proofs.Local.Steps.{Falls, any, one, if_true, falls_then, eat_falls, bind_local}
 use Rattle.pp_grammar.proofs.Local.Lists.{same_then, same_if}
 use Rattle.pp_grammar.proofs.Local.Expressions.{call_or_name_local, begun_chain_local}
 use Rattle.pp_grammar.proofs.Local.Statements.{pending_count, waiting, same_argument, words_turns, link_rule_local, expression_from_local, behind_type_local, chain_from_local, words_local, words_from_local, argument_rule_local}
-use Rattle.pp_grammar.proofs.Ways.Steps.{mark, tokens_of, Begins, Holds, Fresh, Rule, Meets, bind_by, fresh_by, first, first_any, after, pure_goes, refuse_holds}
-use Rattle.pp_grammar.proofs.Ways.NextToken.{Case, moves, stays, map_goes, peek_holds, peek_some, peek_cases, cases_holds, here_some, test_holds, test_goes, same_holds, same_rule, eats, eat_goes}
+use Rattle.pp_grammar.proofs.Ways.Steps.{mark, tokens_of, Begins, Holds, Fresh, Rule, Meets, bind_by, fresh_by, first, first_any, after, pure_goes, take_goes, refuse_holds}
+use Rattle.pp_grammar.proofs.Ways.NextToken.{Case, moves, stays, map_goes, peek_holds, peek_some, peek_cases, cases_holds, here_some, test_holds, test_goes, same_holds, same_rule, eats, eat_goes, expect_goes}
 use Rattle.pp_grammar.proofs.Ways.Lists.{always, repeat_goes, reassociated, same_behind_outcome}
 use Rattle.pp_grammar.proofs.Ways.Inner.{ends_expression, InnerGoes, here_too}
 use Rattle.pp_grammar.proofs.Ways.Expressions.{arguments_goes, optional_lambda_goes, access_goes, call_or_name_goes, begun_chain_goes, whole_goes}
@@ -357,7 +357,13 @@ module _ {n : ℕ} (I : InnerGoes n) where
 
   -- ---- statements
 
+  emitted_value_goes : Rule n (Some k.RenderExpr) ends_read (emitted_value (within n)) (λ m. emitted_value (within m))
+  unfolding emitted_value is_kind same_kind
+  emitted_value_goes = first_any (take_goes {k = k.RenderExpr}) (λ _. first (whole_goes I false false) (λ x. first_any (expect_goes k.TagEnd refl) (λ _. pure_goes (statement.EmitValue x, None))) (λ _. refl))
+
   statement_by_holds : (next : Option Kind) → Holds n 1 ends_read (statement_by (within n) next) (λ m. statement_by (within m) next)
+  statement_by_holds (Some k.RenderString) = (first_any (take_goes {k = k.RenderString}) (λ t. pure_goes (statement.Emit t.text, None))).holds
+  statement_by_holds (Some k.RenderExpr) = emitted_value_goes.holds
   statement_by_holds (Some k.StatementFunction) = (first_any (taken_name_goes {k = k.Name}) function_goes).holds
   statement_by_holds (Some k.Type) = (first_any (taken_name_goes {k = k.Type}) (typed_goes I)).holds
   statement_by_holds _ = (here_some (λ at. chained_goes I at (operand_rule_goes I))).holds

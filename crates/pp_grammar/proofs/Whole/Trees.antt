@@ -15,18 +15,19 @@ use Rattle.pp_parser.specs.declared.found.Found.{Found}
 use Rattle.pp_grammar.proofs.Reader.Manifest.{start, doubled_name, without_doubles, file_with, file_from}
 use Rattle.pp_parser.specs.Manifest.{file_of}
 use Rattle.pp_grammar.specs.Laws.{the_end, max_levels, Limit, everywhere, IsFile, IsTree}
-use Rattle.pp_grammar.proofs.Whole.Reads.{reader, file_stands, file_read}
+use Rattle.pp_grammar.proofs.Whole.Reading.{reading}
+use Rattle.pp_grammar.proofs.Whole.Reads.{file_reader, file_reads}
 use Rattle.pp_grammar.proofs.Whole.Parser.{file_of_by}
 
-same_found : (a b : Found) (i j : Input) (o : Outcome Found) → o ≡ Ok (a, i) → o ≡ Ok (b, j) → (a ≡ b) × (i ≡ j)
+pub same_found : {A : Type 0} (a b : A) (i j : Input) (o : Outcome A) → o ≡ Ok (a, i) → o ≡ Ok (b, j) → (a ≡ b) × (i ≡ j)
 same_found a b i j o e f =
     let both : (a, i) ≡ (b, j) = cc in
-    (ap (λ (p : Found × Input). p.0) both, ap (λ (p : Found × Input). p.1) both)
+    (ap (λ (p : _ × Input). p.0) both, ap (λ (p : _ × Input). p.1) both)
 
 -- tokens have one tree at most
 pub one_tree : (limit : Limit) (path : List ℕ) (ts : List Token) (one other : Found) (d e : Option ℕ) → IsFile limit path ts one d → IsFile limit path ts other e → (one ≡ other) × (d ≡ e)
 one_tree limit path ts one other d e a b =
-    let same = same_found one other (the_end d) (the_end e) (reader path limit (start ts)) (file_read a) (file_read b) in
+    let same = same_found one other (the_end d) (the_end e) (reading (file_reader path) limit (start ts)) ((file_reads path).read limit ts one d a) ((file_reads path).read limit ts other e b) in
     (same.0, ap (λ (i : Input). i.doubled) same.1)
 
 -- ---- where nothing stands twice
@@ -51,10 +52,10 @@ module _ (path : List ℕ) (found : Found) where
   tree_by key file h = file_by key (table_of found.definitions) (earlier_line key (doubled_name (table_of found.definitions))) file refl h
 
 module _ (path text : List ℕ) where
-  is_tree_by : (o : Outcome Found) (file : File) → reader path (everywhere max_levels) (start (tokens text)) ≡ o → file_from path (end_line text) (tokens text) o ≡ Ok file → IsTree path text file
+  is_tree_by : (o : Outcome Found) (file : File) → reading (file_reader path) (everywhere max_levels) (start (tokens text)) ≡ o → file_from path (end_line text) (tokens text) o ≡ Ok file → IsTree path text file
   is_tree_by (Ok p) file is h =
       let t = tree_by path p.0 p.1.doubled file h in
-      let f = file_stands (everywhere max_levels) path (tokens text) p.0 p.1 is in
+      let f = (file_reads path).stands (everywhere max_levels) (tokens text) p.0 p.1 is in
       let same : p.0 ≡ record { statements = file.statements; definitions = p.0.definitions } = λ x. record { statements = t.1 x; definitions = p.0.definitions } in
       record {
         definitions = p.0.definitions;
@@ -67,7 +68,7 @@ module _ (path text : List ℕ) where
 
   -- the tree that is read is one
   pub is_tree : (file : File) → file_of path text ≡ Ok file → IsTree path text file
-  is_tree file h = is_tree_by (reader path (everywhere max_levels) (start (tokens text))) file refl (sym (file_of_by path text) ∙ h)
+  is_tree file h = is_tree_by (reading (file_reader path) (everywhere max_levels) (start (tokens text))) file refl (sym (file_of_by path text) ∙ h)
 
   by_table : (statements : List Statement) (definitions : List Definition) (entries : Entries) → table_of definitions ≡ Ok entries → file_with path (record { statements = statements; definitions = definitions }) None ≡ Ok (record { statements = statements; definitions = entries })
   unfolding file_with earlier_line
@@ -76,4 +77,4 @@ module _ (path text : List ℕ) where
   -- a tree is read
   pub tree_read : (file : File) → IsTree path text file → file_of path text ≡ Ok file
   tree_read file t =
-      file_of_by path text ∙ ap (λ (o : Outcome Found). file_from path (end_line text) (tokens text) o) (file_read t.stands) ∙ by_table file.statements t.definitions file.definitions t.table
+      file_of_by path text ∙ ap (λ (o : Outcome Found). file_from path (end_line text) (tokens text) o) ((file_reads path).read (everywhere max_levels) (tokens text) (record { statements = file.statements; definitions = t.definitions }) None t.stands) ∙ by_table file.statements t.definitions file.definitions t.table

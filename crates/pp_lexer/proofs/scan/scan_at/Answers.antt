@@ -1,12 +1,12 @@
 use Rattle.std.proofs.Common.{arith, ◌∙◌, ◌<◌, ap, length, length-take-le, refl}
 use Rattle.std.proofs.lemmas.Str.{IsUtf8-drop}
-use Rattle.pp_lexer.specs.Tokens.{tokens}
+use Rattle.pp_lexer.specs.Tokens.{tokens_at}
 use Rattle.pp_lexer.proofs.LineLemmas.{lines_cut}
 use Rattle.pp_lexer.proofs.ScanLemmas.{found_turn, ends_cut, some_cut}
-use Rattle.pp_lexer.proofs.scan.scan.Goals as goal
+use Rattle.pp_lexer.proofs.scan.scan_at.Goals as goal
 
 pub loop-rest-init : goal.loop-rest-init
-unfolding tokens
+unfolding tokens_at
 loop-rest-init c = record { read = rw (c.new-tokens.ensures, c.new-nest.ensures) refl; fits = omega arith; utf8 = c.utf8.text }
 
 pub emit-requires : goal.emit-requires
@@ -18,8 +18,8 @@ emit-requires c =
       ends = ends_cut z c.split_at.result.0.now f c.front_at-front.ensures.part c.split_at.ensures.front;
     }
 
-pub line_behind-line-requires : goal.line_behind-line-requires
-line_behind-line-requires c =
+pub line_behind-here-requires : goal.line_behind-here-requires
+line_behind-here-requires c =
     let z = c.loop-rest.rest.now in
     let f = c.front_at-front.result in
     let part = c.front_at-front.ensures.part in
@@ -36,7 +36,7 @@ loop-rest-preserved c =
     let part = c.front_at-front.ensures.part in
     let some : 0 < length z = grind arith in
     record {
-      read = found_turn c.loop-rest.line c.loop-rest.mode c.loop-rest.nest z f c.loop-rest.tokens c.emit.new.tokens c.split_at.result.0.now c.split_at.result.1.now c.line_behind-line.result c.mode_after-mode.result c.pass.new.self c.front_at-front.ensures.value part some c.split_at.ensures.front c.split_at.ensures.back c.in_ok-emit.ensures c.line_behind-line.ensures.value c.mode_after-mode.ensures c.in_ok-pass.ensures ∙ c.loop-rest.invariant.read;
+      read = found_turn c.loop-rest.here c.loop-rest.mode c.loop-rest.nest z f c.loop-rest.tokens c.emit.new.tokens c.split_at.result.0.now c.split_at.result.1.now c.line_behind-here.result c.mode_after-mode.result c.pass.new.self c.front_at-front.ensures.value part some c.split_at.ensures.front c.split_at.ensures.back c.in_ok-emit.ensures c.line_behind-here.ensures.value c.mode_after-mode.ensures c.in_ok-pass.ensures ∙ c.loop-rest.invariant.read;
       fits = omega arith;
       utf8 = rw c.split_at.ensures.back (IsUtf8-drop z f.len c.loop-rest.invariant.utf8 part.boundary);
     }

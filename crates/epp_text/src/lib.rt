@@ -1,0 +1,16 @@
+//! Templates of EPP: their text and their tags.
+#![tactic(auto)]
+
+mod bytes;
+mod front;
+pub mod parsing;
+pub mod piece;
+pub mod pieces;
+mod runs;
+mod tags;
+pub mod tokenizing;
+
+pub use parsing::parse_epp;
+pub use piece::{Piece, PieceKind};
+pub use pieces::{Pieces, pieces_of};
+pub use tokenizing::template_tokens;

@@ -1,0 +1,183 @@
+//! Where functions of the site are found by their names.
+ghost use Rattle.std.specs.Prelude.{◌≡◌, ◌∷◌, Some, IfOk};
+ghost use Rattle.std.specs.Option.{option_copied};
+ghost use Rattle.eval_classes.specs.Answers.{Tells};
+ghost use Rattle.eval_classes.specs.Functions as spec;
+ghost use Rattle.pp_tree.specs.Names.{without_front_colons};
+ghost use Rattle.res_core.specs.TagNames.{segments};
+
+use crate::site_function::SiteFunction;
+use eval_world::Environment;
+use pp_tree::definition::{Definition, Function};
+use pp_tree::file::File;
+use pp_tree::manifest_file::ManifestFile;
+use pp_tree::table::DefinitionName;
+use pp_values::{MAIN_MANIFEST, Memory, Stop, Text};
+use std::alloc::Global;
+
+/// How many bytes the path of a function's file has beside those of its module and its name.
+const BESIDE: usize = 22;
+
+/// The function of a name as it is written, where the site defines one. The fault of the file that the name gives comes
+/// where the main manifest has no such function.
+pub fn function_found<'a>(
+    alloc: Global,
+    environment: &Environment<'a>,
+    written: &Text,
+) -> Result<Option<SiteFunction<'a>>, Stop>
+    ensures { Tells spec.seen result (spec.function_found environment.now written.now) }
+{
+    let name = bare_name(alloc, written)?;
+    function_named(alloc, environment, &name)
+}
+
+/// The name without a leading `::`.
+fn bare_name(alloc: Global, written: &Text) -> Result<Text, Memory>
+    ensures { IfOk result (λ name. name ≡ without_front_colons written.now) }
+{
+    match DefinitionName::function(alloc, written)? {
+        DefinitionName::Function(name) => Ok(name),
+        DefinitionName::Code(_) | DefinitionName::Node(_) => written.copy(alloc),
+    }
+}
+
+#[tactic(auto, unfolding(crate::specs::Functions::function_named))]
+fn function_named<'a>(
+    alloc: Global,
+    environment: &Environment<'a>,
+    name: &Text,
+) -> Result<Option<SiteFunction<'a>>, Stop>
+    ensures { Tells spec.seen result (spec.function_named environment.now name.now) }
+{
+    match function_in(alloc, environment.main(), name)? {
+        Some(function) => {
+            let file = Text::from_str(alloc, MAIN_MANIFEST)?;
+            Ok(Some(SiteFunction { function, file }))
+        }
+        None => function_in_module(alloc, environment, name),
+    }
+}
+
+/// What a file defines as the function of a name.
+fn function_in<'a>(
+    alloc: Global,
+    file: &'a File,
+    name: &Text,
+) -> Result<Option<&'a Function>, Memory>
+    ensures { IfOk result (λ o. option_copied o ≡ spec.function_in name.now file.now) }
+{
+    let name = DefinitionName::Function(name.copy(alloc)?);
+    match file.definitions.get(&name) {
+        Some(definition) => Ok(function_by(definition)),
+        None => Ok(None),
+    }
+}
+
+fn function_by(definition: &Definition) -> Option<&Function>
+    ensures { option_copied result ≡ spec.function_by definition.now }
+{
+    match definition {
+        Definition::Function(function) => Some(function),
+        _ => None,
+    }
+}
+
+/// The function that the one file of a module defines that the name gives.
+fn function_in_module<'a>(
+    alloc: Global,
+    environment: &Environment<'a>,
+    name: &Text,
+) -> Result<Option<SiteFunction<'a>>, Stop>
+    ensures { Tells spec.seen result
+        (spec.function_in_module environment.now name.now (spec.function_path name.now)) }
+{
+    match function_path(alloc, name)? {
+        Some(path) => function_at(alloc, environment, path, name),
+        None => Ok(None),
+    }
+}
+
+fn function_at<'a>(
+    alloc: Global,
+    environment: &Environment<'a>,
+    path: Text,
+    name: &Text,
+) -> Result<Option<SiteFunction<'a>>, Stop>
+    ensures { Tells spec.seen result (spec.function_in_module environment.now name.now (Some path)) }
+{
+    match environment.files().get(&path) {
+        Some(file) => read_in(alloc, file, path, name),
+        None => Ok(None),
+    }
+}
+
+fn read_in<'a>(
+    alloc: Global,
+    file: &'a ManifestFile,
+    path: Text,
+    name: &Text,
+) -> Result<Option<SiteFunction<'a>>, Stop>
+    ensures { Tells spec.seen result (spec.read_in name.now path file.now.read) }
+{
+    match &file.read {
+        Ok(tree) => Ok(placed(function_in(alloc, tree, name)?, path)),
+        Err(fault) => Err(Stop::Fault(fault.copy(alloc)?)),
+    }
+}
+
+fn placed(function: Option<&Function>, file: Text) -> Option<SiteFunction<'_>>
+    ensures { spec.seen result ≡ spec.in_file file (option_copied function.entry) }
+{
+    match function {
+        Some(function) => Some(SiteFunction { function, file }),
+        None => None,
+    }
+}
+
+/// The path of the one file of a module that may define a function of this name.
+pub fn function_path(alloc: Global, name: &Text) -> Result<Option<Text>, Memory>
+    ensures { IfOk result (λ o. o ≡ spec.function_path name.now) }
+{
+    path_in(alloc, name.as_str())
+}
+
+fn path_in(alloc: Global, name: &str) -> Result<Option<Text>, Memory>
+    ensures { IfOk result (λ o. o ≡ spec.path_by (segments name.now)) }
+{
+    match name.split_once("::") {
+        None => Ok(None),
+        Some((module, rest)) => path_behind(alloc, module, rest),
+    }
+}
+
+/// The path, where what stands behind the module is one segment.
+fn path_behind(alloc: Global, module: &str, rest: &str) -> Result<Option<Text>, Memory>
+    ensures { IfOk result (λ o. o ≡ spec.path_by (module.now ∷ segments rest.now)) }
+{
+    match rest.split_once("::") {
+        None => one_path(alloc, module, rest),
+        Some(_) => Ok(None),
+    }
+}
+
+fn one_path(alloc: Global, module: &str, function: &str) -> Result<Option<Text>, Memory>
+    ensures { IfOk result (λ o. o ≡ Some (spec.file_of_function module.now function.now)) }
+{
+    Ok(Some(path_of(alloc, module, function)?))
+}
+
+fn path_of(alloc: Global, module: &str, function: &str) -> Result<Text, Memory>
+    ensures { IfOk result (λ t. t ≡ spec.file_of_function module.now function.now) }
+{
+    let room = module
+        .len()
+        .saturating_add(function.len())
+        .saturating_add(BESIDE);
+    let mut path = String::with_capacity(alloc, room)?;
+    path.push_str("modules/")?;
+    path.push_str(module)?;
+    path.push_str("/functions/")?;
+    path.push_str(function)?;
+    path.push_str(".pp")?;
+    Ok(Text::new(path))
+}

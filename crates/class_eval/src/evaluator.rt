@@ -177,7 +177,7 @@ impl<'a> Evaluator<'a> {
         ensures node { self.new.node ≡ self.old.node }
         ensures looks { self.new.looks ≡ self.old.looks }
     {
-        let forms: Forms<_, Whole> = Forms {
+        let forms: Forms<_, AllForms> = Forms {
             left: levels_left(depth),
             inner: evaluate,
             meaning: PhantomData,

@@ -13,10 +13,10 @@ use Rattle.pp_tree.specs.declared.definition.NodeName.{NodeName}
 use Rattle.pp_tree.specs.declared.definition.Definition.{Definition}
 use Rattle.pp_tree.specs.declared.definition.Definition.TheVariants as definitions
 use Rattle.pp_tree.specs.Building.{expr_at, name_at, class_of, define_of, function_of, node_of, node_name as node_name_at}
-use Rattle.pp_parser.specs.declared.goal.Goal.{Goal}
-use Rattle.pp_parser.specs.declared.goal.Goal.TheVariants as goal
-use Rattle.pp_parser.specs.declared.goal.Part.{Part}
-use Rattle.pp_parser.specs.declared.goal.Part.TheVariants as part
+use Rattle.pp_parser.specs.declared.inset.Inset.{Inset}
+use Rattle.pp_parser.specs.declared.inset.Inset.TheVariants as goal
+use Rattle.pp_parser.specs.declared.inset.InsetTree.{InsetTree}
+use Rattle.pp_parser.specs.declared.inset.InsetTree.TheVariants as part
 use Rattle.pp_parser.specs.Input.{Input}
 use Rattle.pp_grammar.specs.Kinds.{is_kind, is_name}
 use Rattle.pp_grammar.specs.Names.{node_name}

@@ -8,8 +8,8 @@ use Rattle.pp_tree.specs.declared.statement.Statement.{Statement}
 use Rattle.pp_tree.specs.declared.statement.Statement.TheVariants as statement
 use Rattle.pp_tree.specs.declared.statement.Operand.TheVariants as operand
 use Rattle.pp_tree.specs.Building.{chain as chain_of, words as words_of}
-use Rattle.pp_parser.specs.declared.goal.Goal.TheVariants as goal
-use Rattle.pp_parser.specs.declared.goal.Part.TheVariants as part
+use Rattle.pp_parser.specs.declared.inset.Inset.TheVariants as goal
+use Rattle.pp_parser.specs.declared.inset.InsetTree.TheVariants as part
 use Rattle.pp_parser.specs.Input.{Input}
 use Rattle.pp_grammar.specs.Kinds.{is_kind, is_name, begins_expression}
 use Rattle.pp_grammar.specs.Places.{kind, line_at, Phrase, Stands, Within, Opens, Many, Separated, Begins}

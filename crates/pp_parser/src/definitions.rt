@@ -43,7 +43,7 @@ fn applied_type(alloc: Global, kind: Name, args: Args) -> Result<Expr, Memory>
     Expr::new(alloc, at, form)
 }
 
-impl<F: Fn(Global, &mut Cursor<'_>, usize, Goal) -> Result<Part, Refusal>> Rules<F> {
+impl<F: Fn(Global, &mut Cursor<'_>, usize, Inset) -> Result<InsetTree, Refusal>> Rules<F> {
     /// The name of a class, a define or a function.
     #[tactic(auto, unfolding(crate::specs::Definitions::name_rule))]
     fn definition_name(&self, tokens: &mut Cursor<'_>) -> Result<Name, Refusal>

@@ -8,7 +8,7 @@ ghost use Rattle.pp_parser.specs.Levels.{within};
 ghost use Rattle.pp_parser.specs.Nests.{Nests};
 
 use crate::cursor::Cursor;
-use crate::goal::{Goal, Part};
+use crate::inset::{Inset, InsetTree};
 use crate::kinds::{begins_expression, is_name};
 use crate::lists::put;
 use crate::operands::taken_name;
@@ -30,7 +30,7 @@ fn begins_none(next: Option<Kind>) -> bool
     !begins_expression(next)
 }
 
-impl<F: Fn(Global, &mut Cursor<'_>, usize, Goal) -> Result<Part, Refusal>> Rules<F> {
+impl<F: Fn(Global, &mut Cursor<'_>, usize, Inset) -> Result<InsetTree, Refusal>> Rules<F> {
     /// Behind a name that no `{` follows: the expression that begins with it.
     fn unbraced_value(&self, tokens: &mut Cursor<'_>, name: Name) -> Result<Expr, Refusal>
         requires { Nests self.now.levels (F.pre self.now.inner) (F.post self.now.inner) }

@@ -32,14 +32,14 @@ pub fn part(
         inner: part,
     };
     match goal {
-        Goal::Whole(bars) => rules.whole(tokens, bars, bars).map(Part::Expr),
-        Goal::Operand(bars) => rules.operand(tokens, bars).map(Part::Expr),
-        Goal::Interpolated => rules.interpolated(tokens).map(Part::Expr),
-        Goal::Param(bars) => rules.param(tokens, bars).map(Part::Param),
-        Goal::Statements => rules.statements(tokens).map(Part::Block),
-        Goal::FunctionStatements => rules.function_statements(tokens).map(Part::Block),
-        Goal::CaseOption => rules.case_option(tokens).map(Part::CaseOption),
-        Goal::Query => rules.query(tokens).map(Part::Query),
+        Inset::Whole(bars) => rules.whole(tokens, bars, bars).map(InsetTree::Expr),
+        Inset::Operand(bars) => rules.operand(tokens, bars).map(InsetTree::Expr),
+        Inset::Interpolated => rules.interpolated(tokens).map(InsetTree::Expr),
+        Inset::Param(bars) => rules.param(tokens, bars).map(InsetTree::Param),
+        Inset::Statements => rules.statements(tokens).map(InsetTree::Block),
+        Inset::FunctionStatements => rules.function_statements(tokens).map(InsetTree::Block),
+        Inset::CaseOption => rules.case_option(tokens).map(InsetTree::CaseOption),
+        Inset::Query => rules.query(tokens).map(InsetTree::Query),
     }
 }
 

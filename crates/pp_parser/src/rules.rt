@@ -154,7 +154,7 @@ impl<F: Fn(Global, &mut Cursor<'_>, usize, Inset) -> Result<InsetTree, Refusal>>
         requires { Nests self.now.levels (F.pre self.now.inner) (F.post self.now.inner) }
         ensures { Reads (spec.function_statements_in (within self.now.levels) tokens.old) result tokens.new }
     {
-        let part = self.read(tokens, Goal::FunctionStatements)?;
+        let part = self.read(tokens, Inset::FunctionStatements)?;
         block_of(tokens, part)
     }
 

@@ -11,7 +11,7 @@ ghost use Rattle.pp_parser.specs.Templates as spec;
 
 use crate::cursor::Cursor;
 use crate::files::ends_file;
-use crate::goal::{Goal, Part};
+use crate::inset::{Inset, InsetTree};
 use crate::kinds::ends_params;
 use crate::lists::put;
 use crate::refusal::Refusal;
@@ -23,7 +23,7 @@ use pp_tree::template::Template;
 use pp_values::Items;
 use std::alloc::Global;
 
-impl<F: Fn(Global, &mut Cursor<'_>, usize, Goal) -> Result<Part, Refusal>> Rules<F> {
+impl<F: Fn(Global, &mut Cursor<'_>, usize, Inset) -> Result<InsetTree, Refusal>> Rules<F> {
     /// A text before the first tag, with at most one `;` behind it.
     #[tactic(auto, unfolding(crate::specs::Templates::leading_text))]
     fn leading_text(&self, tokens: &mut Cursor<'_>) -> Result<Statement, Refusal>

@@ -8,8 +8,8 @@ use Rattle.pp_tree.specs.declared.expr.Expr.{Expr}
 use Rattle.pp_tree.specs.declared.statement.Statement.{Statement}
 use Rattle.pp_tree.specs.declared.statement.Statement.TheVariants as statement
 use Rattle.pp_tree.specs.Building.{words as words_of}
-use Rattle.pp_parser.specs.declared.goal.Goal.TheVariants as goal
-use Rattle.pp_parser.specs.declared.goal.Part.TheVariants as part
+use Rattle.pp_parser.specs.declared.inset.Inset.TheVariants as goal
+use Rattle.pp_parser.specs.declared.inset.InsetTree.TheVariants as part
 use Rattle.pp_grammar.proofs.Reader.Input.{Input, kind, line_at}
 use Rattle.pp_grammar.proofs.Reader.Inner.{Inner}
 use Rattle.pp_grammar.specs.Kinds.{is_kind, same_kind, is_name}

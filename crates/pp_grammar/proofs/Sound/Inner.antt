@@ -60,7 +60,7 @@ module _ (inner : Inner) (N : Within) (s : IsSound inner N) where
   unfolding function_statements_in
   function_statements_in_sound i = bind (part_sound goal.FunctionStatements i) go
     where
-      go : (p : Part) (j : Input) → N.reads goal.FunctionStatements i p j → Meets (block_of p j) (λ ss l. N.reads goal.FunctionStatements i (part.Block ss) l)
+      go : (p : InsetTree) (j : Input) → N.reads goal.FunctionStatements i p j → Meets (block_of p j) (λ ss l. N.reads goal.FunctionStatements i (part.Block ss) l)
       go (part.Block ss) j h = done h
       go _ j h = refused
 

@@ -31,7 +31,7 @@ use Rattle.pp_grammar.proofs.Reader.Levels as own_levels
 abbrev pub as_own : inner.Inner → own_inner.Inner
 as_own n = record { is_deepest = λ _. n.is_deepest; read = n.read; doubled_key = keys.doubled_key }
 
-pub part_same : (n : inner.Inner) (g : Goal) (i : Input) → levels.part_by n g i ≡ own_levels.part_by (as_own n) g i
+pub part_same : (n : inner.Inner) (g : Inset) (i : Input) → levels.part_by n g i ≡ own_levels.part_by (as_own n) g i
 unfolding levels.part_by own_levels.part_by inner.whole_in own_inner.whole_in inner.operand_in own_inner.operand_in inner.interpolated_in own_inner.interpolated_in inner.param_in own_inner.param_in inner.statements_in own_inner.statements_in inner.case_option_in own_inner.case_option_in inner.query_in own_inner.query_in rule.block own.block rule.arguments own.arguments rule.optional_arguments own.optional_arguments rule.access own.access rule.list own.list rule.pair_rule own.pair_rule rule.hash own.hash rule.parentheses own.parentheses rule.lambda_from own.lambda_from rule.optional_lambda own.optional_lambda rule.call_or_name own.call_or_name rule.named own.named rule.interpolation own.interpolation rule.piece_rule own.piece_rule rule.text_after own.text_after rule.quoted own.quoted rule.otherwise own.otherwise rule.condition own.condition rule.elsif_rule own.elsif_rule rule.if_rule own.if_rule rule.unless_rule own.unless_rule rule.case_options own.case_options rule.case_rule own.case_rule rule.primary own.primary rule.method own.method rule.selector own.selector rule.postfix_rule own.postfix_rule rule.postfixes own.postfixes rule.value own.value rule.prefixed own.prefixed rule.operand own.operand rule.operation_rule own.operation_rule rule.chain own.chain rule.assigned own.assigned rule.whole own.whole rule.variable_or_call own.variable_or_call rule.begun_by_name own.begun_by_name rule.interpolated own.interpolated rule.default_rule own.default_rule rule.typed_param own.typed_param rule.param_rule own.param_rule rule.case_option own.case_option statement.assigns own_statement.assigns statement.setting_rule own_statement.setting_rule statement.splat_rule own_statement.splat_rule statement.attribute own_statement.attribute statement.attributes own_statement.attributes statement.body own_statement.body statement.resource own_statement.resource statement.marked own_statement.marked statement.compares own_statement.compares statement.comparison_rule own_statement.comparison_rule statement.query_in_parentheses own_statement.query_in_parentheses statement.test_rule own_statement.test_rule statement.another_by own_statement.another_by statement.another own_statement.another statement.conjunction_rule own_statement.conjunction_rule statement.query own_statement.query statement.optional_query own_statement.optional_query statement.optional_settings own_statement.optional_settings statement.collector own_statement.collector statement.expression_from own_statement.expression_from statement.behind_name own_statement.behind_name statement.behind_type own_statement.behind_type statement.operand_rule own_statement.operand_rule statement.link_rule own_statement.link_rule statement.chain_from own_statement.chain_from statement.defaults_rule own_statement.defaults_rule statement.override_rule own_statement.override_rule statement.reference_rule own_statement.reference_rule statement.typed own_statement.typed statement.argument_from own_statement.argument_from statement.argument_rule own_statement.argument_rule statement.words_from own_statement.words_from statement.words own_statement.words statement.function own_statement.function statement.statement_rule own_statement.statement_rule statement.statements_from own_statement.statements_from statement.statements own_statement.statements input.kind_at own_input.kind_at input.kind own_input.kind input.line_at own_input.line_at input.sees own_input.sees input.expect own_input.expect input.expect_any own_input.expect_any input.eat own_input.eat input.open_level own_input.open_level input.separated_from own_input.separated_from input.separated own_input.separated input.separated_some own_input.separated_some kinds.same_kind own_kinds.same_kind kinds.is_kind own_kinds.is_kind rule.operator_at own.operator_at params.is_simple own_names.is_simple params.param_from own_params.param_from keys.noting own_noting.noting keys.earlier_line own_keys.earlier_line inner.function_statements_in own_inner.function_statements_in statement.emitted_value own_statement.emitted_value body.unbraced_from own_body.unbraced_from body.unbraced own_body.unbraced body.function_words own_body.function_words body.worded own_body.worded body.value_statement own_body.value_statement body.function_statement own_body.function_statement body.next_statement own_body.next_statement body.function_statements own_body.function_statements body.function_block own_body.function_block
 part_same n g i = refl
 

@@ -55,12 +55,13 @@ abbrev pub kept_from : ℕ → ℕ → List ℕ → ℕ
 kept_from kept at [] = kept
 kept_from kept at (b ∷ z) = kept_from (if is_blank b then kept else at + 1) (at + 1) z
 
--- A text without the blanks at its end, where nothing else stands before them on their line. The flag says that the text
--- begins a line.
+-- A text without the blanks at its end, where nothing else stands before them on their line. The flag says that the
+-- text begins a line.
 abbrev pub indent_from : Bool → List ℕ → ℕ
 indent_from begins text =
     let kept = kept_from 0 0 text in
-    if kept == 0 then (if begins then 0 else length text) else (if slice_index text (kept - 1) == 10 then kept else length text)
+    if kept == 0 then (if begins then 0 else length text)
+    else (if slice_index text (kept - 1) == 10 then kept else length text)
 
 -- `<%-` drops the blanks before it
 abbrev pub drops_indent : List ℕ → Bool

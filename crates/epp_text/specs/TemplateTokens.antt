@@ -80,7 +80,8 @@ abbrev pub opens_block : Option Kind → Option Kind → Bool
 opens_block (Some k.Bar) (Some k.OpenBrace) = true
 opens_block _ _ = false
 
--- A bar that `{` follows, where the next code begins with it, is the last one of a lambda's parameters, as within one code.
+-- A bar that `{` follows, where the next code begins with it, is the last one of a lambda's parameters, as within one
+-- code.
 unfoldable pub joined : List Token → List Token → List Token
 joined before after =
     with_bar (opens_block (kind_at before (last_place before)) (kind_at after 0)) before (last_place before) k.LastBar

@@ -64,8 +64,8 @@ bind_from inner (p ∷ ps) (d ∷ ds) at own = do
 
 -- ---- what it gives
 
--- The type behind `>>` is evaluated in the function's scope, one level deeper than the call, and is no parameter's: it may
--- name any kind. F11 `=~` stands at its line, where it is no type.
+-- The type behind `>>` is evaluated in the function's scope, one level deeper than the call, and is no parameter's: it
+-- may name any kind. F11 `=~` stands at its line, where it is no type.
 unfoldable pub is_result : Inner → Expr → Datum → Here → Step Bool
 is_result inner kind d own = do
   of_kind ← inner.value kind own
@@ -104,7 +104,8 @@ function_rule inner f written arguments at = taken_or_wrong (taken_by arguments 
 -- F6 names the function as it is written
 abbrev pub defined_by : Inner → Option FunctionIn → List ℕ → List Datum → ℕ → Here → Step Datum
 defined_by inner None f arguments line here = fault here line (what.UnknownFunction f)
-defined_by inner (Some found) f arguments line here = λ w. function_rule inner found f arguments (place_at w here line) w
+defined_by inner (Some found) f arguments line here =
+    λ w. function_rule inner found f arguments (place_at w here line) w
 
 -- the function of this name that the site defines; a file that is used and has a fault gives that
 unfoldable pub defined_rule : Inner → List ℕ → List Datum → ℕ → Here → Step Datum

@@ -12,9 +12,9 @@ use Rattle.eval_world.specs.contracts.owner.Owner as owner_contract
 use Rattle.eval_world.specs.declared.owner.Owner.{Owner}
 use Rattle.eval_world.specs.declared.owners.TheConstants.{INLINE_FILE, MAIN_SOURCE}
 
--- The main manifest, and the owners of the numbers from 1 on. What stands in top scope has an owner for each file that it
--- stands in, whose number is found by the file. The texts that the code of an owner renders as templates have one owner more,
--- whose number is found by that of the first.
+-- The main manifest, and the owners of the numbers from 1 on. What stands in top scope has an owner for each file that
+-- it stands in, whose number is found by the file. The texts that the code of an owner renders as templates have one
+-- owner more, whose number is found by that of the first.
 pub record Owners : Type 0 where
   pub main : Owner
   pub others : List Owner

@@ -82,7 +82,8 @@ enter_lambda here = λ w. Ok (
   record w { scopes = scopes.entered kind.Lambda here.scope.number w.scopes },
 )
 
--- Where the body of a function, or a template, is evaluated that stands in this file: in a scope of its own within top scope.
+-- Where the body of a function, or a template, is evaluated that stands in this file: in a scope of its own within top
+-- scope.
 -- Its code belongs to what top scope belongs to.
 unfoldable pub enter_function : List ℕ → Step Here
 enter_function file = λ w. Ok (
@@ -90,8 +91,8 @@ enter_function file = λ w. Ok (
   record w { scopes = scopes.entered kind.Lambda 0 w.scopes; owners = (owner_in file w.owners).1 },
 )
 
--- Where a text is evaluated that a call hands over as a template: in a scope of its own within that of the call. Its code
--- belongs to what the call belongs to, and its file has a name of its own.
+-- Where a text is evaluated that a call hands over as a template: in a scope of its own within that of the call. Its
+-- code belongs to what the call belongs to, and its file has a name of its own.
 unfoldable pub enter_inline : Here → Step Here
 enter_inline here = λ w. Ok (
   record {

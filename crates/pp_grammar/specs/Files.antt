@@ -12,7 +12,8 @@ use Rattle.pp_tree.specs.declared.definition.Name.{Name}
 use Rattle.pp_tree.specs.declared.definition.NodeName.{NodeName}
 use Rattle.pp_tree.specs.declared.definition.Definition.{Definition}
 use Rattle.pp_tree.specs.declared.definition.Definition.TheVariants as definitions
-use Rattle.pp_tree.specs.Building.{expr_at, name_at, class_of, define_of, function_of, node_of, node_name as node_name_at}
+use Rattle.pp_tree.specs.Building.{expr_at, name_at, class_of, define_of, function_of, node_of}
+use Rattle.pp_tree.specs.Building.{node_name as node_name_at}
 use Rattle.pp_parser.specs.declared.inset.Inset.{Inset}
 use Rattle.pp_parser.specs.declared.inset.Inset.TheVariants as goal
 use Rattle.pp_parser.specs.declared.inset.InsetTree.{InsetTree}
@@ -21,7 +22,8 @@ use Rattle.pp_parser.specs.Input.{Input}
 use Rattle.pp_grammar.specs.Kinds.{is_kind, is_name}
 use Rattle.pp_grammar.specs.Names.{node_name}
 use Rattle.pp_grammar.specs.Places.{kind, Phrase, Stands, Within, Opens, Separated, SeparatedSome, Maybe}
-use Rattle.pp_grammar.specs.Expressions.{Inner, InnerParam, IsBlock, IsWhole, IsOperand, IsInterpolated, IsParam, IsCaseOption}
+use Rattle.pp_grammar.specs.Expressions.{Inner, InnerParam, IsBlock, IsWhole, IsOperand, IsInterpolated, IsParam}
+use Rattle.pp_grammar.specs.Expressions.{IsCaseOption}
 use Rattle.pp_grammar.specs.Statements.{IsStatement, IsEnd, AreStatements, IsQuery}
 use Rattle.pp_grammar.specs.FunctionBodies.{AreFunctionStatements, IsFunctionBlock}
 
@@ -66,26 +68,35 @@ module _ (N : Within) where
 
   -- TYPE ["[" args "]"]
   pub data IsReturnType : Input → Expr → Input → Type 0 where
-    bare : (i j : Input) (t : Token) → Stands (is_kind k.Type) i t j → is_kind k.TightBracket (kind j) ≡ false → IsReturnType i (expr_at t.line (form.Type t.text)) j
+    bare : (i j : Input) (t : Token) → Stands (is_kind k.Type) i t j → is_kind k.TightBracket (kind j) ≡ false →
+        IsReturnType i (expr_at t.line (form.Type t.text)) j
     applied : (i j l m n : Input) (t opener closer : Token) (xs : List Expr)
-        → Stands (is_kind k.Type) i t j → Opens N k.TightBracket j opener l → SeparatedSome (is_kind k.CloseBracket) k.Comma (Inner N false) l xs m → Stands (is_kind k.CloseBracket) m closer n
+        → Stands (is_kind k.Type) i t j → Opens N k.TightBracket j opener l →
+        SeparatedSome (is_kind k.CloseBracket) k.Comma (Inner N false) l xs m →
+        Stands (is_kind k.CloseBracket) m closer n
         → IsReturnType i (expr_at t.line (form.Postfix (expr_at t.line (form.Type t.text)) (postfix.Access xs ∷ []))) n
 
   -- ">>" type
   pub data IsReturn : Input → Expr → Input → Type 0 where
-    returns : (i j l : Input) (t : Token) (x : Expr) → Stands (is_kind k.Returns) i t j → IsReturnType j x l → IsReturn i x l
+    returns : (i j l : Input) (t : Token) (x : Expr) → Stands (is_kind k.Returns) i t j → IsReturnType j x l →
+        IsReturn i x l
 
   -- what may be defined in module files too:
   -- class = "class" NAME ["(" params ")"] ["inherits" NAME] block, define alike;
   -- function = "function" NAME ["(" params ")"] [">>" type] "{" { statement [";"] } "}"
   pub data IsModuleDefinition : Input → Definition → Input → Type 0 where
-    class : (i j l m n o : Input) (t : Token) (name : Name) (ps : List (Param Expr)) (parent : Option Name) (ss : List Statement)
-        → Stands (is_kind k.Class) i t j → IsName j name l → OptionalParams l ps m → Maybe IsParent (is_kind k.Inherits) m parent n → IsBlock N n ss o
+    class : (i j l m n o : Input) (t : Token) (name : Name) (ps : List (Param Expr)) (parent : Option Name)
+        (ss : List Statement)
+        → Stands (is_kind k.Class) i t j → IsName j name l → OptionalParams l ps m →
+        Maybe IsParent (is_kind k.Inherits) m parent n → IsBlock N n ss o
         → IsModuleDefinition i (definitions.Class (class_of name ps parent ss t.line)) o
     define : (i j l m n : Input) (t : Token) (name : Name) (ps : List (Param Expr)) (ss : List Statement)
-        → Stands (is_kind k.Define) i t j → IsName j name l → OptionalParams l ps m → IsBlock N m ss n → IsModuleDefinition i (definitions.Define (define_of name ps ss t.line)) n
-    function : (i j l m n o : Input) (t : Token) (name : Name) (ps : List (Param Expr)) (type : Option Expr) (ss : List Statement)
-        → Stands (is_kind k.Function) i t j → IsName j name l → OptionalParams l ps m → Maybe IsReturn (is_kind k.Returns) m type n → IsFunctionBlock N n ss o
+        → Stands (is_kind k.Define) i t j → IsName j name l → OptionalParams l ps m → IsBlock N m ss n →
+        IsModuleDefinition i (definitions.Define (define_of name ps ss t.line)) n
+    function : (i j l m n o : Input) (t : Token) (name : Name) (ps : List (Param Expr)) (type : Option Expr)
+        (ss : List Statement)
+        → Stands (is_kind k.Function) i t j → IsName j name l → OptionalParams l ps m →
+        Maybe IsReturn (is_kind k.Returns) m type n → IsFunctionBlock N n ss o
         → IsModuleDefinition i (definitions.Function (function_of name ps type ss t.line)) o
 
   pub data IsDefinition : Input → Definition → Input → Type 0 where
@@ -106,7 +117,8 @@ module _ (N : Within) where
   -- a module file: classes, defines and functions
   pub data IsModule : Input → List Definition → Input → Type 0 where
     end : (i : Input) → kind i ≡ None → IsModule i [] i
-    definition : (i j l m : Input) (d : Definition) (ds : List Definition) → IsModuleDefinition i d j → IsEnd N j l → IsModule l ds m → IsModule i (d ∷ ds) m
+    definition : (i j l m : Input) (d : Definition) (ds : List Definition) → IsModuleDefinition i d j → IsEnd N j l →
+        IsModule l ds m → IsModule i (d ∷ ds) m
 
   -- what a goal asks for
   abbrev pub IsPart : Inset → Phrase InsetTree

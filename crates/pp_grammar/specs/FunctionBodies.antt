@@ -23,7 +23,8 @@ begins_none next = not (begins_expression next)
 module _ (N : Within) where
   -- an expression; where a name begins it, no `{` follows the name, since a resource would begin there
   pub data IsUnbraced : Input → Expr → Input → Type 0 where
-    unbraced : (i j : Input) (x : Expr) → (Begins is_name (is_kind k.OpenBrace) i → ⊥) → IsWhole N false false i x j → IsUnbraced i x j
+    unbraced : (i j : Input) (x : Expr) → (Begins is_name (is_kind k.OpenBrace) i → ⊥) → IsWhole N false false i x j →
+        IsUnbraced i x j
 
   -- [args] of a statement function, up to a token that begins none
   abbrev pub AreFunctionWords : Phrase (List Expr)
@@ -31,9 +32,11 @@ module _ (N : Within) where
 
   -- statement = words | expr
   pub data IsFunctionStatement : Input → Statement → Input → Type 0 where
-    words : (i j l : Input) (t : Token) (xs : List Expr) → Stands (is_kind k.StatementFunction) i t j → calls_or_declares (kind j) ≡ false → AreFunctionWords j xs l
+    words : (i j l : Input) (t : Token) (xs : List Expr) → Stands (is_kind k.StatementFunction) i t j →
+        calls_or_declares (kind j) ≡ false → AreFunctionWords j xs l
         → IsFunctionStatement i (statement.Words (words_of t.text xs t.line)) l
-    expression : (i j : Input) (x : Expr) → (Begins (is_kind k.StatementFunction) (λ next. not (calls_or_declares next)) i → ⊥) → IsUnbraced i x j
+    expression : (i j : Input) (x : Expr) →
+        (Begins (is_kind k.StatementFunction) (λ next. not (calls_or_declares next)) i → ⊥) → IsUnbraced i x j
         → IsFunctionStatement i (statement.Chain (chain_of (operand.Expr x) [] (line_at i.left))) j
 
   -- statement [";"]
@@ -47,4 +50,5 @@ module _ (N : Within) where
   -- "{" { statement [";"] } "}"
   pub data IsFunctionBlock : Input → List Statement → Input → Type 0 where
     block : (i j l m : Input) (opener closer : Token) (ss : List Statement)
-        → Opens N k.OpenBrace i opener j → N.reads goal.FunctionStatements j (part.Block ss) l → Stands (is_kind k.CloseBrace) l closer m → IsFunctionBlock i ss m
+        → Opens N k.OpenBrace i opener j → N.reads goal.FunctionStatements j (part.Block ss) l →
+        Stands (is_kind k.CloseBrace) l closer m → IsFunctionBlock i ss m

@@ -1,5 +1,5 @@
--- What holds between the text of a manifest, its tree and its fault, in the words of the grammar, and between the tokens of a
--- template, its tree and its fault.
+-- What holds between the text of a manifest, its tree and its fault, in the words of the grammar, and between the
+-- tokens of a template, its tree and its fault.
 use Rattle.std.specs.Prelude.{◌≡◌, ◌≢◌, ℕ, List, [], ◌∷◌, ◌++◌, length, Option, Some, None, Result, Ok, Err}
 use Rattle.pp_values.specs.declared.fault.Fault.{Fault}
 use Rattle.pp_values.specs.declared.fault.What.{What}
@@ -59,13 +59,13 @@ up_to rest further = record { levels = max_levels; behind = length rest; further
 abbrev pub within_limit : Limit → Within
 within_limit l = LevelsTo l.behind l.levels l.further
 
--- What may stand in a whole text, from its first token to its end, within a limit; and the line of the first key that stands
--- a second time in its hash literal, if one does.
+-- What may stand in a whole text, from its first token to its end, within a limit; and the line of the first key that
+-- stands a second time in its hash literal, if one does.
 abbrev pub Whole : Type 0 → Type 1
 Whole A = Limit → List Token → A → Option ℕ → Type 0
 
--- What stands in the file at this path, from its first token to its end, within this limit of levels; and the line of the first
--- key that stands a second time in its hash literal, if one does.
+-- What stands in the file at this path, from its first token to its end, within this limit of levels; and the line of
+-- the first key that stands a second time in its hash literal, if one does.
 pub data IsFile (limit : Limit) (path : List ℕ) (ts : List Token) : Found → Option ℕ → Type 0 where
   main_manifest : (found : Found) (key : Option ℕ) → path ≡ main_path →
       IsMain (within_limit limit) (start ts) found.statements found.definitions (the_end key) →
@@ -80,8 +80,8 @@ file_at path limit ts found key = IsFile limit path ts found key
 abbrev pub a_template : Whole Template
 a_template limit ts found key = IsTemplate (within_limit limit) (start ts) found (the_end key)
 
--- A tree: what stands in the file within the limit of levels, with no key twice, and its definitions by their names, with no
--- name twice.
+-- A tree: what stands in the file within the limit of levels, with no key twice, and its definitions by their names,
+-- with no name twice.
 pub record IsTree (path text : List ℕ) (file : File) : Type 0 where
   pub definitions : List Definition
   pub stands : IsFile (everywhere max_levels) path (tokens text)
@@ -113,8 +113,8 @@ abbrev pub SameHead : List Token → List Token → Type 0
 SameHead r s = first_token r ≡ first_token s
 
 module _ {A : Type 0} (W : Whole A) where
-  -- Some text begins with the first tokens and goes on with the next ones. In the first ones it keeps the limit of levels, and
-  -- behind them it may open any number.
+  -- Some text begins with the first tokens and goes on with the next ones. In the first ones it keeps the limit of
+  -- levels, and behind them it may open any number.
   pub record GoesOn (front next : List Token) : Type 0 where
     pub way : List Token
     pub further : ℕ
@@ -122,27 +122,36 @@ module _ {A : Type 0} (W : Whole A) where
     pub key : Option ℕ
     pub stands : W (up_to (next ++ way) further) (front ++ (next ++ way)) found key
 
-  -- At this place a text leaves the grammar: some text begins with the tokens before it, within the limit of levels, and none
-  -- goes on with the token that comes next there, or ends there, however many levels it may open.
+  -- At this place a text leaves the grammar: some text begins with the tokens before it, within the limit of levels,
+  -- and none goes on with the token that comes next there, or ends there, however many levels it may open.
   pub record IsRefused (front rest : List Token) : Type 0 where
-    pub none_goes_on : (other : List Token) (levels : ℕ) (found : A) (key : Option ℕ) → SameHead rest other → W (everywhere levels) (front ++ other) found key → ⊥
+    pub none_goes_on : (other : List Token) (levels : ℕ) (found : A) (key : Option ℕ) → SameHead rest other →
+        W (everywhere levels) (front ++ other) found key → ⊥
     pub some_goes_on : GoesOn front []
 
-  -- With this token the limit of levels is passed: some text that keeps it before the token goes on with it, and none that keeps
-  -- it up to there, the token included, whatever stands behind.
+  -- With this token the limit of levels is passed: some text that keeps it before the token goes on with it, and none
+  -- that keeps it up to there, the token included, whatever stands behind.
   pub record IsTooDeep (front : List Token) (t : Token) : Type 0 where
-    pub none_goes_on : (other : List Token) (further : ℕ) (found : A) (key : Option ℕ) → W (up_to other further) (front ++ t ∷ other) found key → ⊥
+    pub none_goes_on : (other : List Token) (further : ℕ) (found : A) (key : Option ℕ) →
+        W (up_to other further) (front ++ t ∷ other) found key → ⊥
     pub some_goes_on : GoesOn front (t ∷ [])
 
 -- The fault of a text: F1 where it leaves the grammar, F29 at a token with which it passes the limit of levels, and
 -- where something stands in the file, F1 at the first key or name that stands there a second time.
 pub data IsFault (path text : List ℕ) : Fault → Type 0 where
-  refused : (front rest : List Token) → tokens text ≡ front ++ rest → IsRefused (file_at path) front rest → IsFault path text (fault_at path Syntax (line_from (end_line text) rest))
-  too_deep : (front rest : List Token) (t : Token) → tokens text ≡ front ++ t ∷ rest → IsTooDeep (file_at path) front t → IsFault path text (fault_at path DepthLimit t.line)
-  doubled : (found : Found) (key : Option ℕ) (line : ℕ) → IsFile (everywhere max_levels) path (tokens text) found key → earlier_line key (doubled_name (table_of found.definitions)) ≡ Some line → IsFault path text (fault_at path Syntax line)
+  refused : (front rest : List Token) → tokens text ≡ front ++ rest → IsRefused (file_at path) front rest →
+      IsFault path text (fault_at path Syntax (line_from (end_line text) rest))
+  too_deep : (front rest : List Token) (t : Token) → tokens text ≡ front ++ t ∷ rest →
+      IsTooDeep (file_at path) front t → IsFault path text (fault_at path DepthLimit t.line)
+  doubled : (found : Found) (key : Option ℕ) (line : ℕ) → IsFile (everywhere max_levels) path (tokens text) found key →
+      earlier_line key (doubled_name (table_of found.definitions)) ≡ Some line →
+      IsFault path text (fault_at path Syntax line)
 
 -- The fault of a template's tokens, in a file that ends on this line: the same, where no names stand.
 pub data IsTemplateFault (path : List ℕ) (end : ℕ) (ts : List Token) : Fault → Type 0 where
-  refused : (front rest : List Token) → ts ≡ front ++ rest → IsRefused a_template front rest → IsTemplateFault path end ts (fault_at path Syntax (line_from end rest))
-  too_deep : (front rest : List Token) (t : Token) → ts ≡ front ++ t ∷ rest → IsTooDeep a_template front t → IsTemplateFault path end ts (fault_at path DepthLimit t.line)
-  doubled : (found : Template) (line : ℕ) → a_template (everywhere max_levels) ts found (Some line) → IsTemplateFault path end ts (fault_at path Syntax line)
+  refused : (front rest : List Token) → ts ≡ front ++ rest → IsRefused a_template front rest →
+      IsTemplateFault path end ts (fault_at path Syntax (line_from end rest))
+  too_deep : (front rest : List Token) (t : Token) → ts ≡ front ++ t ∷ rest → IsTooDeep a_template front t →
+      IsTemplateFault path end ts (fault_at path DepthLimit t.line)
+  doubled : (found : Template) (line : ℕ) → a_template (everywhere max_levels) ts found (Some line) →
+      IsTemplateFault path end ts (fault_at path Syntax line)

@@ -205,8 +205,8 @@ module _ (N : Within) where
     reference : (j : Input) (r : Reference Expr) → IsReference i r j → is_kind k.OpenBrace (kind j) ≡ true →
         BeginsAlone i
 
-  -- statement = chain | override | defaults | words, and in a template also the text that stands outside of its tags, and the
-  -- value between `<%=` and the end of its tag
+  -- statement = chain | override | defaults | words, and in a template also the text that stands outside of its tags,
+  -- and the value between `<%=` and the end of its tag
   pub data IsStatement : Input → Statement → Input → Type 0 where
     chain : (i j : Input) (s : Statement) →
         (Begins (is_kind k.StatementFunction) (λ next. not (calls_or_declares next)) i → ⊥) → (BeginsAlone i → ⊥) →
@@ -221,9 +221,11 @@ module _ (N : Within) where
     words : (i j l : Input) (t : Token) (xs : List Expr) → Stands (is_kind k.StatementFunction) i t j →
         calls_or_declares (kind j) ≡ false → AreWords j xs l
         → IsStatement i (statement.Words (words_of t.text xs t.line)) l
-    emitted_text : (i j : Input) (t : Token) → Stands (is_kind k.RenderString) i t j → IsStatement i (statement.Emit t.text) j
+    emitted_text : (i j : Input) (t : Token) → Stands (is_kind k.RenderString) i t j →
+        IsStatement i (statement.Emit t.text) j
     emitted_value : (i j l m : Input) (opener closer : Token) (x : Expr)
-        → Stands (is_kind k.RenderExpr) i opener j → IsWhole N false false j x l → Stands (is_kind k.TagEnd) l closer m → IsStatement i (statement.EmitValue x) m
+        → Stands (is_kind k.RenderExpr) i opener j → IsWhole N false false j x l →
+        Stands (is_kind k.TagEnd) l closer m → IsStatement i (statement.EmitValue x) m
 
   -- [";"]
   pub data IsEnd : Input → Input → Type 0 where

@@ -55,7 +55,8 @@ ends_file _ _ = false
 
 -- a type with arguments: `Array[Integer]`
 abbrev pub applied_type : Name → List Expr → Expr
-applied_type type args = expr_at type.at (form.Postfix (expr_at type.at (form.Type type.text)) (postfix.Access args ∷ []))
+applied_type type args =
+    expr_at type.at (form.Postfix (expr_at type.at (form.Type type.text)) (postfix.Access args ∷ []))
 
 -- the next token as a text
 abbrev pub taken_text : Parser (List ℕ)

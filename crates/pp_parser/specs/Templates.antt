@@ -1,5 +1,6 @@
 -- Templates: their tokens to their tree, or to their first fault.
-use Rattle.std.specs.Prelude.{ℕ, zero, suc, false, if◌then◌else◌, List, [], ◌∷◌, ◌++◌, Option, Some, None, Result, Ok, Err}
+use Rattle.std.specs.Prelude.{ℕ, zero, suc, false, if◌then◌else◌, List, [], ◌∷◌, ◌++◌, Option, Some, None, Result, Ok}
+use Rattle.std.specs.Prelude.{Err}
 use Rattle.pp_values.specs.declared.fault.Fault.{Fault}
 use Rattle.pp_values.specs.declared.fault.What.TheVariants.{Syntax, DepthLimit}
 use Rattle.pp_lexer.specs.Seen.{Token}
@@ -16,7 +17,8 @@ use Rattle.pp_parser.specs.declared.refusal.Refusal.TheVariants as refusals
 use Rattle.pp_parser.specs.Definitions.{ends_file}
 use Rattle.pp_parser.specs.Expressions.{param_rule}
 use Rattle.pp_parser.specs.Inner.{Inner}
-use Rattle.pp_parser.specs.Input.{Outcome, Parser, ◌>>=◌, ◌>>◌, ◌<$>◌, pure, peek, take, refuse, expect, expect_any, eat, repeat, turns, separated}
+use Rattle.pp_parser.specs.Input.{Outcome, Parser, ◌>>=◌, ◌>>◌, ◌<$>◌, pure, peek, take, refuse, expect, expect_any}
+use Rattle.pp_parser.specs.Input.{eat, repeat, turns, separated}
 use Rattle.pp_parser.specs.Kinds.{ends_params}
 use Rattle.pp_parser.specs.Levels.{within, max_levels}
 use Rattle.pp_parser.specs.Manifest.{fault_at, line_of, start}

@@ -156,7 +156,8 @@ abbrev pub define_of : Name → List (Param Expr) → Block → ℕ → Define
 define_of name params block at = record { name = name; params = params; block = block; at = at }
 
 abbrev pub function_of : Name → List (Param Expr) → Option Expr → Block → ℕ → Function
-function_of name params type block at = record { name = name; params = params; return_type = type; block = block; at = at }
+function_of name params type block at =
+    record { name = name; params = params; return_type = type; block = block; at = at }
 
 abbrev pub node_of : List NodeName → Block → ℕ → Node
 node_of names block at = record { names = names; block = block; at = at }

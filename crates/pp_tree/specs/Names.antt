@@ -18,7 +18,8 @@ without_front_colons (a ∷ b ∷ rest) = if (a == 58) && (b == 58) then rest el
 unfoldable pub normal : List ℕ → List ℕ
 normal text = map to_ascii_lowercase (without_front_colons text)
 
--- two names are the same, letter by letter; classes and defines share one sort of names, nodes and functions have theirs
+-- two names are the same, letter by letter; classes and defines share one sort of names, nodes and functions have
+-- theirs
 abbrev pub same_name : DefinitionName → DefinitionName → Bool
 same_name (Code a) (Code b) = pointwise nat_eq a b
 same_name (Node None) (Node None) = true

@@ -32,8 +32,8 @@ use Rattle.eval_calls.specs.Calls.{log_rule, data_rule, template_or_data, site_b
 use Rattle.eval_calls.specs.Calls.{evaluated_rule, other_rule, plain_rule}
 use Rattle.eval_calls.specs.Calls.{stray_lambda_rule, with_lambda_by, with_lambda_rule, called, invoked, call_rule}
 use Rattle.eval_calls.specs.Calls.{invoked_on, method_rule, words_rule}
-use Rattle.eval_calls.specs.Iterating.{turns_from, over_rule, iterate_rule, reduce_from, reduced, reduce_rule, with_rule}
-use Rattle.eval_calls.specs.Iterating.{lambda_function_rule}
+use Rattle.eval_calls.specs.Iterating.{turns_from, over_rule, iterate_rule, reduce_from, reduced, reduce_rule}
+use Rattle.eval_calls.specs.Iterating.{with_rule, lambda_function_rule}
 use Rattle.eval_calls.specs.Lambdas.{Opened, opened, typed, bind_rule, bind_from, lambda_rule}
 use Rattle.eval_calls.specs.LookUps.{Request, request_of, or_next, first_found, default_or_fault, found_or, found_rule}
 use Rattle.eval_calls.specs.LookUps.{fitting, of_type, lookup_by, lookup_rule}

@@ -28,12 +28,12 @@ use Rattle.eval_world.specs.Outcomes.{Step}
 use Rattle.eval_world.specs.Worlds.{top}
 use Rattle.eval_world.specs.declared.here.Here.{Here}
 use Rattle.class_eval.specs.Evaluating.{at_depth, value_at, block_at, node_of, has_nodes, node_owner, node_rule, chosen}
-use Rattle.class_eval.specs.Evaluating.{nodes_by, nodes_rule, main_rule, class_number, class_given, class_within, class_at}
-use Rattle.class_eval.specs.Evaluating.{instance_at, render_at}
+use Rattle.class_eval.specs.Evaluating.{nodes_by, nodes_rule, main_rule, class_number, class_given, class_within}
+use Rattle.class_eval.specs.Evaluating.{class_at, instance_at, render_at}
 use Rattle.class_eval.specs.Meaning.{value_by, value_rule, deep, one_more, within}
 use Rattle.class_eval.specs.Postfixes.{PostfixLayer, postfix_by, postfix_rule, postfixes_from, postfixed_rule}
-use Rattle.class_eval.specs.Statements.{valued, unvalued, operand_by, operand_rule, chained_by, chain_rule, statement_by}
-use Rattle.class_eval.specs.Statements.{emitted_value, statement_rule, or_before, statements_from}
+use Rattle.class_eval.specs.Statements.{valued, unvalued, operand_by, operand_rule, chained_by, chain_rule}
+use Rattle.class_eval.specs.Statements.{statement_by, emitted_value, statement_rule, or_before, statements_from}
 use Rattle.class_eval.specs.TypeNames.{there_by, named_by, type_named_rule}
 use Rattle.world_laws.specs.Growing.{Grows, GrowsInner}
 use Rattle.world_laws.proofs.OfCalls.{call_grows, method_grows, words_grow}

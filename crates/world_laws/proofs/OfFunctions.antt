@@ -44,7 +44,8 @@ module _ (inner : Inner) (g : GrowsInner inner) where
   defaults_grow [] at own = pure_grows
   defaults_grow (p ∷ ps) at own = and_then (default_grows p at own) (λ u. defaults_grow ps at own)
 
-  binds_grow : (ps : List (Param Expr)) (ds : List Datum) (at : Place) (own : Here) → Grows (bind_from inner ps ds at own)
+  binds_grow : (ps : List (Param Expr)) (ds : List Datum) (at : Place) (own : Here) →
+      Grows (bind_from inner ps ds at own)
   unfolding bind_from
   binds_grow [] ds at own = pure_grows
   binds_grow (p ∷ ps) [] at own = defaults_grow (p ∷ ps) at own
@@ -86,7 +87,8 @@ tested : (w v : World) (own : Here) (d : Datum) (o : Outcome (Unit {0})) → Ext
 tested w v own d (Ok p) f past r = left_again w p.1 own.scope.number past (extends_on w v p.1 f r)
 tested w v own d (Err e) f past r = tt
 
-given : (w v : World) (own : Here) (test : Datum → Step (Unit {0})) (o : Outcome Datum) → ((d : Datum) → Grows (test d)) →
+given : (w v : World) (own : Here) (test : Datum → Step (Unit {0})) (o : Outcome Datum) →
+    ((d : Datum) → Grows (test d)) →
     Extends w v → length w.scopes.scopes ≤ own.scope.number → Reaches v o →
     Reaches w (go_on o (λ d. test d >> (leave own >> pure d)))
 given w v own test (Ok p) tests f past r =

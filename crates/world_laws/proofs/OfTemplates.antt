@@ -113,7 +113,8 @@ module _ (inner : Inner) (g : GrowsInner inner) where
 
   -- ---- a template whose statements grow
 
-  pub template_grows : ((b : List Statement) (own : Here) → Grows (block_rule inner b own)) → (r : Rendering) (own : Here) →
+  pub template_grows : ((b : List Statement) (own : Here) → Grows (block_rule inner b own)) →
+      (r : Rendering) (own : Here) →
       Grows (template_rule inner r own)
   unfolding template_rule
   template_grows blocks r own = and_then (answer_grows _) (λ t.
@@ -169,7 +170,8 @@ module _ (inner : Inner) (g : GrowsInner inner) where
   inline_by_grows : (o : Option Asked) (f : List ℕ) (line : ℕ) (here : Here) → Grows (inline_by inner o f line here)
   inline_by_grows None f line here = fault_grows _
   inline_by_grows (Some asked) f line here = told
-      (λ w. text_rule inner (rendering inline_file asked.text asked.given f (place_at w here line)) here) (λ w. text_grows _ here)
+      (λ w. text_rule inner (rendering inline_file asked.text asked.given f (place_at w here line)) here)
+      (λ w. text_grows _ here)
 
   pub inline_grows : (f : List ℕ) (arguments : List Datum) (line : ℕ) (here : Here) →
       Grows (inline_rule inner f arguments line here)

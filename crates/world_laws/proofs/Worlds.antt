@@ -211,7 +211,8 @@ owners_go_on w o stay placed = record {
 
 -- ---- bodies
 
-owner_numbered : (w : World) (o : Option ℕ) (file : List ℕ) → Extends w (record w { owners = (numbered o file w.owners).1 })
+owner_numbered : (w : World) (o : Option ℕ) (file : List ℕ) →
+    Extends w (record w { owners = (numbered o file w.owners).1 })
 owner_numbered w (Some n) file = owners_go_on w w.owners (same_owners w.owners) (λ p. p)
 owner_numbered w None file =
     owners_go_on w (with_file file w.owners) (one_file file w.owners)
@@ -222,7 +223,8 @@ pub owner_in_stays : (w : World) (file : List ℕ) → Extends w (record w { own
 unfolding owner_in
 owner_in_stays w file = owner_numbered w (lookup (is_at (text_cmp file)) w.owners.files) file
 
-inline_numbered : (w : World) (o : Option ℕ) (number : ℕ) → Extends w (record w { owners = (inline_by o number w.owners).1 })
+inline_numbered : (w : World) (o : Option ℕ) (number : ℕ) →
+    Extends w (record w { owners = (inline_by o number w.owners).1 })
 inline_numbered w (Some n) number = owners_go_on w w.owners (same_owners w.owners) (λ p. p)
 inline_numbered w None number =
     owners_go_on w (with_inline number w.owners) (one_inline number w.owners)

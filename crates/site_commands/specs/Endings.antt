@@ -48,12 +48,16 @@ Complained ending w.Memory err err' = (ending ≡ e.Memory) × Says (line (codes
 abbrev pub IsShared : Asked → Type 0
 IsShared (a.batch workers) = Unit {0}
 IsShared (a.serve port count dir) = Unit {0}
+IsShared (a.resume workers) = Unit {0}
+IsShared (a.settle rounds workers) = Unit {0}
 IsShared asked = ⊥
 
 -- it waits for nobody
 abbrev pub IsPlain : Asked → Type 0
 IsPlain (a.batch workers) = ⊥
 IsPlain (a.serve port count dir) = ⊥
+IsPlain (a.resume workers) = ⊥
+IsPlain (a.settle rounds workers) = ⊥
 IsPlain a.refused = ⊥
 IsPlain (a.bad_word word) = ⊥
 IsPlain asked = Unit {0}
@@ -72,8 +76,8 @@ pub record HasStopped (ending : Ending) (asked : Asked) (before after : World) :
 
 -- The work of a command on what was read ended so. `apply` alone calls the machine, and `serve` alone the listener.
 abbrev pub Works : Ending → Asked → Input → World → World → Type 0
-Works ending (a.apply node dir) (site said) before after =
-    Applies ending node said before.out after.out before.err after.err before.machine after.machine
+Works ending (a.apply node dir workers) (site said) before after =
+    Applies ending workers node said before.out after.out before.err after.err before.machine after.machine
     × (after.net ≡ before.net)
 Works ending (a.serve port count dir) (site said) before after =
     Serves ending said.site count before.out after.out before.err after.err before.net after.net
@@ -90,8 +94,8 @@ pub record HasWorked (ending : Ending) (asked : Asked) (before after : World) : 
 
 -- ---- a run
 
--- A run on words that ask for this ended so. Before a command's work the source or the tree may have failed, or the input
--- may be none of its kind; and memory may have been wanting for the words.
+-- A run on words that ask for this ended so. Before a command's work the source or the tree may have failed, or the
+-- input may be none of its kind; and memory may have been wanting for the words.
 abbrev pub Ends : Ending → Asked → World → World → Type 0
 Ends e.BadWords asked before after = Complains asked before after
 Ends e.ReadFault asked before after = HasStopped e.ReadFault asked before after

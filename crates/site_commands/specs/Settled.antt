@@ -2,7 +2,7 @@
 use Rattle.std.specs.Prelude.{◌≡◌, ◌⊎◌, ℕ, ◌<◌, if◌then◌else◌, nat_le, List, length, Option, None, Some, option_map, Result, Ok, Err, IfSome}
 use Rattle.agent_transaction.specs.Catalogs.{IsCycleTold}
 use Rattle.command_outputs.specs.Nodes.{NodeRefusal, node_meaning}
-use Rattle.command_outputs.specs.Statuses.{manifest_status, check_status, compile_status, sequence_status, lookup_status, demo_status, audit_status, migrate_status, IsBatchStatus}
+use Rattle.command_outputs.specs.Statuses.{manifest_status, check_status, compile_status, sequence_status, lookup_status, demo_status, audit_status, migrate_status, IsBatchStatus, IsResumeStatus, IsSettleStatus}
 use Rattle.pp_values.specs.declared.place.TheConstants.{MAIN_MANIFEST}
 use Rattle.pp_values.specs.declared.reference.Reference.{Reference}
 use Rattle.res_core.specs.declared.catalog.Catalog.{Catalog}
@@ -16,14 +16,16 @@ use Rattle.site_bundle.specs.declared.limits.TheConstants.{MOST_BUNDLE_BYTES, MO
 use Rattle.site_core.specs.Events.{Event}
 use Rattle.site_words.specs.Asked as a
 use Rattle.site_words.specs.Asked.{Asked}
-use Rattle.site_commands.specs.Inputs.{Reading, nothing, manifest, bundle, folder, journal, Input, none, bytes, site, history, reading_of, IsSaidBy, IsTooLong, IsWritten}
+use Rattle.site_commands.specs.Inputs.{Reading, nothing, manifest, bundle, folder, journal, resuming, Input, none, bytes, site, history, asking, reading_of, IsSaidBy, IsTooLong, IsWritten}
+use Rattle.site_commands.specs.JournalParts.{journal_part, requests_said}
 use Rattle.site_commands.specs.World.{World}
 
 -- ---- the input that is told
 
 -- a manifest that is not too long
 abbrev pub manifest_of : List ℕ → Result Input Refusal
-manifest_of input = if nat_le (length input) MOST_FILE_BYTES then Ok (bytes input) else Err (too_large MAIN_MANIFEST.now)
+manifest_of input =
+    if nat_le (length input) MOST_FILE_BYTES then Ok (bytes input) else Err (too_large MAIN_MANIFEST.now)
 
 abbrev pub site_or : Result Bundle Refusal → Result Input Refusal
 site_or (Ok said) = Ok (site said)
@@ -36,6 +38,7 @@ input_told manifest before = option_map manifest_of before.source.left
 input_told bundle before = option_map (λ input. site_or (bundle_of input)) before.source.left
 input_told (folder dir) before = option_map (λ files. site_or (end_over files (site_walk dir))) before.folder.told
 input_told journal before = None
+input_told resuming before = None
 
 -- ---- the status by the input
 
@@ -45,8 +48,8 @@ IsReportStatus status = (status ≡ 0) ⊎ ((status ≡ 2) ⊎ ((status ≡ 4) �
 abbrev pub HasCycle : Catalog → Type 0
 HasCycle catalog = (cycle : List Reference) × IsCycleTold catalog.resources catalog.edges cycle
 
--- 1 where the node has no catalog; else 0, 2, 4 or 6, by what the report counts. A catalog with a cycle, which no compile
--- makes, would have 1.
+-- 1 where the node has no catalog; else 0, 2, 4 or 6, by what the report counts. A catalog with a cycle, which no
+-- compile makes, would have 1.
 abbrev pub IsApplyStatus : ℕ → Result Catalog NodeRefusal → Type 0
 IsApplyStatus status (Ok catalog) = IsReportStatus status ⊎ ((status ≡ 1) × HasCycle catalog)
 IsApplyStatus status (Err refusal) = status ≡ 1
@@ -57,12 +60,14 @@ IsWorkStatus status (a.check dir) (site said) = status ≡ check_status said.sit
 IsWorkStatus status (a.compile node dir) (site said) = status ≡ compile_status said.site node
 IsWorkStatus status a.sequence (site said) = status ≡ sequence_status said
 IsWorkStatus status (a.lookup node key merge dir) (site said) = status ≡ lookup_status said.site node key merge
-IsWorkStatus status (a.apply node dir) (site said) = IsApplyStatus status (node_meaning said.site node)
+IsWorkStatus status (a.apply node dir workers) (site said) = IsApplyStatus status (node_meaning said.site node)
 IsWorkStatus status (a.demo nodes) none = status ≡ demo_status nodes
 IsWorkStatus status (a.batch workers) (site said) = IsBatchStatus status
 IsWorkStatus status (a.serve port count dir) (site said) = status ≡ 0
 IsWorkStatus status a.audit (history h) = status ≡ audit_status h
 IsWorkStatus status a.migrate (history h) = status ≡ migrate_status h
+IsWorkStatus status (a.resume workers) (asking h asked) = IsResumeStatus status h
+IsWorkStatus status (a.settle rounds workers) (site said) = IsSettleStatus status
 IsWorkStatus status asked input = ⊥
 
 -- 11 where the input is none of its kind
@@ -70,17 +75,23 @@ abbrev pub IsStatusFor : ℕ → Asked → Result Input Refusal → Type 0
 IsStatusFor status asked (Ok input) = IsWorkStatus status asked input
 IsStatusFor status asked (Err refusal) = status ≡ 11
 
--- the bytes are too many, or no journal, or one of too many entries
+-- the bytes are no journal, or one of too many entries
 abbrev pub IsNoJournal : List ℕ → Type 0
 IsNoJournal said =
-    (MOST_BUNDLE_BYTES < length said)
-    ⊎ (((h : List (Event SiteView)) → IsWritten h said → ⊥) ⊎ ((h : List (Event SiteView)) × IsTooLong h said))
+    ((h : List (Event SiteView)) → IsWritten h said → ⊥) ⊎ ((h : List (Event SiteView)) × IsTooLong h said)
 
+-- the requests behind a journal are none
+abbrev pub IsNoList : List ℕ → Type 0
+IsNoList said = (why : Refusal) × (requests_said said ≡ Err why)
+
+-- the bytes are too many, or don't say what is read
 abbrev pub IsNoneSaid : Reading → List ℕ → Type 0
-IsNoneSaid journal said = IsNoJournal said
+IsNoneSaid journal said = (MOST_BUNDLE_BYTES < length said) ⊎ IsNoJournal said
+IsNoneSaid resuming said = (MOST_BUNDLE_BYTES < length said) ⊎ (IsNoJournal (journal_part said) ⊎ IsNoList said)
 IsNoneSaid reading said = ⊥
 
--- The status by the bytes of a source that are to say a journal: that of the work on what they say, or 11 where they are none.
+-- The status by the bytes of a source that are to say a journal: that of the work on what they say, or 11 where they
+-- are none.
 abbrev pub IsSaidStatus : ℕ → Asked → List ℕ → Type 0
 IsSaidStatus status asked said =
     ((input : Input) × (IsSaidBy (reading_of asked) input said × IsWorkStatus status asked input))
@@ -98,5 +109,7 @@ IsSettled status a.audit before =
     IfSome before.source.left (λ said. IsSaidStatus status a.audit said ⊎ IsFaultStatus status)
 IsSettled status a.migrate before =
     IfSome before.source.left (λ said. IsSaidStatus status a.migrate said ⊎ IsFaultStatus status)
+IsSettled status (a.resume workers) before =
+    IfSome before.source.left (λ said. IsSaidStatus status (a.resume workers) said ⊎ IsFaultStatus status)
 IsSettled status asked before =
     IfSome (input_told (reading_of asked) before) (λ input. IsStatusFor status asked input ⊎ IsFaultStatus status)

@@ -17,7 +17,8 @@ use Rattle.site_sequence.specs.Sequence.{Outcome, outcome_of}
 use Rattle.compile_core.specs.Puppet.{puppet, listed}
 use Rattle.command_outputs.specs.Demo.{demo_site, demo_requests, summary_text}
 use Rattle.command_outputs.specs.Journals.{audited_output, migrated_output}
-use Rattle.command_outputs.specs.Outputs.{manifest_output, checked_output, compiled_output, looked_up_output, output_of, run_text}
+use Rattle.command_outputs.specs.Outputs.{manifest_output, checked_output, compiled_output, looked_up_output, output_of}
+use Rattle.command_outputs.specs.Outputs.{run_text}
 use Rattle.command_outputs.specs.Resuming.{IsTooGreat}
 use Rattle.command_outputs.specs.declared.output.Output.{Output}
 use Rattle.command_outputs.specs.declared.output.Output.TheVariants as a

@@ -1,5 +1,6 @@
 -- What becomes of a node's catalog that is applied to a machine.
-use Rattle.std.specs.Prelude.{◌≡◌, ◌⊎◌, ℕ, Bool, true, false, nat_lt, List, [], ◌++◌, Option, None, Some, option_map, Result, Ok, Err, MatchResult, codes}
+use Rattle.std.specs.Prelude.{◌≡◌, ◌⊎◌, ℕ, Bool, true, false, nat_lt, List, [], ◌++◌, Option, None, Some, option_map}
+use Rattle.std.specs.Prelude.{Result, Ok, Err, MatchResult, codes}
 use Rattle.std.specs.List.{count_by}
 use Rattle.agent_docs.specs.MachineText.{machine_text}
 use Rattle.agent_docs.specs.ReportText.{has_changed, has_failed, report_text}

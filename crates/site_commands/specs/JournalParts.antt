@@ -1,5 +1,6 @@
 -- An input that is a journal and, in one line behind it, a list of requests.
-use Rattle.std.specs.Prelude.{ℕ, ◌-◌, ◌==◌, nat_eq, Bool, true, ◌&&◌, if◌then◌else◌, codes, List, [], ◌∷◌, length, take, Result, Err}
+use Rattle.std.specs.Prelude.{ℕ, ◌-◌, ◌==◌, nat_eq, Bool, true, ◌&&◌, if◌then◌else◌, codes, List, [], ◌∷◌, length, take}
+use Rattle.std.specs.Prelude.{Result, Err}
 use Rattle.std.specs.List.{starts_with}
 use Rattle.res_core.specs.Asked.{Asked}
 use Rattle.site_bundle.specs.Bundles.{request_list}

@@ -3,7 +3,9 @@ use Rattle.std.specs.Prelude.{◌≡◌, ◌⊎◌, ℕ, ◌<◌, if◌then◌el
 use Rattle.std.specs.Prelude.{Result, Ok, Err, IfSome}
 use Rattle.agent_transaction.specs.Catalogs.{IsCycleTold}
 use Rattle.command_outputs.specs.Nodes.{NodeRefusal, node_meaning}
-use Rattle.command_outputs.specs.Statuses.{manifest_status, check_status, compile_status, sequence_status, lookup_status, demo_status, audit_status, migrate_status, IsBatchStatus, IsResumeStatus, IsSettleStatus}
+use Rattle.command_outputs.specs.Statuses.{manifest_status, check_status, compile_status, sequence_status}
+use Rattle.command_outputs.specs.Statuses.{lookup_status, demo_status, audit_status, migrate_status, IsBatchStatus}
+use Rattle.command_outputs.specs.Statuses.{IsResumeStatus, IsSettleStatus}
 use Rattle.pp_values.specs.declared.place.TheConstants.{MAIN_MANIFEST}
 use Rattle.pp_values.specs.declared.reference.Reference.{Reference}
 use Rattle.res_core.specs.declared.catalog.Catalog.{Catalog}
@@ -17,7 +19,8 @@ use Rattle.site_bundle.specs.declared.limits.TheConstants.{MOST_BUNDLE_BYTES, MO
 use Rattle.site_core.specs.Events.{Event}
 use Rattle.site_words.specs.Asked as a
 use Rattle.site_words.specs.Asked.{Asked}
-use Rattle.site_commands.specs.Inputs.{Reading, nothing, manifest, bundle, folder, journal, resuming, Input, none, bytes, site, history, asking, reading_of, IsSaidBy, IsTooLong, IsWritten}
+use Rattle.site_commands.specs.Inputs.{Reading, nothing, manifest, bundle, folder, journal, resuming, Input, none}
+use Rattle.site_commands.specs.Inputs.{bytes, site, history, asking, reading_of, IsSaidBy, IsTooLong, IsWritten}
 use Rattle.site_commands.specs.JournalParts.{journal_part, requests_said}
 use Rattle.site_commands.specs.World.{World}
 

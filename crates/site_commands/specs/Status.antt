@@ -1,7 +1,9 @@
 -- The exit status of each ending.
 use Rattle.std.specs.Prelude.{◌≡◌, ℕ}
 use Rattle.site_commands.specs.declared.ending.Ending.{Ending}
-use Rattle.site_commands.specs.declared.ending.Ending.TheVariants.{Done, Refused, Changed, Failed, ChangedAndFailed, BadWords, BadInput, ReadFault, WriteFault, NetFault, TreeFault, Memory, NotSettled}
+use Rattle.site_commands.specs.declared.ending.Ending.TheVariants.{Done, Refused, Changed, Failed, ChangedAndFailed}
+use Rattle.site_commands.specs.declared.ending.Ending.TheVariants.{BadWords, BadInput, ReadFault, WriteFault, NetFault}
+use Rattle.site_commands.specs.declared.ending.Ending.TheVariants.{TreeFault, Memory, NotSettled}
 
 abbrev pub status_of : Ending → ℕ
 status_of Done = 0

@@ -2,7 +2,8 @@
 use Rattle.std.specs.Prelude.{◌≡◌, ◌⊎◌, ℕ, List, [], ◌∷◌, Result, Ok, Err, codes}
 use Rattle.command_outputs.specs.Journals.{audited_output, migrated_output}
 use Rattle.command_outputs.specs.Lines.{line}
-use Rattle.command_outputs.specs.Outputs.{manifest_output, checked_output, compiled_output, looked_up_output, HasRun, HasShared, HasDemonstrated}
+use Rattle.command_outputs.specs.Outputs.{manifest_output, checked_output, compiled_output, looked_up_output, HasRun}
+use Rattle.command_outputs.specs.Outputs.{HasShared, HasDemonstrated}
 use Rattle.command_outputs.specs.Resuming.{HasResumed}
 use Rattle.command_outputs.specs.Settling.{HasSettled}
 use Rattle.command_outputs.specs.declared.output.Output.{Output}

@@ -3,9 +3,11 @@ use Rattle.std.specs.Prelude.{ℕ, ◌≤◌, if◌then◌else◌, codes, List, 
 use Rattle.std.specs.Str.{bytes_eq}
 use Rattle.clap.specs.Words.{Kinds, Row, Text, fault_of, subcommand_of}
 use Rattle.hiera_merge.specs.declared.merge.Merge.{Merge}
-use Rattle.word_rules.specs.declared.limits.TheConstants.{MOST_CONNECTIONS, MOST_DEMO_NODES, MOST_PORT, MOST_ROUNDS, MOST_WORKERS}
+use Rattle.word_rules.specs.declared.limits.TheConstants.{MOST_CONNECTIONS, MOST_DEMO_NODES, MOST_PORT, MOST_ROUNDS}
+use Rattle.word_rules.specs.declared.limits.TheConstants.{MOST_WORKERS}
 use Rattle.site_words.specs.CommandLine.{command_line}
-use Rattle.site_words.specs.Said.{Said, ◌>>=◌, word_of, node_in, key_in, number_in, merge_in, workers_in, given_workers_in, dir_in}
+use Rattle.site_words.specs.Said.{Said, ◌>>=◌, word_of, node_in, key_in, number_in, merge_in, workers_in}
+use Rattle.site_words.specs.Said.{given_workers_in, dir_in}
 use Rattle.site_words.specs.declared.ids.TheConstants.{NODES, ROUNDS, PORT, COUNT, DIR}
 
 pub data Asked : Type 0 where

@@ -1,6 +1,7 @@
 mod SiteLemmas
 mod KeptLemmas
 mod Parsed
+pub mod Sent
 mod Chains
 mod NodeSteps
 pub mod FactSteps

@@ -1,9 +1,9 @@
 -- The files and nodes of a site as maps: what is found in them, and what is put in.
-use Rattle.std.proofs.Common.{◌≡◌, Bor, ℕ, Bool, true, false, ◌&&◌, ◌||◌, T, IsTrue, cond, None, Some, Option, List, [], ◌∷◌, ◌++◌, refl, sym, ap, subst, ◌∙◌}
+use Rattle.std.proofs.Common.{◌≡◌, Bor, ℕ, Bool, true, false, ◌&&◌, ◌||◌, T, IsTrue, cond, None, Some, Option, List, [], ◌∷◌, ◌++◌, append_assoc, append-nil, refl, sym, ap, subst, ◌∙◌}
 use Rattle.std.specs.Prelude.{option_map, option_copied, IsSome, IfSome, if◌then◌else◌}
 use Rattle.std.specs.declared.cmp.Ordering.{Ordering}
 use Rattle.std.specs.declared.cmp.Ordering.TheVariants.{Less, Equal, Greater}
-use Rattle.std.specs.Ordering.{eq_by_cmp, is_eq, match_ordering}
+use Rattle.std.specs.Ordering.{eq_by_cmp, is_eq, is_lt, match_ordering}
 use Rattle.std.proofs.lemmas.List.Elements.{All-head, All-tail, All-cons}
 use Rattle.std.proofs.lemmas.Map.Text.{is_eq-slice_cmp}
 use Rattle.std.proofs.lemmas.Slice.Eq.{bytes_eq-Decides}
@@ -12,7 +12,7 @@ use Rattle.std.specs.BTreeMap.{insert_entry, is_at}
 use Rattle.std.specs.Map.{lookup}
 use Rattle.std.specs.Str.{bytes_eq}
 use Rattle.std.specs.FinMap.{find, put}
-use Rattle.std.specs.FinMap.Entries.{by_order, find-put, is_sorted-put}
+use Rattle.std.specs.FinMap.Entries.{by_order, below_all, find-put, is_sorted-put}
 use Rattle.std.proofs.lemmas.List.{map-append}
 use Rattle.std.proofs.lemmas.List.Folds.{list_all-append}
 use Rattle.std.specs.List.{All, list_all}
@@ -25,8 +25,8 @@ use Rattle.pp_values.specs.PairLists.{fact_view, fact_views}
 use Rattle.pp_values.specs.Rising.{text_cmp}
 use Rattle.pp_tree.specs.declared.manifest_file.ManifestFile.{ManifestFile}
 use Rattle.site_bundle.specs.Given.{has_key}
-use Rattle.site_bundle.specs.SiteView.{Listed, are_rising, have_facts, put_in}
-use Rattle.site_bundle.specs.Listing.{shown, listed, IsRead, AreRead}
+use Rattle.site_bundle.specs.SiteView.{Filed, Listed, are_rising, have_facts, put_in}
+use Rattle.site_bundle.specs.Listing.{shown, listed, IsRead, AreRead, IsShort, AreShort}
 
 true_of : (b : Bool) → T b → IsTrue b
 true_of true h = refl
@@ -111,6 +111,69 @@ put_step done more left rest all p parts is held =
 pub put_end : {X : Type 0} (done left all : List (List ℕ × X)) → left ≡ [] → put_in done left ≡ put_in [] all →
     done ≡ put_in [] all
 put_end done left all none held = sym (put_in-none done) ∙ ap (put_in done) (sym none) ∙ held
+
+-- ---- pairs that rise
+
+less : (o : Ordering) → IsTrue (is_lt o) → o ≡ Less
+less Less h = refl
+less Equal h = absurd (test_of false h)
+less Greater h = absurd (test_of false h)
+
+put_front : {X : Type 0} (k : List ℕ) (v : X) (es : List (List ℕ × X)) → IsTrue (below_all text_cmp k es) →
+    put text_cmp k v es ≡ (k, v) ∷ es
+put_front k v [] h = refl
+put_front k v (e ∷ es) h = rw (less _ (first (is_lt (text_cmp k e.0)) _ h)) refl
+
+-- they are the same when they are put in
+pub put_in_rising : {X : Type 0} (ps : List (List ℕ × X)) → IsTrue (are_rising ps) → put_in [] ps ≡ ps
+unfolding put_in
+put_in_rising [] h = refl
+put_in_rising (p ∷ ps) h =
+    ap (put text_cmp p.0 p.1) (put_in_rising ps (second (below_all text_cmp p.0 ps) _ h))
+    ∙ put_front p.0 p.1 ps (first (below_all text_cmp p.0 ps) _ h)
+
+-- ---- texts
+
+pub insert-put : (es : List Filed) (k v : List ℕ) → insert_entry text_cmp es k v ≡ put text_cmp k v es
+insert-put [] k v = refl
+insert-put (e ∷ es) k v =
+    elim (text_cmp k e.0) as (λ r. match_ordering r ((k, v) ∷ e ∷ es) ((e.0, v) ∷ es)
+    (e ∷ insert_entry text_cmp es k v) ≡ by_order r ((k, v) ∷ e ∷ es) ((e.0, v) ∷ es) (e ∷ put text_cmp k v es)) [
+      | Less ↦ refl
+      | Equal ↦ refl
+      | Greater ↦ ap (λ l. e ∷ l) (insert-put es k v)
+    ]
+
+pub lookup-find : (es : List Filed) (k : List ℕ) → lookup (is_at (text_cmp k)) es ≡ find text_cmp k es
+lookup-find [] k = refl
+lookup-find (e ∷ es) k =
+    elim (eq_by_cmp text_cmp k e.0) as (λ b. cond b (Some e.1) (lookup (is_at (text_cmp k)) es)
+    ≡ cond b (Some e.1) (find text_cmp k es)) [
+      | true ↦ refl
+      | false ↦ lookup-find es k
+    ]
+
+-- texts are short where another short one is put in
+pub short-put : (es : List Filed) (k v : List ℕ) → IsShort (k, v) → AreShort es → AreShort (put text_cmp k v es)
+short-put [] k v short all = All-cons IsShort (k, v) [] short all
+short-put (e ∷ es) k v short all =
+    elim (text_cmp k e.0) as (λ r.
+    AreShort (by_order r ((k, v) ∷ e ∷ es) ((e.0, v) ∷ es) (e ∷ put text_cmp k v es))) [
+      | Less ↦ All-cons IsShort (k, v) (e ∷ es) short all
+      | Equal ↦ All-cons IsShort (e.0, v) es short (All-tail IsShort e es all)
+      | Greater ↦ All-cons IsShort e (put text_cmp k v es) (All-head IsShort e es all)
+          (short-put es k v short (All-tail IsShort e es all))
+    ]
+
+-- the next one goes behind those that are done
+pub one_listed : (done more rest left all : List Filed) (p m : Filed) → left ≡ p ∷ rest → m ≡ p → more ≡ done ++ m ∷ [] →
+    done ++ left ≡ all → more ++ rest ≡ all
+one_listed done more rest left all p m next same made held =
+    ap (λ l. l ++ rest) (made ∙ ap (λ x. done ++ x ∷ []) same) ∙ append_assoc done (p ∷ []) rest
+    ∙ ap (λ l. done ++ l) (sym next) ∙ held
+
+pub all_listed : (done left all : List Filed) → left ≡ [] → done ++ left ≡ all → done ≡ all
+all_listed done left all none held = sym (append-nil done) ∙ ap (λ l. done ++ l) (sym none) ∙ held
 
 -- a key that is given is found
 some_if : {X : Type 0} (b : Bool) (v : X) (o : Option X) → (b ≡ false → IsSome o) → IsSome (cond b (Some v) o)

@@ -1,5 +1,5 @@
 -- The files and nodes of a site as entries of maps.
-use Rattle.std.specs.Prelude.{◌≡◌, ℕ, List, map}
+use Rattle.std.specs.Prelude.{◌≡◌, ℕ, ◌+◌, ◌^◌, ◌<◌, List, map, length}
 use Rattle.std.specs.List.{All}
 use Rattle.pp_parser.specs.Manifest.{file_of}
 use Rattle.pp_values.specs.declared.value.Value.{Value}
@@ -26,3 +26,10 @@ IsRead e = e.1.read ≡ file_of e.0 e.1.text
 
 abbrev pub AreRead : List (List ℕ × ManifestFile) → Type 0
 AreRead es = All IsRead es
+
+-- places count the lines of each text in 32 bits
+abbrev pub IsShort : Filed → Type 0
+IsShort f = length f.1 + 1 < 2 ^ 32
+
+abbrev pub AreShort : List Filed → Type 0
+AreShort fs = All IsShort fs

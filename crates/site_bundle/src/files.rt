@@ -19,7 +19,7 @@ use serde_json::{Map, Value};
 use std::alloc::Global;
 use std::cmp::Ordering;
 
-/// The files of a bundle, the main manifest among them. Each is read here.
+/// The files of a bundle, the main manifest among them.
 pub fn read_files(alloc: Global, bundle: &Value) -> Result<KeptFiles, BundleStop>
     ensures files { Reads result (files_of (view bundle.now)) }
     ensures main { IfOk result (λ fs. IsSome (find text_cmp MAIN.now fs.manifests)) }
@@ -84,7 +84,7 @@ fn with_file(
     }
     let text = content_of(alloc, path, content)?;
     let path = Text::from_str(alloc, path)?;
-    files.read(alloc, path, text)?;
+    files.keep(alloc, path, text)?;
     Ok(())
 }
 

@@ -22,26 +22,38 @@ use pp_values::text::Text;
 use res_core::requests::Requests;
 use site_io::{Tree, folder_front};
 use std::alloc::Global;
+use std::thread::Threads;
 
 /// The site in a folder, with its machine, or the first thing that is wrong in it. Nothing is asked of it.
 ///
 /// Files are read by path in byte order, each once: all in `data/`, `global/` and `modules/`, and those of the main
-/// manifest, the machine and the nodes. After a refusal nothing more is asked of the tree.
-pub fn read_site<T: Tree>(alloc: Global, tree: &mut T, folder: &Text) -> Result<Bundle, BundleStop>
+/// manifest, the machine and the nodes. After a refusal nothing more is asked of the tree. The manifests are parsed once
+/// all files are read, side by side where threads can be had.
+pub fn read_site<T: Tree, R: Threads>(
+    rt: &R,
+    alloc: Global,
+    tree: &mut T,
+    folder: &Text,
+) -> Result<Bundle, BundleStop>
     ensures goes { Goes (λ b. b) result (site_walk folder.now) (T.folder tree.old) (T.folder tree.new) }
     ensures told { IfSome (T.folder tree.old).told
         (λ files. ReadsTold (λ b. b) result (end_over files (site_walk folder.now))) }
 {
-    read_bundle_in(alloc, tree, folder)
+    read_bundle_in(rt, alloc, tree, folder)
 }
 
 #[tactic(auto, unfolding(crate::specs::FolderSites::site_walk))]
-fn read_bundle_in<T: Tree>(alloc: Global, tree: &mut T, folder: &Text) -> Result<Bundle, BundleStop>
+fn read_bundle_in<T: Tree, R: Threads>(
+    rt: &R,
+    alloc: Global,
+    tree: &mut T,
+    folder: &Text,
+) -> Result<Bundle, BundleStop>
     ensures { Goes (λ b. b) result (site_walk folder.now) (T.folder tree.old) (T.folder tree.new) }
 {
     let front = folder_front(alloc, folder.as_str())?;
     let gathered = read_files(alloc, tree, front.as_str())?;
-    bundle_with(alloc, gathered)
+    bundle_with(rt, alloc, gathered)
 }
 
 #[tactic(auto, unfolding(crate::specs::FolderSites::files_walk))]
@@ -83,7 +95,7 @@ fn with_main(alloc: Global, gathered: &Gathered) -> Result<(), BundleStop>
     Ok(())
 }
 
-fn bundle_with(alloc: Global, gathered: Gathered) -> Result<Bundle, BundleStop>
+fn bundle_with<R: Threads>(rt: &R, alloc: Global, gathered: Gathered) -> Result<Bundle, BundleStop>
     ensures { Reads result (bundle_with gathered) }
 {
     with_main(alloc, &gathered)?;
@@ -95,7 +107,7 @@ fn bundle_with(alloc: Global, gathered: Gathered) -> Result<Bundle, BundleStop>
         size: _size,
     } = gathered;
     let KeptFiles { manifests, data } = files;
-    let site = site_with(alloc, manifests, data, nodes)?;
+    let site = site_with(rt, alloc, manifests, data, nodes)?;
     Ok(Bundle {
         site,
         requests: Requests::new(alloc),

@@ -111,7 +111,7 @@ impl Gathered {
         match String::from_utf8(content.into_vec()) {
             Ok(text) => {
                 let path = Text::from_str(alloc, path)?;
-                self.files.read(alloc, path, Text::new(text))?;
+                self.files.keep(alloc, path, Text::new(text))?;
                 Ok(())
             }
             Err(_) => Err(bad_shape(alloc, path)),

@@ -5,16 +5,16 @@ ghost use Rattle.site_bundle.specs.Given.{is_manifest_path};
 ghost use Rattle.site_bundle.specs.Keeping.{no_files, with_text};
 
 use crate::limits::MOST_FILES;
-use crate::site_files::SiteFiles;
+use crate::manifest_texts::ManifestTexts;
 use hiera_config::SiteData;
 use pp_values::memory::Memory;
 use pp_values::text::Text;
 use std::alloc::Global;
 
-/// Manifests, and the other files, which are a site's data. Each is read once.
+/// Manifests, which are still to be parsed, and the other files, which are a site's data.
 #[derive(Drop)]
 pub struct KeptFiles {
-    pub manifests: SiteFiles,
+    pub manifests: ManifestTexts,
     pub data: SiteData,
 }
 
@@ -23,20 +23,19 @@ impl KeptFiles {
         ensures { result ≡ no_files }
     {
         KeptFiles {
-            manifests: SiteFiles::new(alloc),
+            manifests: ManifestTexts::new(alloc),
             data: SiteData::new(alloc),
         }
     }
 
-    /// Reads a file, and puts it in place of what stood at its path. Where there is no memory, the files stay as they
-    /// were.
-    pub fn read(&mut self, alloc: Global, path: Text, text: Text) -> Result<(), Memory>
+    /// Puts a file in place of what stood at its path. Where there is no memory, the files stay as they were.
+    pub fn keep(&mut self, alloc: Global, path: Text, text: Text) -> Result<(), Memory>
         // Places count lines in 32 bits.
         requires { length text + 1 < 2 ^ 32 }
         ensures { self.new ≡ (if is_ok result then with_text path text self.old else self.old) }
     {
         if is_manifest_path(path.as_str().as_bytes()) {
-            self.manifests.read(alloc, path, text)
+            self.manifests.put(path, text)
         } else {
             self.data.read(alloc, path, text)
         }

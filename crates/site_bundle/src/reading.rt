@@ -17,29 +17,31 @@ use crate::machines::read_machine;
 use crate::nodes::read_nodes;
 use crate::refusing::bad_shape;
 use crate::requests::{listed_in, read_requests};
-use crate::site::{Site, site_with};
+use crate::site::{Site, site_in_turn, site_with};
 use res_core::requests::Requests;
 use serde_json::Value;
 use std::alloc::Global;
+use std::thread::Threads;
 
-/// The bundle that these bytes say, or the first thing that is wrong with them.
+/// The bundle that these bytes say, or the first thing that is wrong with them. Its manifests are parsed side by side
+/// where threads can be had.
 #[tactic(auto, unfolding(crate::specs::Bundles::bundle_of))]
-pub fn read_bundle(alloc: Global, bytes: &[u8]) -> Result<Bundle, BundleStop>
+pub fn read_bundle<R: Threads>(rt: &R, alloc: Global, bytes: &[u8]) -> Result<Bundle, BundleStop>
     ensures bundle { Reads result (bundle_of bytes.now) }
     ensures facts { IfOk result (λ b. IsTrue (give_facts b.requests)) }
     ensures few { IfOk result (λ b. length b.requests ≤ MOST_REQUESTS) }
 {
     let document = read_document(alloc, bytes)?;
-    bundle_in(alloc, &document)
+    bundle_in(rt, alloc, &document)
 }
 
-fn bundle_in(alloc: Global, document: &Value) -> Result<Bundle, BundleStop>
+fn bundle_in<R: Threads>(rt: &R, alloc: Global, document: &Value) -> Result<Bundle, BundleStop>
     ensures bundle { Reads result (bundle_in (view document.now)) }
     ensures facts { IfOk result (λ b. IsTrue (give_facts b.requests)) }
     ensures few { IfOk result (λ b. length b.requests ≤ MOST_REQUESTS) }
 {
     if is_bundle(document) {
-        members_of(alloc, document)
+        members_of(rt, alloc, document)
     } else {
         Err(bad_shape(alloc, "bundle"))
     }
@@ -56,12 +58,12 @@ fn is_bundle(document: &Value) -> bool
 }
 
 #[tactic(auto, unfolding(crate::specs::Bundles::members_of))]
-fn members_of(alloc: Global, document: &Value) -> Result<Bundle, BundleStop>
+fn members_of<R: Threads>(rt: &R, alloc: Global, document: &Value) -> Result<Bundle, BundleStop>
     ensures bundle { Reads result (members_of (view document.now)) }
     ensures facts { IfOk result (λ b. IsTrue (give_facts b.requests)) }
     ensures few { IfOk result (λ b. length b.requests ≤ MOST_REQUESTS) }
 {
-    let site = site_in(alloc, document)?;
+    let site = site_in(rt, alloc, document)?;
     let requests = read_requests(alloc, document)?;
     let machine = read_machine(alloc, document)?;
     Ok(Bundle {
@@ -72,23 +74,34 @@ fn members_of(alloc: Global, document: &Value) -> Result<Bundle, BundleStop>
 }
 
 #[tactic(auto, unfolding(crate::specs::Bundles::site_in))]
-fn site_in(alloc: Global, document: &Value) -> Result<Site, BundleStop>
+fn site_in<R: Threads>(rt: &R, alloc: Global, document: &Value) -> Result<Site, BundleStop>
     ensures { Reads result (site_in (view document.now)) }
 {
     let KeptFiles { manifests, data } = read_files(alloc, document)?;
     let nodes = read_nodes(alloc, document)?;
-    let site = site_with(alloc, manifests, data, nodes)?;
+    let site = site_with(rt, alloc, manifests, data, nodes)?;
+    Ok(site)
+}
+
+#[tactic(auto, unfolding(crate::specs::Bundles::site_in))]
+fn site_in_one_thread(alloc: Global, document: &Value) -> Result<Site, BundleStop>
+    ensures { Reads result (site_in (view document.now)) }
+{
+    let KeptFiles { manifests, data } = read_files(alloc, document)?;
+    let nodes = read_nodes(alloc, document)?;
+    let site = site_in_turn(alloc, manifests, data, nodes)?;
     Ok(site)
 }
 
 /// The site that these bytes say without anything that is asked of it, or the first thing that is wrong with them: a
-/// JSON object with `files` and, where there are any, `nodes`, as in a bundle. Its other members do not count.
+/// JSON object with `files` and, where there are any, `nodes`, as in a bundle. Its other members do not count. Its
+/// manifests are parsed one after another.
 #[tactic(auto, unfolding(crate::specs::Bundles::site_said))]
 pub fn read_site_text(alloc: Global, bytes: &[u8]) -> Result<Site, BundleStop>
     ensures { Reads result (site_said bytes.now) }
 {
     let document = read_document(alloc, bytes)?;
-    site_in(alloc, &document)
+    site_in_one_thread(alloc, &document)
 }
 
 /// The requests that these bytes say, or the first thing that is wrong with them: a JSON list as `requests` of a bundle

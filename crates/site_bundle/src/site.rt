@@ -13,6 +13,9 @@ ghost use Rattle.site_bundle.specs.SiteView.{facts_for, file_in, main_text, have
 
 use crate::kept_files::KeptFiles;
 use crate::listed_nodes::ListedNodes;
+use crate::manifest::Manifest;
+use crate::manifest_texts::ManifestTexts;
+use crate::parsing::{parse_all, parse_in_turn};
 use crate::site_files::SiteFiles;
 use hiera_config::SiteData;
 use pp_tree::manifest_file::ManifestFile;
@@ -24,6 +27,7 @@ use pp_values::text_pairs::TextPairs;
 use pp_values::value::Value;
 use std::alloc::Global;
 use std::marker::Model;
+use std::thread::Threads;
 
 /// A site: its manifests and the files of its data, which were read when it was made, and the facts that it lists for
 /// nodes.
@@ -120,7 +124,7 @@ fn other_text<'a>(files: &'a SiteData, path: &Text) -> Option<&'a Text>
     }
 }
 
-/// The site of these files and nodes. Each file is read here.
+/// The site of these files and nodes. Each file is read here, one after another.
 pub fn make_site(alloc: Global, files: TextPairs, nodes: FactPairs) -> Result<Site, Memory>
     requires paths { IsTrue (are_distinct files) }
     requires main { IsTrue (has_main files) }
@@ -130,16 +134,10 @@ pub fn make_site(alloc: Global, files: TextPairs, nodes: FactPairs) -> Result<Si
     requires facts { IsTrue (have_facts nodes) }
     ensures { IfOk result (λ s. s ≡ site_of files nodes) }
 {
-    let main = Text::from_str(alloc, MAIN_MANIFEST)?;
-    let KeptFiles { manifests, data } = read_files(alloc, files)?;
-    let data = planned(alloc, data)?;
+    let KeptFiles { manifests, data } = keep_files(alloc, files)?;
     let nodes = list_nodes(alloc, nodes)?;
-    Ok(Site {
-        main,
-        manifests,
-        data,
-        nodes,
-    })
+    let site = site_in_turn(alloc, manifests, data, nodes)?;
+    Ok(site)
 }
 
 /// The site of a main manifest alone, with nodes that are listed already.
@@ -151,7 +149,7 @@ pub fn site_of_main(alloc: Global, manifest: Text, nodes: ListedNodes) -> Result
 {
     let main = Text::from_str(alloc, MAIN_MANIFEST)?;
     let mut manifests = SiteFiles::new(alloc);
-    manifests.read(alloc, main.copy(alloc)?, manifest)?;
+    manifests.put(Manifest::new(alloc, main.copy(alloc)?, manifest))?;
     let data = planned(alloc, SiteData::new(alloc))?;
     Ok(Site {
         main,
@@ -161,8 +159,37 @@ pub fn site_of_main(alloc: Global, manifest: Text, nodes: ListedNodes) -> Result
     })
 }
 
-/// The site of these manifests, the main one among them, and these other files, with nodes that are listed already.
-pub fn site_with(
+/// The site of these manifests, the main one among them, and these other files, with nodes that are listed already. The
+/// manifests are parsed here, side by side where threads can be had.
+pub fn site_with<R: Threads>(
+    rt: &R,
+    alloc: Global,
+    manifests: ManifestTexts,
+    others: SiteData,
+    nodes: ListedNodes,
+) -> Result<Site, Memory>
+    requires { IsSome (find text_cmp MAIN_MANIFEST.now manifests) }
+    ensures { IfOk result (λ s. s ≡ record { manifests = manifests; «data» = others; nodes = nodes }) }
+{
+    let files = parse_all(rt, alloc, manifests)?;
+    site_of_files(alloc, files, others, nodes)
+}
+
+/// The same site, whose manifests are parsed one after another.
+pub fn site_in_turn(
+    alloc: Global,
+    manifests: ManifestTexts,
+    others: SiteData,
+    nodes: ListedNodes,
+) -> Result<Site, Memory>
+    requires { IsSome (find text_cmp MAIN_MANIFEST.now manifests) }
+    ensures { IfOk result (λ s. s ≡ record { manifests = manifests; «data» = others; nodes = nodes }) }
+{
+    let files = parse_in_turn(alloc, manifests)?;
+    site_of_files(alloc, files, others, nodes)
+}
+
+fn site_of_files(
     alloc: Global,
     manifests: SiteFiles,
     others: SiteData,
@@ -190,16 +217,16 @@ fn planned(alloc: Global, files: SiteData) -> Result<SiteData, Memory>
     Ok(files)
 }
 
-fn read_files(alloc: Global, files: TextPairs) -> Result<KeptFiles, Memory>
+fn keep_files(alloc: Global, files: TextPairs) -> Result<KeptFiles, Memory>
     requires { IsTrue (are_short files) }
     ensures { IfOk result (λ fs. fs ≡ kept files) }
 {
-    let mut read = KeptFiles::new(alloc);
+    let mut kept = KeptFiles::new(alloc);
     let mut left = files;
     while let Some((path, text)) = left.pop() {
-        read.read(alloc, path, text)?;
+        kept.keep(alloc, path, text)?;
     }
-    Ok(read)
+    Ok(kept)
 }
 
 fn list_nodes(alloc: Global, nodes: FactPairs) -> Result<ListedNodes, Memory>

@@ -1,16 +1,13 @@
 //! The manifests of a site, each with what was read of it.
-ghost use Rattle.std.specs.Prelude.{◌≡◌, ◌+◌, ◌^◌, ◌<◌, [], length, is_ok, if◌then◌else◌, IsTrue, IfOk, IfSome};
-ghost use Rattle.std.specs.Prelude.{option_map};
+ghost use Rattle.std.specs.Prelude.{◌≡◌, [], length, is_ok, if◌then◌else◌, IsTrue, IfOk, IfSome, option_map};
 ghost use Rattle.std.specs.FinMap.{find, put};
 ghost use Rattle.pp_parser.specs.Manifest.{file_of};
 ghost use Rattle.pp_values.specs.Rising.{text_cmp};
 ghost use Rattle.site_bundle.specs.Listing.{filed, AreRead};
-ghost use Rattle.site_bundle.specs.SiteView.{are_rising};
+ghost use Rattle.site_bundle.specs.SiteView.{are_rising, put_in};
 
-use pp_parser::manifest::parse;
-use pp_tree::file::File;
+use crate::manifest::Manifest;
 use pp_tree::manifest_file::ManifestFile;
-use pp_values::fault::{Fault, Stop};
 use pp_values::memory::Memory;
 use pp_values::text::Text;
 use std::alloc::Global;
@@ -44,15 +41,24 @@ impl SiteFiles {
         }
     }
 
-    /// Reads a manifest, and puts it in place of what stood at its path. Where there is no memory, the files stay as
-    /// they were.
-    pub fn read(&mut self, alloc: Global, path: Text, text: Text) -> Result<(), Memory>
-        // Places count lines in 32 bits.
-        requires { length text + 1 < 2 ^ 32 }
-        ensures { self.new ≡ (if is_ok result then put text_cmp path text self.old else self.old) }
+    /// These manifests, of which the first one counts where a path stands twice.
+    pub fn of(alloc: Global, manifests: Vec<Manifest>) -> Result<SiteFiles, Memory>
+        ensures { IfOk result (λ files. files ≡ put_in [] manifests.items) }
     {
-        let read = read_manifest(alloc, &path, &text)?;
-        drop(self.by_path.insert(path, ManifestFile { text, read })?);
+        let mut files = SiteFiles::new(alloc);
+        let mut left = manifests;
+        while let Some(manifest) = left.pop() {
+            files.put(manifest)?;
+        }
+        Ok(files)
+    }
+
+    /// Puts a manifest in place of what stood at its path. Where there is no memory, the files stay as they were.
+    pub fn put(&mut self, manifest: Manifest) -> Result<(), Memory>
+        ensures { self.new ≡ (if is_ok result then put text_cmp manifest.0 manifest.1 self.old else self.old) }
+    {
+        let (path, file) = manifest.into_file()?;
+        drop(self.by_path.insert(path, file)?);
         Ok(())
     }
 
@@ -78,17 +84,5 @@ impl SiteFiles {
         ensures rising { IsTrue (are_rising self.now) }
     {
         &self.by_path
-    }
-}
-
-/// The manifest's tree, or its first fault.
-fn read_manifest(alloc: Global, path: &Text, text: &Text) -> Result<Result<File, Fault>, Memory>
-    requires { length text.now + 1 < 2 ^ 32 }
-    ensures { IfOk result (λ read. read ≡ file_of path.now text.now) }
-{
-    match parse(alloc, path, text) {
-        Ok(file) => Ok(Ok(file)),
-        Err(Stop::Fault(fault)) => Ok(Err(fault)),
-        Err(Stop::Memory) => Err(Memory),
     }
 }

@@ -10,10 +10,8 @@ use Rattle.site_bundle.proofs.KeptLemmas.{key_among}
 use Rattle.site_bundle.proofs.SiteLemmas.{found_if_given}
 use Rattle.site_bundle.proofs.site.make_site.Goals as goal
 
-pub invariant_of-result : goal.invariant_of-result
-invariant_of-result c = (
-  c.in_ok-main.ensures,
-  subst (λ (files : KeptFiles). IsSome (find text_cmp MAIN_MANIFEST.now files.manifests)) (sym c.in_ok-manifests.ensures)
-      (found_if_given MAIN_MANIFEST.now (manifests_among c.args.files)
-      (key_among is_manifest_path MAIN_MANIFEST.now c.args.files refl c.requires.main)),
-)
+pub site_in_turn-requires : goal.site_in_turn-requires
+site_in_turn-requires c =
+    subst (λ (files : KeptFiles). IsSome (find text_cmp MAIN_MANIFEST.now files.manifests)) (sym c.in_ok-manifests.ensures)
+    (found_if_given MAIN_MANIFEST.now (manifests_among c.args.files)
+    (key_among is_manifest_path MAIN_MANIFEST.now c.args.files refl c.requires.main))

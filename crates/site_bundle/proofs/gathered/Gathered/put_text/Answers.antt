@@ -8,7 +8,7 @@ pub returns-in-Ok : goal.returns-in-Ok
 returns-in-Ok c =
     text_kept _ _ _ _ _ c.args.self.now (c.new.ensures ∙ ap (λ v. v.items) c.in-Ok.ensures.ok ∙ c.into_vec.ensures)
     (subst IsUtf8 (sym c.new.ensures) (IsUtf8-string_bytes c.in-Ok.text)) c.in_ok-path-in-Ok.ensures
-    c.in_ok-read-in-Ok.ensures
+    c.in_ok-keep-in-Ok.ensures
 
 pub returns : goal.returns
 returns c =

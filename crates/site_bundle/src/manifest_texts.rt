@@ -65,11 +65,11 @@ impl ManifestTexts {
 
     /// The manifests by path in byte order, still to be parsed.
     pub fn into_manifests(self, alloc: Global) -> Result<Vec<Manifest>, Memory>
-        ensures all { IfOk result (λ manifests. manifests.items ≡ self) }
-        ensures rising { put_in [] self ≡ self }
+        ensures { IfOk result (λ manifests. put_in [] manifests.items ≡ self) }
     {
         let ManifestTexts { by_path } = self;
-        each_manifest(alloc, by_path)
+        let manifests = each_manifest(alloc, by_path)?;
+        Ok(manifests)
     }
 }
 

@@ -13,7 +13,6 @@ ghost use Rattle.site_bundle.specs.SiteView.{facts_for, file_in, main_text, have
 
 use crate::kept_files::KeptFiles;
 use crate::listed_nodes::ListedNodes;
-use crate::manifest::Manifest;
 use crate::manifest_texts::ManifestTexts;
 use crate::parsing::{parse_all, parse_in_turn};
 use crate::site_files::SiteFiles;
@@ -148,15 +147,10 @@ pub fn site_of_main(alloc: Global, manifest: Text, nodes: ListedNodes) -> Result
         s ≡ record { manifests = (MAIN_MANIFEST.now, manifest) ∷ []; «data» = []; nodes = nodes }) }
 {
     let main = Text::from_str(alloc, MAIN_MANIFEST)?;
-    let mut manifests = SiteFiles::new(alloc);
-    manifests.put(Manifest::new(alloc, main.copy(alloc)?, manifest))?;
-    let data = planned(alloc, SiteData::new(alloc))?;
-    Ok(Site {
-        main,
-        manifests,
-        data,
-        nodes,
-    })
+    let mut manifests = ManifestTexts::new(alloc);
+    manifests.put(main, manifest)?;
+    let site = site_in_turn(alloc, manifests, SiteData::new(alloc), nodes)?;
+    Ok(site)
 }
 
 /// The site of these manifests, the main one among them, and these other files, with nodes that are listed already. The

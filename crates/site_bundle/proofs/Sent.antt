@@ -35,11 +35,11 @@ use Rattle.pp_tree.proofs.statement.Words.TheSendSync as words_laws
 use Rattle.pp_tree.proofs.table.DefinitionName.TheSendSync as definition_name_laws
 use Rattle.pp_tree.specs.contracts.definition.Class as class
 use Rattle.pp_tree.specs.contracts.definition.Define as define
+use Rattle.pp_tree.specs.contracts.definition.Function as function
 use Rattle.pp_tree.specs.contracts.definition.Node as node
 use Rattle.pp_tree.specs.contracts.table.Table as table
 use Rattle.pp_tree.specs.contracts.file.File as file
 use Rattle.pp_tree.specs.contracts.manifest_file.ManifestFile as site_file
-use Rattle.std.proofs.alloc.Global.TheSendSync as global
 use Rattle.site_bundle.specs.contracts.manifest.Manifest as manifest
 use Rattle.site_bundle.specs.contracts.site_files.SiteFiles as site_files
 
@@ -207,6 +207,39 @@ define_fields_sync =
       ),
     )
 
+-- its name, parameters, type, block and line
+pub function_fields_send : IsSend (declared.field function.the_type).row
+function_fields_send =
+    struct_send (declared.shape function.the_type) (
+      name_laws.the_field_send,
+      (
+        search sends depth 40 fits 40000,
+        (
+          search sends depth 40 fits 40000,
+          (
+            search sends depth 40 fits 40000,
+            (search sendable depth 20, tt),
+          ),
+        ),
+      ),
+    )
+
+pub function_fields_sync : IsSync (declared.field function.the_type).row
+function_fields_sync =
+    struct_sync (declared.shape function.the_type) (
+      name_laws.the_field_sync,
+      (
+        search syncs depth 40 fits 40000,
+        (
+          search syncs depth 40 fits 40000,
+          (
+            search syncs depth 40 fits 40000,
+            (search sendable depth 20, tt),
+          ),
+        ),
+      ),
+    )
+
 pub class_fields_send : IsSend (declared.field class.the_type).row
 class_fields_send =
     struct_send (declared.shape class.the_type) (
@@ -251,6 +284,7 @@ table_send =
       text.the_send,
       class_fields_send,
       define_fields_send,
+      function_fields_send,
       node_fields_send,
     )
     depth 40 fits 40000
@@ -267,6 +301,7 @@ table_sync =
       text.the_sync,
       class_fields_sync,
       define_fields_sync,
+      function_fields_sync,
       node_fields_sync,
     )
     depth 40 fits 40000
@@ -315,5 +350,5 @@ files_sync = search (sendable, crosses, map.the_sync, text.the_sync, site_file_s
 
 pub manifest_send : IsSend manifest.the_row
 manifest_send =
-    search (sendable, crosses, global.the_send, text.the_send, option.the_field_send, result.the_field_send, file_send, fault.the_send)
+    search (sendable, crosses, text.the_send, option.the_field_send, result.the_field_send, file_send, fault.the_send)
     depth 40 fits 40000

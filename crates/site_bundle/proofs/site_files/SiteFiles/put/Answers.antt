@@ -24,4 +24,4 @@ returns c =
     let file = c.in_ok-path.file in
     ap filed c.in_ok-insert.ensures.entries ∙ shown-insert text_of c.self.inside.by_path.entries path file
     ∙ ap (put text_cmp path file.text) c.self.view_is
-    ∙ ap₂ (λ p t. put text_cmp p t c.args.self) c.in_ok-path.ensures.path c.in_ok-path.ensures.text
+    ∙ ap₂ (λ p t. put text_cmp p t c.args.self.now) c.in_ok-path.ensures.path c.in_ok-path.ensures.text

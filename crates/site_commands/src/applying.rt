@@ -49,7 +49,7 @@ where
         (world (S.stream source.new) (K.stream out.new) (E.stream err.new) n (T.folder tree.new)
         (M.Machine.state machine.new)) }
 {
-    match take_bundle(alloc, dir, source, tree) {
+    match take_bundle(rt, alloc, dir, source, tree) {
         Ok(bundle) => apply(rt, alloc, node, bundle, workers, out, err, machine),
         Err(stop) => give_up(&stop, BUNDLE, err),
     }

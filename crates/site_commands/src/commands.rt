@@ -50,7 +50,8 @@ pub fn run_manifest<S: Source, K: Sink, E: Sink>(
     }
 }
 
-pub fn run_check<S: Source, K: Sink, E: Sink, T: Tree>(
+pub fn run_check<S: Source, K: Sink, E: Sink, T: Tree, R: Threads>(
+    rt: &R,
     alloc: Global,
     dir: Option<&str>,
     source: &mut S,
@@ -62,13 +63,14 @@ pub fn run_check<S: Source, K: Sink, E: Sink, T: Tree>(
         (world (S.stream source.old) (K.stream out.old) (E.stream err.old) n (T.folder tree.old) m)
         (world (S.stream source.new) (K.stream out.new) (E.stream err.new) n (T.folder tree.new) m) }
 {
-    match take_bundle(alloc, dir, source, tree) {
+    match take_bundle(rt, alloc, dir, source, tree) {
         Ok(bundle) => write_made(check_output(alloc, &bundle.site), out, err),
         Err(stop) => give_up(&stop, BUNDLE, err),
     }
 }
 
-pub fn run_compile<S: Source, K: Sink, E: Sink, T: Tree>(
+pub fn run_compile<S: Source, K: Sink, E: Sink, T: Tree, R: Threads>(
+    rt: &R,
     alloc: Global,
     node: &str,
     dir: Option<&str>,
@@ -81,13 +83,14 @@ pub fn run_compile<S: Source, K: Sink, E: Sink, T: Tree>(
         (world (S.stream source.old) (K.stream out.old) (E.stream err.old) n (T.folder tree.old) m)
         (world (S.stream source.new) (K.stream out.new) (E.stream err.new) n (T.folder tree.new) m) }
 {
-    match take_bundle(alloc, dir, source, tree) {
+    match take_bundle(rt, alloc, dir, source, tree) {
         Ok(bundle) => write_made(compile_output(alloc, &bundle.site, node), out, err),
         Err(stop) => give_up(&stop, BUNDLE, err),
     }
 }
 
-pub fn run_sequence<S: Source, K: Sink, E: Sink>(
+pub fn run_sequence<S: Source, K: Sink, E: Sink, R: Threads>(
+    rt: &R,
     alloc: Global,
     source: &mut S,
     out: &mut K,
@@ -97,13 +100,14 @@ pub fn run_sequence<S: Source, K: Sink, E: Sink>(
         (world (S.stream source.old) (K.stream out.old) (E.stream err.old) n f m)
         (world (S.stream source.new) (K.stream out.new) (E.stream err.new) n f m) }
 {
-    match take_source(alloc, source) {
+    match take_source(rt, alloc, source) {
         Ok(bundle) => write_made(sequence_output(alloc, bundle), out, err),
         Err(stop) => give_up(&stop, BUNDLE, err),
     }
 }
 
-pub fn run_lookup<S: Source, K: Sink, E: Sink, T: Tree>(
+pub fn run_lookup<S: Source, K: Sink, E: Sink, T: Tree, R: Threads>(
+    rt: &R,
     alloc: Global,
     node: &str,
     key: &str,
@@ -119,7 +123,7 @@ pub fn run_lookup<S: Source, K: Sink, E: Sink, T: Tree>(
         (world (S.stream source.old) (K.stream out.old) (E.stream err.old) n (T.folder tree.old) m)
         (world (S.stream source.new) (K.stream out.new) (E.stream err.new) n (T.folder tree.new) m) }
 {
-    match take_bundle(alloc, dir, source, tree) {
+    match take_bundle(rt, alloc, dir, source, tree) {
         Ok(bundle) => write_made(
             lookup_output(alloc, &bundle.site, node, key, merge),
             out,
@@ -152,7 +156,7 @@ pub fn run_batch<S: Source, K: Sink, E: Sink, G: Gate + Sync, R: Threads + Wait 
         (world (S.stream source.old) (K.stream out.old) (E.stream err.old) n f m)
         (world (S.stream source.new) (K.stream out.new) (E.stream err.new) n f m) }
 {
-    match take_source(alloc, source) {
+    match take_source(rt, alloc, source) {
         Ok(bundle) => write_made(batch_output(rt, alloc, bundle, workers, gate), out, err),
         Err(stop) => give_up(&stop, BUNDLE, err),
     }
@@ -248,7 +252,7 @@ pub fn run_settle<S: Source, K: Sink, E: Sink, G: Gate + Sync, R: Threads + Wait
         (world (S.stream source.old) (K.stream out.old) (E.stream err.old) n f m)
         (world (S.stream source.new) (K.stream out.new) (E.stream err.new) n f m) }
 {
-    match take_source(alloc, source) {
+    match take_source(rt, alloc, source) {
         Ok(bundle) => write_made(
             settle_output(rt, alloc, bundle, rounds, workers, gate),
             out,

@@ -9,6 +9,7 @@ use pp_values::Text;
 use site_bundle::{Bundle, BundleStop, MOST_BUNDLE_BYTES, MOST_FILE_BYTES, read_bundle, read_site};
 use site_io::{Bytes, ReadStop, Source, Tree, read_all};
 use std::alloc::Global;
+use std::thread::Threads;
 
 /// Why a command has no input.
 #[derive(Drop)]
@@ -41,7 +42,8 @@ pub fn take_manifest<S: Source>(alloc: Global, source: &mut S) -> Result<Bytes, 
 }
 
 /// Takes the bundle from the source, or what the folder at a path has as one.
-pub fn take_bundle<S: Source, T: Tree>(
+pub fn take_bundle<S: Source, T: Tree, R: Threads>(
+    rt: &R,
     alloc: Global,
     dir: Option<&str>,
     source: &mut S,
@@ -53,38 +55,52 @@ pub fn take_bundle<S: Source, T: Tree>(
         (S.stream source.old) (S.stream source.new) (T.folder tree.old) (T.folder tree.new)) }
 {
     match dir {
-        Some(dir) => take_folder(alloc, dir, tree),
-        None => take_source(alloc, source),
+        Some(dir) => take_folder(rt, alloc, dir, tree),
+        None => take_source(rt, alloc, source),
     }
 }
 
 /// Takes what the folder at a path has as a bundle, of which nothing is asked.
-pub fn take_folder<T: Tree>(alloc: Global, dir: &str, tree: &mut T) -> Result<Bundle, InputStop>
+pub fn take_folder<T: Tree, R: Threads>(
+    rt: &R,
+    alloc: Global,
+    dir: &str,
+    tree: &mut T,
+) -> Result<Bundle, InputStop>
     ensures all { IfOk result (λ bundle. (s : _) → HasInput (read.folder dir.now) (read.site bundle) s s
         (T.folder tree.old) (T.folder tree.new)) }
     ensures stop { IfErr result (λ stop. (s : _) → HasStoppedBy stop (read.folder dir.now) s s
         (T.folder tree.old) (T.folder tree.new)) }
 {
     match Text::from_str(alloc, dir) {
-        Ok(dir) => read_folder(alloc, &dir, tree),
+        Ok(dir) => read_folder(rt, alloc, &dir, tree),
         Err(_) => Err(InputStop::Refused(BundleStop::Memory)),
     }
 }
 
-fn read_folder<T: Tree>(alloc: Global, dir: &Text, tree: &mut T) -> Result<Bundle, InputStop>
+fn read_folder<T: Tree, R: Threads>(
+    rt: &R,
+    alloc: Global,
+    dir: &Text,
+    tree: &mut T,
+) -> Result<Bundle, InputStop>
     ensures all { IfOk result (λ bundle. (s : _) → HasInput (read.folder dir.now) (read.site bundle) s s
         (T.folder tree.old) (T.folder tree.new)) }
     ensures stop { IfErr result (λ stop. (s : _) → HasStoppedBy stop (read.folder dir.now) s s
         (T.folder tree.old) (T.folder tree.new)) }
 {
-    match read_site(alloc, tree, dir) {
+    match read_site(rt, alloc, tree, dir) {
         Ok(bundle) => Ok(bundle),
         Err(stop) => Err(InputStop::Refused(stop)),
     }
 }
 
 /// Takes the bundle from the source.
-pub fn take_source<S: Source>(alloc: Global, source: &mut S) -> Result<Bundle, InputStop>
+pub fn take_source<S: Source, R: Threads>(
+    rt: &R,
+    alloc: Global,
+    source: &mut S,
+) -> Result<Bundle, InputStop>
     ensures all { IfOk result (λ bundle. (f : _) → HasInput read.bundle (read.site bundle)
         (S.stream source.old) (S.stream source.new) f f) }
     ensures stop { IfErr result (λ stop. (f : _) → HasStoppedBy stop read.bundle
@@ -93,17 +109,17 @@ pub fn take_source<S: Source>(alloc: Global, source: &mut S) -> Result<Bundle, I
     ensures few { IfOk result (λ bundle. length bundle.requests ≤ MOST_REQUESTS) }
 {
     match read_all(alloc, source, MOST_BUNDLE_BYTES) {
-        Ok(bytes) => parse_bundle(alloc, &bytes),
+        Ok(bytes) => parse_bundle(rt, alloc, &bytes),
         Err(stop) => Err(InputStop::Unread(stop)),
     }
 }
 
-fn parse_bundle(alloc: Global, bytes: &Bytes) -> Result<Bundle, InputStop>
+fn parse_bundle<R: Threads>(rt: &R, alloc: Global, bytes: &Bytes) -> Result<Bundle, InputStop>
     ensures bundle { ReadsBundle result bytes.now }
     ensures facts { IfOk result (λ bundle. IsTrue (give_facts bundle.requests)) }
     ensures few { IfOk result (λ bundle. length bundle.requests ≤ MOST_REQUESTS) }
 {
-    match read_bundle(alloc, bytes.as_slice()) {
+    match read_bundle(rt, alloc, bytes.as_slice()) {
         Ok(bundle) => Ok(bundle),
         Err(stop) => Err(InputStop::Refused(stop)),
     }

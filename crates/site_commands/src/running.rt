@@ -41,15 +41,15 @@ where
 {
     match command {
         Command::Manifest { node } => run_manifest(alloc, node, source, out, err),
-        Command::Check { dir } => run_check(alloc, dir, source, out, err, tree),
-        Command::Compile { node, dir } => run_compile(alloc, node, dir, source, out, err, tree),
-        Command::Sequence => run_sequence(alloc, source, out, err),
+        Command::Check { dir } => run_check(rt, alloc, dir, source, out, err, tree),
+        Command::Compile { node, dir } => run_compile(rt, alloc, node, dir, source, out, err, tree),
+        Command::Sequence => run_sequence(rt, alloc, source, out, err),
         Command::Lookup {
             node,
             key,
             merge,
             dir,
-        } => run_lookup(alloc, node, key, merge, dir, source, out, err, tree),
+        } => run_lookup(rt, alloc, node, key, merge, dir, source, out, err, tree),
         Command::Apply { node, dir, workers } => run_apply(
             rt, alloc, node, dir, workers, source, out, err, tree, machine,
         ),

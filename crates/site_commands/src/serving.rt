@@ -46,7 +46,7 @@ where
         (world s (K.stream out.old) (E.stream err.old) (N.net net.old) (T.folder tree.old) m)
         (world s (K.stream out.new) (E.stream err.new) (N.net net.new) (T.folder tree.new) m) }
 {
-    match take_folder(alloc, dir, tree) {
+    match take_folder(rt, alloc, dir, tree) {
         Ok(bundle) => serve_bundle(rt, alloc, port, count, bundle, out, err, net, gate),
         Err(stop) => give_up(&stop, BUNDLE, err),
     }

@@ -4,14 +4,24 @@ use Rattle.std.specs.Prelude.{if◌then◌else◌}
 use Rattle.std.specs.List.{list_any}
 use Rattle.site_core.specs.declared.history.TheConstants.{MOST_ENTRIES}
 use Rattle.site_core.specs.Asked.{all_asks}
-use Rattle.site_core.specs.Events.{opens}
+use Rattle.history_audit.specs.Audits.{audited}
+use Rattle.history_audit.specs.declared.verdict.Verdict.{Verdict}
+use Rattle.history_audit.specs.declared.verdict.Verdict.TheVariants as v
+use Rattle.res_core.specs.Asked as requests
+use Rattle.site_bundle.specs.SiteView.{SiteView}
+use Rattle.site_core.specs.Events.{Event, opens}
 use Rattle.site_bundle.specs.declared.bundle.Bundle.{Bundle}
 use Rattle.site_sequence.specs.SequenceLaws.{is_memory}
 use Rattle.site_sequence.proofs.Turns.{meant}
 use Rattle.compile_core.specs.Puppet.{puppet, listed}
 use Rattle.command_outputs.specs.Demo.{demo_site, demo_requests, summary_text}
 use Rattle.command_outputs.specs.Outputs.{HasRun, HasShared, HasDemonstrated, is_refusal, run_text}
-use Rattle.command_outputs.specs.Statuses.{output_status, outcome_status, sequence_status, IsBatchStatus, summary_status, demo_status}
+use Rattle.command_outputs.specs.Resuming.{HasContinued, HasResumed, HasResumedBy}
+use Rattle.command_outputs.specs.Settling.{HasSettled, end_output, settled_text}
+use Rattle.history_tools.specs.declared.settle_end.SettleEnd.{SettleEnd}
+use Rattle.history_tools.specs.declared.settle_end.SettleEnd.TheVariants as e
+use Rattle.pp_values.specs.declared.fault.Fault.{Fault}
+use Rattle.command_outputs.specs.Statuses.{output_status, outcome_status, sequence_status, IsBatchStatus, IsResumeStatus, IsResumeStatusBy, IsSettleStatus, summary_status, demo_status}
 use Rattle.command_outputs.specs.declared.output.Output.{Output}
 use Rattle.command_outputs.specs.declared.output.Output.TheVariants as a
 
@@ -51,6 +61,43 @@ pub status_of-shared : (workers : ℕ) (output : Output) (bundle : Bundle) → H
     IsBatchStatus (output_status output) ⊎ (output_status output ≡ 16)
 unfolding IsToldStatus
 status_of-shared workers output bundle run = told_status workers output bundle run
+
+-- and what came of a history that was gone on with
+gone_on : (workers : ℕ) (output : Output) (h : List (Event SiteView)) (asked : List requests.Asked) →
+    HasContinued workers output h asked → IsToldStatus output
+gone_on workers output h asked run =
+    subst IsToldStatus (sym run.is) (by_flags (list_any is_memory run.replies) (list_any is_refusal run.replies)
+    (run_text asked run.replies run.history))
+
+resumed_by : (verdict : Verdict) (workers : ℕ) (output : Output) (h : List (Event SiteView))
+    (asked : List requests.Asked) →
+    HasResumedBy verdict workers output h asked →
+    IsResumeStatusBy verdict (output_status output) h ⊎ (output_status output ≡ 16)
+unfolding IsToldStatus
+resumed_by (v.Legal count) workers output h asked (inl great) =
+    inl (inl (great.0, (great.1.0, ap output_status great.1.1)))
+resumed_by (v.Legal count) workers output h asked (inr did) =
+    elim (gone_on workers output h asked did.1) [
+      | inl is ↦ inl (inr (did.0, is))
+      | inr short ↦ inr short
+    ]
+resumed_by (v.Broken entry part) workers output h asked is = inl (ap output_status is)
+
+pub status_of-resumed : (workers : ℕ) (output : Output) (h : List (Event SiteView)) (asked : List requests.Asked) →
+    HasResumed workers output h asked → IsResumeStatus (output_status output) h ⊎ (output_status output ≡ 16)
+status_of-resumed workers output h asked run = resumed_by (audited puppet h) workers output h asked run
+
+-- and what came of a search for a fixed point
+by_end : (text : List ℕ) (end : SettleEnd Fault) → IsSettleStatus (output_status (end_output text end))
+by_end text e.Settled = inl refl
+by_end text (e.NotSettled node before after) = inr (inr refl)
+by_end text (e.Refused node k fault) = inr (inl refl)
+by_end text (e.Full length) = inr (inl refl)
+
+pub status_of-settled : (rounds workers : ℕ) (output : Output) (bundle : Bundle) →
+    HasSettled rounds workers output bundle → IsSettleStatus (output_status output)
+status_of-settled rounds workers output bundle run =
+    subst (λ o. IsSettleStatus (output_status o)) (sym run.is) (by_end (settled_text run.history run.run) run.end)
 
 -- and what came of a demo
 pub status_of-demo : (nodes : ℕ) (output : Output) → HasDemonstrated nodes output →

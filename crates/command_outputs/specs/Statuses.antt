@@ -1,10 +1,14 @@
 -- The status of what an input gives, where memory is had and all of it is written.
-use Rattle.std.specs.Prelude.{◌≡◌, ◌⊎◌, ℕ, List, [], ◌∷◌, Option, None, Some}
+use Rattle.std.specs.Prelude.{◌≡◌, ◌⊎◌, ℕ, ◌+◌, ◌≤◌, List, [], ◌∷◌, Option, None, Some}
+use Rattle.history_audit.specs.Audits.{audited}
+use Rattle.history_audit.specs.declared.verdict.Verdict.{Verdict}
+use Rattle.history_audit.specs.declared.verdict.Verdict.TheVariants as v
 use Rattle.hiera_merge.specs.declared.merge.Merge.{Merge}
 use Rattle.pp_values.specs.declared.fault.Fault.{Fault}
 use Rattle.res_core.specs.declared.catalog.Catalog.{Catalog}
 use Rattle.res_core.specs.Asked as requests
-use Rattle.site_core.specs.declared.history.TheConstants.{MOST_ENTRIES}
+use Rattle.site_core.specs.Resuming.{base_of}
+use Rattle.site_core.specs.declared.history.TheConstants.{GREATEST_AUTHOR, MOST_ENTRIES}
 use Rattle.site_core.specs.Asked.{all_asks}
 use Rattle.site_core.specs.Events.{Event, opens}
 use Rattle.site_bundle.specs.SiteView.{SiteView}
@@ -15,6 +19,7 @@ use Rattle.command_outputs.specs.Demo.{demo_site, demo_requests, summary_text}
 use Rattle.command_outputs.specs.Journals.{audited_output, migrated_output}
 use Rattle.command_outputs.specs.Outputs.{manifest_output, checked_output, compiled_output, looked_up_output, output_of}
 use Rattle.command_outputs.specs.Outputs.{run_text}
+use Rattle.command_outputs.specs.Resuming.{IsTooGreat}
 use Rattle.command_outputs.specs.declared.output.Output.{Output}
 use Rattle.command_outputs.specs.declared.output.Output.TheVariants as a
 
@@ -23,6 +28,8 @@ abbrev pub output_status : Output → ℕ
 output_status (a.Done text) = 0
 output_status (a.Compiled log text) = 0
 output_status (a.Refused text) = 1
+output_status (a.Faulty text line) = 1
+output_status (a.Unsettled text line) = 17
 output_status (a.Short text) = 16
 output_status (a.Fault text) = 1
 output_status (a.BadInput text) = 11
@@ -73,3 +80,19 @@ audit_status history = output_status (audited_output history)
 -- `migrate`: 0
 abbrev pub migrate_status : List (Event SiteView) → ℕ
 migrate_status history = output_status (migrated_output history)
+
+-- `resume`: 1 where the history is not legal or its greatest author too great; else replies may tell of a refusal or
+-- not
+abbrev pub IsResumeStatusBy : Verdict → ℕ → List (Event SiteView) → Type 0
+IsResumeStatusBy (v.Legal count) status h =
+    ((author : ℕ) × (IsTooGreat author h × (status ≡ 1)))
+    ⊎ ((base_of h ≤ GREATEST_AUTHOR + 1) × IsBatchStatus status)
+IsResumeStatusBy (v.Broken entry part) status h = status ≡ 1
+
+abbrev pub IsResumeStatus : ℕ → List (Event SiteView) → Type 0
+IsResumeStatus status h = IsResumeStatusBy (audited puppet h) status h
+
+-- `settle`: 0 where the site settled, 17 where the last round still changed a set, and 1 where a compile was refused or
+-- the history was full. By how the workers' turns fall each of them may come.
+abbrev pub IsSettleStatus : ℕ → Type 0
+IsSettleStatus status = (status ≡ 0) ⊎ ((status ≡ 1) ⊎ (status ≡ 17))

@@ -16,7 +16,9 @@ mod node_catalog;
 pub mod node_stop;
 pub mod output;
 mod replies;
+mod resume;
 mod sequence;
+mod settle;
 
 pub use audit::audit_output;
 pub use batch::batch_output;
@@ -30,4 +32,6 @@ pub use migrate::migrate_output;
 pub use node_catalog::compile_node;
 pub use node_stop::NodeStop;
 pub use output::Output;
+pub use resume::resume_output;
 pub use sequence::sequence_output;
+pub use settle::settle_output;

@@ -12,6 +12,12 @@ pub enum Output {
     /// The output, which tells of a refusal.
     Refused(Text),
 
+    /// The output, and a line for the error stream, which tells of a refusal.
+    Faulty { text: Text, line: Text },
+
+    /// The output, and a line for the error stream, which tells what did not settle.
+    Unsettled { text: Text, line: Text },
+
     /// The output, which tells of a want of memory.
     Short(Text),
 

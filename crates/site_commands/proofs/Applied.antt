@@ -41,7 +41,8 @@ pub told_whole : (ending : Ending) (report : Report) (document : Option MachineD
     TellsReport ending report document out out' err err
 told_whole ending report document out out' err is did =
     subst (λ x. TellsReport x report document out out' err err) (sym is)
-    (told_by (nat_lt 0 (count_by has_changed report.lines)) (nat_lt 0 (count_by has_failed report.lines)) report document
+    (told_by (nat_lt 0 (count_by has_changed report.lines)) (nat_lt 0 (count_by has_failed report.lines)) report
+    document
     out out' err refl did)
 
 refused_by : (changed failed : Bool) → e.Refused ≡ ending_by changed failed → ⊥
@@ -50,18 +51,22 @@ refused_by true false is = cc
 refused_by false true is = cc
 refused_by true true is = cc
 
-pub told_loaded : (ending : Ending) (catalog : Catalog) (loaded : Told) (out out' err err' : Stream) (m : Told) →
-    HasTold ending catalog loaded out out' err err' m → HasRunLoaded ending catalog loaded out out' err err' m
-told_loaded e.Memory catalog loaded out out' err err' m did = inr did
-told_loaded e.Refused catalog loaded out out' err err' m did =
-    absurd (refused_by (nat_lt 0 (count_by has_changed did.report.lines)) (nat_lt 0 (count_by has_failed did.report.lines))
+pub told_loaded : (ending : Ending) (by : Option ℕ) (catalog : Catalog) (loaded : Told) (out out' err err' : Stream)
+    (m : Told) →
+    HasTold ending by catalog loaded out out' err err' m → HasRunLoaded ending by catalog loaded out out' err err' m
+told_loaded e.Memory by catalog loaded out out' err err' m did = inr did
+told_loaded e.Refused by catalog loaded out out' err err' m did =
+    absurd (refused_by (nat_lt 0 (count_by has_changed did.report.lines))
+    (nat_lt 0 (count_by has_failed did.report.lines))
     did.told.0)
-told_loaded ending catalog loaded out out' err err' m did = did
+told_loaded ending by catalog loaded out out' err err' m did = did
 
-pub logged_applies : (ending : Ending) (catalog : Catalog) (document : MachineDoc) (out out' err err' : Stream) (m m' : Told) →
-    AppliesLogged ending catalog document out out' err err' m m' → AppliesCatalog ending catalog document out out' err err' m m'
-logged_applies e.WriteFault catalog document out out' err err' m m' did = inr did
-logged_applies ending catalog document out out' err err' m m' did = did
+pub logged_applies : (ending : Ending) (by : Option ℕ) (catalog : Catalog) (document : MachineDoc)
+    (out out' err err' : Stream) (m m' : Told) →
+    AppliesLogged ending by catalog document out out' err err' m m' → AppliesCatalog ending by catalog document out
+    out' err err' m m'
+logged_applies e.WriteFault by catalog document out out' err err' m m' did = inr did
+logged_applies ending by catalog document out out' err err' m m' did = did
 
 pub or_lacks : (Done : Ending → Type 0) (ending : Ending) (out out' err err' : Stream) (m m' : Told) → Done ending →
     OrLacks Done ending out out' err err' m m'
@@ -77,38 +82,42 @@ pub uncompiled_as : (compiled : Result Catalog NodeStop) (meant : Result Catalog
 uncompiled_as compiled meant stop is did = subst (λ x. CompilesNode x meant) is did
 
 -- the node's catalog is this one
-pub applies_as : (ending : Ending) (node : List ℕ) (meant : Result Catalog NodeRefusal) (catalog : Catalog)
+pub applies_as : (ending : Ending) (by : Option ℕ) (node : List ℕ) (meant : Result Catalog NodeRefusal)
+    (catalog : Catalog)
     (document : MachineDoc) (out out' err err' : Stream) (m m' : Told) → meant ≡ Ok catalog →
-    OrLacks (λ x. AppliesCatalog x catalog document out out' err err' m m') ending out out' err err' m m' →
-    OrLacks (AppliesMeant node meant document out out' err err' m m') ending out out' err err' m m'
-applies_as ending node meant catalog document out out' err err' m m' is did =
-    subst (λ x. OrLacks (AppliesMeant node x document out out' err err' m m') ending out out' err err' m m') (sym is) did
+    OrLacks (λ x. AppliesCatalog x by catalog document out out' err err' m m') ending out out' err err' m m' →
+    OrLacks (AppliesMeant by node meant document out out' err err' m m') ending out out' err err' m m'
+applies_as ending by node meant catalog document out out' err err' m m' is did =
+    subst (λ x. OrLacks (AppliesMeant by node x document out out' err err' m m') ending out out' err err' m m')
+    (sym is) did
 
-module _ (ending : Ending) (node : List ℕ) (out out' err err' : Stream) (meant : Result Catalog NodeRefusal)
+module _ (ending : Ending) (by : Option ℕ) (node : List ℕ) (out out' err err' : Stream)
+    (meant : Result Catalog NodeRefusal)
     (document : MachineDoc) (m : Told) where
   refused_as : (refusal : NodeRefusal) (output : Output) → meant ≡ Err refusal →
       output ≡ o.Fault (node_refusal_line node refusal) → Delivers ending output out out' err err' →
-      OrLacks (AppliesMeant node meant document out out' err err' m m) ending out out' err err' m m
+      OrLacks (AppliesMeant by node meant document out out' err err' m m) ending out out' err err' m m
   refused_as refusal output is same did =
       let wrote : Delivers ending (o.Fault (node_refusal_line node refusal)) out out' err err' =
       subst (λ x. Delivers ending x out out' err err') same did in
-      subst (λ x. OrLacks (AppliesMeant node x document out out' err err' m m) ending out out' err err' m m) (sym is)
-      (or_lacks (AppliesMeant node (Err refusal) document out out' err err' m m) ending out out' err err' m m
+      subst (λ x. OrLacks (AppliesMeant by node x document out out' err err' m m) ending out out' err err' m m) (sym is)
+      (or_lacks (AppliesMeant by node (Err refusal) document out out' err err' m m) ending out out' err err' m m
       (wrote.0, (wrote.1, refl)))
 
   -- why the node has no catalog was written
-  pub refusal_told : (stop : NodeStop) (output : Output) → CompilesNode (Err stop) meant → TellsNodeStop output node stop →
+  pub refusal_told : (stop : NodeStop) (output : Output) → CompilesNode (Err stop) meant →
+      TellsNodeStop output node stop →
       Delivers ending output out out' err err' →
-      OrLacks (AppliesMeant node meant document out out' err err' m m) ending out out' err err' m m
+      OrLacks (AppliesMeant by node meant document out out' err err' m m) ending out out' err err' m m
   refusal_told n.Unknown output is tells did = refused_as unknown output is tells did
   refusal_told (n.Fault fault) output is tells did = refused_as (faulty fault) output is tells did
   refusal_told n.Memory output is tells did = absurd tells
 
   -- memory was wanting
   pub lacking : ending ≡ e.Memory → Says (line (codes "memory")) err err' → out' ≡ out →
-      OrLacks (AppliesMeant node meant document out out' err err' m m) ending out out' err err' m m
+      OrLacks (AppliesMeant by node meant document out out' err err' m m) ending out out' err err' m m
   lacking is said same =
-      subst (λ x. OrLacks (AppliesMeant node meant document out out' err err' m m) x out out' err err' m m) (sym is)
+      subst (λ x. OrLacks (AppliesMeant by node meant document out out' err err' m m) x out out' err err' m m) (sym is)
       (inl ((said, same), refl))
 
 -- ---- a command
@@ -125,39 +134,44 @@ told_of_work ending report is =
     subst IsOfWork (sym is)
     (report_of_work (nat_lt 0 (count_by has_changed report.lines)) (nat_lt 0 (count_by has_failed report.lines)))
 
-catalog_of_work : (ending : Ending) (catalog : Catalog) (document : MachineDoc) (out out' err err' : Stream) (m m' : Told) →
-    AppliesCatalog ending catalog document out out' err err' m m' → IsOfWork ending
-catalog_of_work e.BadWords catalog document out out' err err' m m' did =
+catalog_of_work : (ending : Ending) (by : Option ℕ) (catalog : Catalog) (document : MachineDoc)
+    (out out' err err' : Stream) (m m' : Told) →
+    AppliesCatalog ending by catalog document out out' err err' m m' → IsOfWork ending
+catalog_of_work e.BadWords by catalog document out out' err err' m m' did =
     told_of_work e.BadWords did.runs.ran.report did.runs.ran.told.0
-catalog_of_work e.ReadFault catalog document out out' err err' m m' did =
+catalog_of_work e.ReadFault by catalog document out out' err err' m m' did =
     told_of_work e.ReadFault did.runs.ran.report did.runs.ran.told.0
-catalog_of_work e.TreeFault catalog document out out' err err' m m' did =
+catalog_of_work e.TreeFault by catalog document out out' err err' m m' did =
     told_of_work e.TreeFault did.runs.ran.report did.runs.ran.told.0
-catalog_of_work ending catalog document out out' err err' m m' did = tt
+catalog_of_work ending by catalog document out out' err err' m m' did = tt
 
-meant_of_work : (ending : Ending) (node : List ℕ) (meant : Result Catalog NodeRefusal) (document : MachineDoc)
-    (out out' err err' : Stream) (m m' : Told) → AppliesMeant node meant document out out' err err' m m' ending →
+meant_of_work : (ending : Ending) (by : Option ℕ) (node : List ℕ) (meant : Result Catalog NodeRefusal)
+    (document : MachineDoc)
+    (out out' err err' : Stream) (m m' : Told) → AppliesMeant by node meant document out out' err err' m m' ending →
     IsOfWork ending
-meant_of_work ending node (Ok catalog) document out out' err err' m m' did =
-    catalog_of_work ending catalog document out out' err err' m m' did
-meant_of_work ending node (Err refusal) document out out' err err' m m' did =
+meant_of_work ending by node (Ok catalog) document out out' err err' m m' did =
+    catalog_of_work ending by catalog document out out' err err' m m' did
+meant_of_work ending by node (Err refusal) document out out' err err' m m' did =
     elim (ending-writes ending e.Refused _ err err' did.0) [
       | inl is ↦ subst IsOfWork (sym is) tt
       | inr is ↦ subst IsOfWork (sym is) tt
     ]
 
-applied_of_work : (ending : Ending) (node : List ℕ) (said : Bundle) (out out' err err' : Stream) (m m' : Told) →
-    Applies ending node said out out' err err' m m' → IsOfWork ending
-applied_of_work e.Memory node said out out' err err' m m' did = tt
-applied_of_work ending node said out out' err err' m m' did =
-    meant_of_work ending node (node_meaning said.site node) said.machine out out' err err' m m' did
+applied_of_work : (ending : Ending) (by : Option ℕ) (node : List ℕ) (said : Bundle) (out out' err err' : Stream)
+    (m m' : Told) →
+    Applies ending by node said out out' err err' m m' → IsOfWork ending
+applied_of_work e.Memory by node said out out' err err' m m' did = tt
+applied_of_work ending by node said out out' err err' m m' did =
+    meant_of_work ending by node (node_meaning said.site node) said.machine out out' err err' m m' did
 
 -- where the bundle was had, and the node of it applied so, the run ended so
-pub ends_applied : (ending : Ending) (node : List ℕ) (dir : Option (List ℕ)) (said : Bundle) (before after : World) →
-    HasInput (site_from dir) (site said) before.source after.source before.folder after.folder → after.net ≡ before.net →
-    Applies ending node said before.out after.out before.err after.err before.machine after.machine →
-    Ends ending (a.apply node dir) before after
-ends_applied ending node dir said before after read net did =
-    ends_worked ending (a.apply node dir) before after
-    (applied_of_work ending node said before.out after.out before.err after.err before.machine after.machine did)
+pub ends_applied : (ending : Ending) (node : List ℕ) (dir : Option (List ℕ)) (by : Option ℕ) (said : Bundle)
+    (before after : World) →
+    HasInput (site_from dir) (site said) before.source after.source before.folder after.folder →
+    after.net ≡ before.net →
+    Applies ending by node said before.out after.out before.err after.err before.machine after.machine →
+    Ends ending (a.apply node dir by) before after
+ends_applied ending node dir by said before after read net did =
+    ends_worked ending (a.apply node dir by) before after
+    (applied_of_work ending by node said before.out after.out before.err after.err before.machine after.machine did)
     (record { input = site said; read = read; work = (did, net) })

@@ -10,7 +10,7 @@ ending_of n =
     if nat_eq n 0 then e.Done else if nat_eq n 1 then e.Refused else if nat_eq n 2 then e.Changed else if nat_eq n 4
     then e.Failed else if nat_eq n 6 then e.ChangedAndFailed else if nat_eq n 10 then e.BadWords else if nat_eq n 11
     then e.BadInput else if nat_eq n 12 then e.ReadFault else if nat_eq n 13 then e.WriteFault else if nat_eq n 14
-    then e.NetFault else if nat_eq n 15 then e.TreeFault else e.Memory
+    then e.NetFault else if nat_eq n 15 then e.TreeFault else if nat_eq n 16 then e.Memory else e.NotSettled
 
 ending_of-status : (ending : Ending) → ending_of (status_of ending) ≡ ending
 ending_of-status e.Done = refl
@@ -25,6 +25,7 @@ ending_of-status e.WriteFault = refl
 ending_of-status e.NetFault = refl
 ending_of-status e.TreeFault = refl
 ending_of-status e.Memory = refl
+ending_of-status e.NotSettled = refl
 
 -- no two endings have one status
 pub ending-is : (status : ℕ) (ending : Ending) (n : ℕ) → status ≡ status_of ending → status ≡ n → ending ≡ ending_of n

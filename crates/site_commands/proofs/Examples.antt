@@ -1,7 +1,7 @@
 -- What is read, how a run ends by what stands in the way, and what is told of connections, on examples.
 use Rattle.std.proofs.Common.{◌≡◌, true, false, [], ◌∷◌, refl}
 use Rattle.std.specs.Fmt.{digits}
-use Rattle.std.specs.Prelude.{codes, Some, None}
+use Rattle.std.specs.Prelude.{codes, Some, None, Err}
 use Rattle.http_wire.specs.declared.request.H.TheVariants as h
 use Rattle.site_bundle.specs.declared.bundle_stop.BundleStop.TheVariants as b
 use Rattle.site_io.specs.declared.transfer.ReadStop.TheVariants as r
@@ -9,7 +9,9 @@ use Rattle.site_serve.specs.declared.conn_end.ConnEnd.TheVariants as c
 use Rattle.site_service.specs.declared.service_stop.ServiceStop.TheVariants as s
 use Rattle.site_words.specs.Asked as a
 use Rattle.site_commands.specs.Applying.{ending_by}
-use Rattle.site_commands.specs.Inputs.{bundle, folder, journal, reading_of, line_behind, stop_text, stop_ending, whole_of}
+use Rattle.site_bundle.specs.Refusals.{bad_shape}
+use Rattle.site_commands.specs.JournalParts.{behind_last, journal_part, requests_part, requests_said}
+use Rattle.site_commands.specs.Inputs.{bundle, folder, journal, resuming, reading_of, line_behind, stop_text, stop_ending, whole_of}
 use Rattle.site_commands.specs.Serving.{connection_line, end_lines, service_ending}
 use Rattle.site_commands.specs.declared.ending.Ending.TheVariants as e
 use Rattle.site_commands.specs.declared.input.InputStop.TheVariants as i
@@ -43,6 +45,22 @@ no_journal_ends = refl
 
 third_line : line_behind (codes "a\nb\nc") ≡ 3
 third_line = refl
+
+from_both : reading_of (a.resume 2) ≡ resuming
+from_both = refl
+
+-- a journal ends with its last line; what begins as that line does within another one is none
+parts_told : (journal_part (codes "x\n{\"entries\":0}\n[]\n") ≡ codes "x\n{\"entries\":0}\n")
+    × (requests_part (codes "x\n{\"entries\":0}\n[]\n") ≡ codes "[]\n")
+    × (requests_part (codes "x{\"entries\":0}\n[]") ≡ [])
+    × (journal_part (codes "x\n[]") ≡ codes "x\n[]")
+    × (requests_part (codes "{\"entries\":0}") ≡ [])
+unfolding behind_last
+parts_told = (refl, refl, refl, refl, refl)
+
+two_lines : requests_said (codes "{\"entries\":0}\n[\n]") ≡ Err (bad_shape (codes "requests"))
+unfolding behind_last
+two_lines = refl
 
 changed_alone : ending_by true false ≡ e.Changed
 changed_alone = refl

@@ -1,6 +1,6 @@
 -- Statuses of faults of the outside come where its counts rose.
 use Rattle.std.proofs.Common.{◌≡◌, ◌⊎◌, ℕ, Bool, true, false, List, ◌∙◌, subst, refl, inl, inr}
-use Rattle.std.specs.Prelude.{Result, Ok, Err, nat_lt}
+use Rattle.std.specs.Prelude.{Option, Result, Ok, Err, nat_lt}
 use Rattle.std.specs.List.{count_by}
 use Rattle.agent_docs.specs.ReportText.{has_changed, has_failed}
 use Rattle.agent_machine.specs.Machines.{Told}
@@ -19,7 +19,7 @@ use Rattle.site_commands.proofs.Served.{served_net, served_sinks}
 use Rattle.site_commands.specs.Applying.{ending_by, AppliesCatalog, AppliesMeant}
 use Rattle.site_commands.proofs.Decoding.{ending_of, ending-is}
 use Rattle.site_commands.specs.Endings.{Ends, HasEnded, HasStopped, HasWorked, Works}
-use Rattle.site_commands.specs.Inputs.{Reading, nothing, manifest, bundle, folder, journal, Input, site, reading_of, HasStoppedBy, stop_ending}
+use Rattle.site_commands.specs.Inputs.{Reading, nothing, manifest, bundle, folder, journal, resuming, Input, site, reading_of, HasStoppedBy, stop_ending}
 use Rattle.site_commands.specs.Work.{Delivers}
 use Rattle.site_commands.specs.World.{World}
 use Rattle.site_commands.specs.declared.ending.Ending.{Ending}
@@ -57,6 +57,7 @@ tree_rose (i.Refused (b.TreeFault path)) manifest s s' f f' is did = absurd did
 tree_rose (i.Refused (b.TreeFault path)) bundle s s' f f' is did = absurd did.0.refuses
 tree_rose (i.Refused (b.TreeFault path)) (folder dir) s s' f f' is did = did.1.ends.1
 tree_rose (i.Refused (b.TreeFault path)) journal s s' f f' is did = absurd did.0.wrong
+tree_rose (i.Refused (b.TreeFault path)) resuming s s' f f' is did = absurd did.0.wrong.1
 tree_rose (i.Refused b.Memory) from s s' f f' is did = cc
 tree_rose (i.BadLine number) from s s' f f' is did = cc
 tree_rose i.TooManyEntries from s s' f f' is did = cc
@@ -73,29 +74,36 @@ delivered_rose (o.Done text) before after did = inl did.0.0
 delivered_rose (o.Compiled log text) before after (inl did) = inr did.0.0
 delivered_rose (o.Compiled log text) before after (inr did) = inl did.1.0
 delivered_rose (o.Refused text) before after did = inl did.0.0
+delivered_rose (o.Faulty text line) before after (inl did) = inl did.0.0
+delivered_rose (o.Faulty text line) before after (inr did) = inr did.1.0
+delivered_rose (o.Unsettled text line) before after (inl did) = inl did.0.0
+delivered_rose (o.Unsettled text line) before after (inr did) = inr did.1.0
 delivered_rose (o.Short text) before after did = inl did.0.0
 delivered_rose (o.Fault text) before after did = inr did.0.0
 delivered_rose (o.BadInput text) before after did = cc
 
-catalog_rose : (catalog : Catalog) (document : MachineDoc) (before after : World) →
-    AppliesCatalog e.WriteFault catalog document before.out after.out before.err after.err before.machine after.machine →
+catalog_rose : (by : Option ℕ) (catalog : Catalog) (document : MachineDoc) (before after : World) →
+    AppliesCatalog e.WriteFault by catalog document before.out after.out before.err after.err before.machine
+    after.machine →
     SinkRose before after
 unfolding SinkRose
-catalog_rose catalog document before after (inl did) = inr did.0.0
-catalog_rose catalog document before after (inr did) = inl did.runs.ran.told.0.0
+catalog_rose by catalog document before after (inl did) = inr did.0.0
+catalog_rose by catalog document before after (inr did) = inl did.runs.ran.told.0.0
 
-meant_rose : (node : List ℕ) (meant : Result Catalog NodeRefusal) (document : MachineDoc) (before after : World) →
-    AppliesMeant node meant document before.out after.out before.err after.err before.machine after.machine e.WriteFault →
+meant_rose : (by : Option ℕ) (node : List ℕ) (meant : Result Catalog NodeRefusal) (document : MachineDoc)
+    (before after : World) →
+    AppliesMeant by node meant document before.out after.out before.err after.err before.machine after.machine
+    e.WriteFault →
     SinkRose before after
 unfolding SinkRose
-meant_rose node (Ok catalog) document before after did = catalog_rose catalog document before after did
-meant_rose node (Err refusal) document before after did = inr did.0.0
+meant_rose by node (Ok catalog) document before after did = catalog_rose by catalog document before after did
+meant_rose by node (Err refusal) document before after did = inr did.0.0
 
 works_rose : (asked : Asked) (input : Input) (before after : World) → Works e.WriteFault asked input before after →
     SinkRose before after
 unfolding SinkRose
-works_rose (a.apply node dir) (site said) before after did =
-    meant_rose node (node_meaning said.site node) said.machine before after did.0
+works_rose (a.apply node dir by) (site said) before after did =
+    meant_rose by node (node_meaning said.site node) said.machine before after did.0
 works_rose (a.serve port count dir) (site said) before after did =
     served_sinks said.site count before.out after.out before.err after.err before.net after.net did.0
 works_rose asked input before after did = delivered_rose did.0.output before after did.0.written
@@ -106,6 +114,8 @@ delivered_no_net : (output : Output) (out out' err err' : Stream) → Delivers e
 delivered_no_net (o.Done text) out out' err err' did = cc did.0.0
 delivered_no_net (o.Compiled log text) out out' err err' did = cc did.0
 delivered_no_net (o.Refused text) out out' err err' did = cc did.0.0
+delivered_no_net (o.Faulty text line) out out' err err' did = cc did.0
+delivered_no_net (o.Unsettled text line) out out' err err' did = cc did.0
 delivered_no_net (o.Short text) out out' err err' did = cc did.0
 delivered_no_net (o.Fault text) out out' err err' did = cc did.0.0
 delivered_no_net (o.BadInput text) out out' err err' did = cc did.0
@@ -116,12 +126,13 @@ report_no_net true false is = cc
 report_no_net false true is = cc
 report_no_net true true is = cc
 
-meant_no_net : (node : List ℕ) (meant : Result Catalog NodeRefusal) (document : MachineDoc) (out out' err err' : Stream)
-    (m m' : Told) → AppliesMeant node meant document out out' err err' m m' e.NetFault → ⊥
-meant_no_net node (Ok catalog) document out out' err err' m m' did =
+meant_no_net : (by : Option ℕ) (node : List ℕ) (meant : Result Catalog NodeRefusal) (document : MachineDoc)
+    (out out' err err' : Stream)
+    (m m' : Told) → AppliesMeant by node meant document out out' err err' m m' e.NetFault → ⊥
+meant_no_net by node (Ok catalog) document out out' err err' m m' did =
     report_no_net (nat_lt 0 (count_by has_changed did.runs.ran.report.lines))
     (nat_lt 0 (count_by has_failed did.runs.ran.report.lines)) did.runs.ran.told.0
-meant_no_net node (Err refusal) document out out' err err' m m' did = cc did.0.0
+meant_no_net by node (Err refusal) document out out' err err' m m' did = cc did.0.0
 
 NetRose : World → World → Type 0
 NetRose before after = Rose before.net.faults after.net.faults
@@ -131,8 +142,8 @@ works_net : (asked : Asked) (input : Input) (before after : World) → Works e.N
 unfolding NetRose
 works_net (a.serve port count dir) (site said) before after did =
     served_net said.site count before.out after.out before.err after.err before.net after.net did.0
-works_net (a.apply node dir) (site said) before after did =
-    absurd (meant_no_net node (node_meaning said.site node) said.machine _ _ _ _ _ _ did.0)
+works_net (a.apply node dir by) (site said) before after did =
+    absurd (meant_no_net by node (node_meaning said.site node) said.machine _ _ _ _ _ _ did.0)
 works_net asked input before after did = absurd (delivered_no_net did.0.output _ _ _ _ did.0.written)
 
 -- ---- by the status

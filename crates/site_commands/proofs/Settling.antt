@@ -6,11 +6,14 @@ use Rattle.agent_docs.specs.ReportText.{has_changed, has_failed}
 use Rattle.agent_machine.specs.Machines.{Told}
 use Rattle.agent_machine.specs.declared.machine_doc.MachineDoc.{MachineDoc}
 use Rattle.agent_machine.specs.declared.report.Report.{Report}
-use Rattle.command_outputs.proofs.Statuses.{status_of-run, status_of-shared, status_of-demo}
+use Rattle.agent_transaction.specs.Catalogs.{IsCycleTold}
+use Rattle.agent_transaction.specs.declared.run_stop.RunStop.TheVariants as stop
+use Rattle.command_outputs.proofs.Statuses.{status_of-run, status_of-shared, status_of-resumed, status_of-settled, status_of-demo}
 use Rattle.command_outputs.specs.Nodes.{NodeRefusal, node_meaning}
 use Rattle.command_outputs.specs.Statuses.{output_status}
 use Rattle.command_outputs.specs.declared.output.Output.{Output}
 use Rattle.command_outputs.specs.declared.output.Output.TheVariants as o
+use Rattle.pp_values.specs.declared.reference.Reference.{Reference}
 use Rattle.res_core.specs.declared.catalog.Catalog.{Catalog}
 use Rattle.site_bundle.specs.declared.bundle.Bundle.{Bundle}
 use Rattle.site_io.specs.Stream.{Stream}
@@ -19,10 +22,10 @@ use Rattle.site_words.specs.Asked.{Asked}
 use Rattle.site_commands.proofs.Served.{served_status}
 use Rattle.site_commands.proofs.Told.{input-told, stop-told, IsRefusal}
 use Rattle.site_commands.proofs.Worked.{ending-delivers, ending-writes, output_ending}
-use Rattle.site_commands.specs.Applying.{ending_by, report_ending, TellsReport, HasRunLoaded, AppliesCatalog, AppliesMeant, Applies}
+use Rattle.site_commands.specs.Applying.{ending_by, report_ending, TellsReport, HasRunLoaded, AppliesCatalog, AppliesMeant, Applies, StopsRun}
 use Rattle.site_commands.specs.Endings.{Ends, HasEnded, HasStopped, HasWorked, IsComplaint, Works}
 use Rattle.site_commands.proofs.Journals.{IsOfJournal, had_said, left_said, stop_said}
-use Rattle.site_commands.specs.Inputs.{Input, none, bytes, site, history, reading_of, IsSaidBy, HasReadSaid}
+use Rattle.site_commands.specs.Inputs.{Input, none, bytes, site, history, asking, reading_of, IsSaidBy, HasReadSaid}
 use Rattle.site_commands.specs.Settled.{input_told, IsApplyStatus, IsReportStatus, HasCycle, IsWorkStatus, IsStatusFor, IsSaidStatus, IsNoneSaid, IsFaultStatus, IsSettled}
 use Rattle.site_commands.specs.Status.{status_of}
 use Rattle.site_commands.specs.Work.{IsOutput, GivesOutput, HasDelivered}
@@ -43,6 +46,8 @@ output-status : (output : Output) → status_of (output_ending output) ≡ outpu
 output-status (o.Done text) = refl
 output-status (o.Compiled log text) = refl
 output-status (o.Refused text) = refl
+output-status (o.Faulty text line) = refl
+output-status (o.Unsettled text line) = refl
 output-status (o.Short text) = refl
 output-status (o.Fault text) = refl
 output-status (o.BadInput text) = refl
@@ -59,6 +64,8 @@ output_means (a.demo nodes) output none is = status_of-demo nodes output is
 output_means (a.batch workers) output (site said) is = status_of-shared workers output said is
 output_means a.audit output (history h) is = inl (ap output_status is)
 output_means a.migrate output (history h) is = inl (ap output_status is)
+output_means (a.resume workers) output (asking h asked) is = status_of-resumed workers output h asked is
+output_means (a.settle rounds workers) output (site said) is = inl (status_of-settled rounds workers output said is)
 output_means asked output input is = absurd is
 
 IsMeant : ℕ → Asked → Input → Type 0
@@ -98,7 +105,8 @@ by_counts false true = inr (inr (inl refl))
 by_counts true true = inr (inr (inr refl))
 
 report_status : (report : Report) → IsReportStatus (status_of (report_ending report))
-report_status report = by_counts (nat_lt 0 (count_by has_changed report.lines)) (nat_lt 0 (count_by has_failed report.lines))
+report_status report =
+    by_counts (nat_lt 0 (count_by has_changed report.lines)) (nat_lt 0 (count_by has_failed report.lines))
 
 -- the status of a run of a catalog
 IsRunStatus : ℕ → Catalog → Type 0
@@ -113,48 +121,60 @@ tells_status e.Memory catalog report document out out' err err' did = fault_16
 tells_status ending catalog report document out out' err err' did =
     inl (inl (subst (λ x. IsReportStatus (status_of x)) (sym did.0) (report_status report)))
 
-loaded_status : (ending : Ending) (catalog : Catalog) (loaded : Told) (out out' err err' : Stream) (m : Told) →
-    HasRunLoaded ending catalog loaded out out' err err' m → IsRunStatus (status_of ending) catalog
+-- a run that tells a cycle had one
+cycle_told : (by : Option ℕ) (catalog : Catalog) (cycle : List Reference) (loaded m : Told) →
+    StopsRun by catalog (stop.Cycle cycle) loaded m → IsCycleTold catalog.resources catalog.edges cycle
+cycle_told None catalog cycle loaded m did = did.0
+cycle_told (Some workers) catalog cycle loaded m did = did.0
+
+loaded_status : (ending : Ending) (by : Option ℕ) (catalog : Catalog) (loaded : Told) (out out' err err' : Stream)
+    (m : Told) →
+    HasRunLoaded ending by catalog loaded out out' err err' m → IsRunStatus (status_of ending) catalog
 unfolding IsRunStatus
-loaded_status e.Memory catalog loaded out out' err err' m did = fault_16
-loaded_status e.Refused catalog loaded out out' err err' m did = inl (inr (refl, (did.0, did.1.0.0)))
-loaded_status ending catalog loaded out out' err err' m did =
+loaded_status e.Memory by catalog loaded out out' err err' m did = fault_16
+loaded_status e.Refused by catalog loaded out out' err err' m did =
+    inl (inr (refl, (did.0, cycle_told by catalog did.0 loaded m did.1.0)))
+loaded_status ending by catalog loaded out out' err err' m did =
     tells_status ending catalog did.report _ out out' err err' did.told
 
-catalog_status : (ending : Ending) (catalog : Catalog) (document : MachineDoc) (out out' err err' : Stream) (m m' : Told) →
-    AppliesCatalog ending catalog document out out' err err' m m' → IsRunStatus (status_of ending) catalog
+catalog_status : (ending : Ending) (by : Option ℕ) (catalog : Catalog) (document : MachineDoc)
+    (out out' err err' : Stream) (m m' : Told) →
+    AppliesCatalog ending by catalog document out out' err err' m m' → IsRunStatus (status_of ending) catalog
 unfolding IsRunStatus
-catalog_status e.WriteFault catalog document out out' err err' m m' did = fault_13
-catalog_status ending catalog document out out' err err' m m' did =
-    loaded_status ending catalog did.runs.loaded out out' did.logged err' m' did.runs.ran
+catalog_status e.WriteFault by catalog document out out' err err' m m' did = fault_13
+catalog_status ending by catalog document out out' err err' m m' did =
+    loaded_status ending by catalog did.runs.loaded out out' did.logged err' m' did.runs.ran
 
-applied_status : (ending : Ending) (node : List ℕ) (meant : Result Catalog NodeRefusal) (document : MachineDoc)
-    (out out' err err' : Stream) (m m' : Told) → AppliesMeant node meant document out out' err err' m m' ending →
+applied_status : (ending : Ending) (by : Option ℕ) (node : List ℕ) (meant : Result Catalog NodeRefusal)
+    (document : MachineDoc)
+    (out out' err err' : Stream) (m m' : Told) → AppliesMeant by node meant document out out' err err' m m' ending →
     IsApplyStatus (status_of ending) meant ⊎ IsFaultStatus (status_of ending)
 unfolding IsRunStatus
-applied_status ending node (Ok catalog) document out out' err err' m m' did =
-    catalog_status ending catalog document out out' err err' m m' did
-applied_status ending node (Err refusal) document out out' err err' m m' did =
+applied_status ending by node (Ok catalog) document out out' err err' m m' did =
+    catalog_status ending by catalog document out out' err err' m m' did
+applied_status ending by node (Err refusal) document out out' err err' m m' did =
     elim (ending-writes ending e.Refused _ err err' did.0) [
       | inl is ↦ inl (ap status_of is)
       | inr is ↦ inr (inr (inl (ap status_of is)))
     ]
 
-apply_status : (ending : Ending) (node : List ℕ) (said : Bundle) (out out' err err' : Stream) (m m' : Told) →
-    Applies ending node said out out' err err' m m' →
+apply_status : (ending : Ending) (by : Option ℕ) (node : List ℕ) (said : Bundle) (out out' err err' : Stream)
+    (m m' : Told) →
+    Applies ending by node said out out' err err' m m' →
     IsApplyStatus (status_of ending) (node_meaning said.site node) ⊎ IsFaultStatus (status_of ending)
-apply_status e.Memory node said out out' err err' m m' did = fault_16
-apply_status ending node said out out' err err' m m' did =
-    applied_status ending node (node_meaning said.site node) said.machine out out' err err' m m' did
+apply_status e.Memory by node said out out' err err' m m' did = fault_16
+apply_status ending by node said out out' err err' m m' did =
+    applied_status ending by node (node_meaning said.site node) said.machine out out' err err' m m' did
 
 -- ---- a run
 
 -- the work has a status that the input means, unless something failed or memory was wanting
-work_status : (ending : Ending) (asked : Asked) (input : Input) (before after : World) → Works ending asked input before after →
+work_status : (ending : Ending) (asked : Asked) (input : Input) (before after : World) →
+    Works ending asked input before after →
     IsMeant (status_of ending) asked input
 unfolding IsMeant
-work_status ending (a.apply node dir) (site said) before after did =
-    apply_status ending node said before.out after.out before.err after.err before.machine after.machine did.0
+work_status ending (a.apply node dir by) (site said) before after did =
+    apply_status ending by node said before.out after.out before.err after.err before.machine after.machine did.0
 work_status ending (a.serve port count dir) (site said) before after did =
     served_status ending said.site count before.out after.out before.err after.err before.net after.net did.0
 work_status ending asked input before after did =
@@ -169,7 +189,8 @@ IfSome-all : {A : Type 0} (found : Option A) (P : A → Type 0) → ((x : A) →
 IfSome-all None P all = tt
 IfSome-all (Some x) P all = all x
 
-IfSome-map : {A : Type 0} (found : Option A) (P Q : A → Type 0) → IfSome found P → ((x : A) → P x → Q x) → IfSome found Q
+IfSome-map : {A : Type 0} (found : Option A) (P Q : A → Type 0) → IfSome found P → ((x : A) → P x → Q x) →
+    IfSome found Q
 IfSome-map None P Q known step = tt
 IfSome-map (Some x) P Q known step = step x known
 
@@ -204,6 +225,7 @@ ends_decided e.Refused asked before after other did = decided_worked e.Refused a
 ends_decided e.Changed asked before after other did = decided_worked e.Changed asked before after did
 ends_decided e.Failed asked before after other did = decided_worked e.Failed asked before after did
 ends_decided e.ChangedAndFailed asked before after other did = decided_worked e.ChangedAndFailed asked before after did
+ends_decided e.NotSettled asked before after other did = decided_worked e.NotSettled asked before after did
 ends_decided e.BadInput asked before after other (inl did) = decided_stopped asked before after did
 ends_decided e.BadInput asked before after other (inr did) = decided_worked e.BadInput asked before after did
 ends_decided e.ReadFault asked before after other did = decided_fault 12 asked before (inl refl)
@@ -238,7 +260,8 @@ said_worked ending asked before after of did =
     let had : HasReadSaid (reading_of asked) did.input before.source after.source =
     had_said (reading_of asked) did.input before.source after.source before.folder after.folder of did.read in
     left_said before.source.left after.source.left had.bytes
-    (λ said. IsSaidStatus (status_of ending) asked said ⊎ IsFaultStatus (status_of ending)) had.read.read.left had.read.ended
+    (λ said. IsSaidStatus (status_of ending) asked said ⊎ IsFaultStatus (status_of ending)) had.read.read.left
+    had.read.ended
     (said_meant (status_of ending) asked did.input had.bytes had.said
     (work_status ending asked did.input before after did.work))
 
@@ -246,7 +269,8 @@ said_stopped : (asked : Asked) (before after : World) → IsOfJournal (reading_o
     HasStopped e.BadInput asked before after → IsSaidDecided 11 asked before
 unfolding IsSaidDecided
 said_stopped asked before after of did =
-    IfSome-map before.source.left (IsNoneSaid (reading_of asked)) (λ said. IsSaidStatus 11 asked said ⊎ IsFaultStatus 11)
+    IfSome-map before.source.left (IsNoneSaid (reading_of asked)) (λ said. IsSaidStatus 11 asked said ⊎ IsFaultStatus
+    11)
     (stop_said did.stop (reading_of asked) before.source after.source before.folder after.folder of did.is did.read)
     (λ said none. inl (inr (none, refl)))
 
@@ -257,6 +281,7 @@ ends_said e.Refused asked before after of other did = said_worked e.Refused aske
 ends_said e.Changed asked before after of other did = said_worked e.Changed asked before after of did
 ends_said e.Failed asked before after of other did = said_worked e.Failed asked before after of did
 ends_said e.ChangedAndFailed asked before after of other did = said_worked e.ChangedAndFailed asked before after of did
+ends_said e.NotSettled asked before after of other did = said_worked e.NotSettled asked before after of did
 ends_said e.BadInput asked before after of other (inl did) = said_stopped asked before after of did
 ends_said e.BadInput asked before after of other (inr did) = said_worked e.BadInput asked before after of did
 ends_said e.ReadFault asked before after of other did = said_fault 12 asked before (inl refl)
@@ -276,6 +301,7 @@ settles status a.refused before decided said faulty = faulty tt
 settles status (a.bad_word word) before decided said faulty = faulty tt
 settles status a.audit before decided said faulty = said tt (λ complaint. complaint)
 settles status a.migrate before decided said faulty = said tt (λ complaint. complaint)
+settles status (a.resume workers) before decided said faulty = said tt (λ complaint. complaint)
 settles status asked before decided said faulty = decided (λ complaint. complaint)
 
 -- words and input decide the status, as far as they are told

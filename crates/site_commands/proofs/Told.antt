@@ -26,7 +26,8 @@ use Rattle.site_commands.specs.declared.input.InputStop.TheVariants as i
 -- ---- bytes
 
 -- all bytes that were left are the ones read
-pub read_is_left : (left' : Option (List ℕ)) (input bytes : List ℕ) → left' ≡ Some [] → Consumes (Some input) left' bytes →
+pub read_is_left : (left' : Option (List ℕ)) (input bytes : List ℕ) → left' ≡ Some [] →
+    Consumes (Some input) left' bytes →
     bytes ≡ input
 read_is_left left' input bytes ended read =
     let whole : input ≡ bytes ++ [] = subst (λ l. Consumes (Some input) l bytes) ended read in
@@ -85,7 +86,8 @@ manifest_told (Some input) left' bytes took ended fits =
     (ap (λ b. if b then Ok (read.bytes bytes) else Err (too_large MAIN_MANIFEST.now))
     (le-leb (length bytes) MOST_FILE_BYTES fits))
 
-bundle_told : (left left' : Option (List ℕ)) (bytes : List ℕ) (meant : Result Bundle Refusal) → Consumes left left' bytes →
+bundle_told : (left left' : Option (List ℕ)) (bytes : List ℕ) (meant : Result Bundle Refusal) →
+    Consumes left left' bytes →
     left' ≡ Some [] → bundle_of bytes ≡ meant →
     IfSome (option_map (λ input. site_or (bundle_of input)) left) (λ told. told ≡ site_or meant)
 bundle_told None left' bytes meant took ended is = tt
@@ -105,10 +107,12 @@ input-told read.nothing read.none before after had = refl
 input-told read.manifest (read.bytes bytes) before after had =
     manifest_told before.source.left after.source.left bytes had.0.read.left had.0.ended had.0.fits
 input-told read.bundle (read.site said) before after had =
-    bundle_told before.source.left after.source.left had.0.bytes (Ok said) had.0.read.read.left had.0.read.ended had.0.is
+    bundle_told before.source.left after.source.left had.0.bytes (Ok said) had.0.read.read.left had.0.read.ended
+    had.0.is
 input-told (read.folder dir) (read.site said) before after had =
     folder_told before.folder.told (site_walk dir) said had.1.ends
 input-told read.journal input before after had = tt
+input-told read.resuming input before after had = tt
 input-told from input before after had = absurd had
 
 -- ---- what was not had
@@ -116,7 +120,8 @@ input-told from input before after had = absurd had
 abbrev pub IsRefusal : Result Input Refusal → Type 0
 IsRefusal told = (why : Refusal) × (told ≡ Err why)
 
-manifest_long : (left left' : Option (List ℕ)) (bytes : List ℕ) → Consumes left left' bytes → MOST_FILE_BYTES < length bytes →
+manifest_long : (left left' : Option (List ℕ)) (bytes : List ℕ) → Consumes left left' bytes →
+    MOST_FILE_BYTES < length bytes →
     IfSome (option_map manifest_of left) IsRefusal
 manifest_long None left' bytes took long = tt
 manifest_long (Some input) left' bytes took long =
@@ -127,7 +132,8 @@ manifest_long (Some input) left' bytes took long =
           (leb-false (length input) MOST_FILE_BYTES longer),
     )
 
-bundle_long : (left left' : Option (List ℕ)) (bytes : List ℕ) → Consumes left left' bytes → MOST_BUNDLE_BYTES < length bytes →
+bundle_long : (left left' : Option (List ℕ)) (bytes : List ℕ) → Consumes left left' bytes →
+    MOST_BUNDLE_BYTES < length bytes →
     IfSome (option_map (λ input. site_or (bundle_of input)) left) IsRefusal
 bundle_long None left' bytes took long = tt
 bundle_long (Some input) left' bytes took long =
@@ -136,7 +142,8 @@ bundle_long (Some input) left' bytes took long =
     (too_large (codes "bundle"), ap site_or (bundle_of-long input longer))
 
 bundle_refused : (left left' : Option (List ℕ)) (bytes : List ℕ) (why : Refusal) → Consumes left left' bytes →
-    left' ≡ Some [] → bundle_of bytes ≡ Err why → IfSome (option_map (λ input. site_or (bundle_of input)) left) IsRefusal
+    left' ≡ Some [] → bundle_of bytes ≡ Err why → IfSome (option_map (λ input. site_or (bundle_of input)) left)
+    IsRefusal
 bundle_refused None left' bytes why took ended is = tt
 bundle_refused (Some input) left' bytes why took ended is =
     (why, subst (λ x. site_or (bundle_of x) ≡ Err why) (read_is_left left' input bytes ended took) (ap site_or is))
@@ -159,16 +166,19 @@ stop-told (i.Unread r.TooLong) read.bundle before after is did =
     bundle_long before.source.left after.source.left did.1.0.bytes did.1.0.read.left did.1.0.long
 stop-told (i.Unread r.TooLong) (read.folder dir) before after is did = absurd did.0
 stop-told (i.Unread r.TooLong) read.journal before after is did = tt
+stop-told (i.Unread r.TooLong) read.resuming before after is did = tt
 stop-told (i.Refused why) read.nothing before after is did = absurd did
 stop-told (i.Refused why) read.manifest before after is did = absurd did
 stop-told (i.Refused b.NotJson) read.bundle before after is did =
     bundle_refused before.source.left after.source.left did.0.bytes not_json did.0.read.read.left did.0.read.ended
     did.0.refuses
 stop-told (i.Refused (b.BadShape path)) read.bundle before after is did =
-    bundle_refused before.source.left after.source.left did.0.bytes (bad_shape path) did.0.read.read.left did.0.read.ended
+    bundle_refused before.source.left after.source.left did.0.bytes (bad_shape path) did.0.read.read.left
+    did.0.read.ended
     did.0.refuses
 stop-told (i.Refused (b.TooLarge path)) read.bundle before after is did =
-    bundle_refused before.source.left after.source.left did.0.bytes (too_large path) did.0.read.read.left did.0.read.ended
+    bundle_refused before.source.left after.source.left did.0.bytes (too_large path) did.0.read.read.left
+    did.0.read.ended
     did.0.refuses
 stop-told (i.Refused (b.TreeFault path)) read.bundle before after is did = cc
 stop-told (i.Refused b.Memory) read.bundle before after is did = cc
@@ -181,13 +191,16 @@ stop-told (i.Refused (b.TooLarge path)) (read.folder dir) before after is did =
 stop-told (i.Refused (b.TreeFault path)) (read.folder dir) before after is did = cc
 stop-told (i.Refused b.Memory) (read.folder dir) before after is did = cc
 stop-told (i.Refused why) read.journal before after is did = tt
+stop-told (i.Refused why) read.resuming before after is did = tt
 stop-told (i.BadLine number) read.nothing before after is did = absurd did
 stop-told (i.BadLine number) read.manifest before after is did = absurd did
 stop-told (i.BadLine number) read.bundle before after is did = absurd did
 stop-told (i.BadLine number) (read.folder dir) before after is did = absurd did
 stop-told (i.BadLine number) read.journal before after is did = tt
+stop-told (i.BadLine number) read.resuming before after is did = tt
 stop-told i.TooManyEntries read.nothing before after is did = absurd did
 stop-told i.TooManyEntries read.manifest before after is did = absurd did
 stop-told i.TooManyEntries read.bundle before after is did = absurd did
 stop-told i.TooManyEntries (read.folder dir) before after is did = absurd did
 stop-told i.TooManyEntries read.journal before after is did = tt
+stop-told i.TooManyEntries read.resuming before after is did = tt

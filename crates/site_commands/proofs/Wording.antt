@@ -29,12 +29,14 @@ complains (a.check dir) before after did = did
 complains (a.compile node dir) before after did = did
 complains a.sequence before after did = did
 complains (a.lookup node key merge dir) before after did = did
-complains (a.apply node dir) before after did = did
+complains (a.apply node dir workers) before after did = did
 complains (a.demo nodes) before after did = did
 complains (a.batch workers) before after did = did
 complains (a.serve port count dir) before after did = did
 complains a.audit before after did = did
 complains a.migrate before after did = did
+complains (a.resume workers) before after did = did
+complains (a.settle rounds workers) before after did = did
 
 -- the status of faulty words comes for no others
 pub ended-complaint : (status : ℕ) (asked : Asked) (before after : World) → HasEnded status asked before after →
@@ -65,6 +67,7 @@ refused_status e.Failed before after did = absurd did.work.0.is
 refused_status e.ChangedAndFailed before after did = absurd did.work.0.is
 refused_status e.WriteFault before after did = absurd did.work.0.is
 refused_status e.NetFault before after did = absurd did.work.0.is
+refused_status e.NotSettled before after did = absurd did.work.0.is
 
 bad_word_status : (ending : Ending) (word : List ℕ) (before after : World) → Ends ending (a.bad_word word) before after →
     (status_of ending ≡ 10) ⊎ (status_of ending ≡ 16)
@@ -81,6 +84,7 @@ bad_word_status e.Failed word before after did = absurd did.work.0.is
 bad_word_status e.ChangedAndFailed word before after did = absurd did.work.0.is
 bad_word_status e.WriteFault word before after did = absurd did.work.0.is
 bad_word_status e.NetFault word before after did = absurd did.work.0.is
+bad_word_status e.NotSettled word before after did = absurd did.work.0.is
 
 complaint_status : (ending : Ending) (asked : Asked) (before after : World) → IsComplaint asked →
     Ends ending asked before after → (status_of ending ≡ 10) ⊎ (status_of ending ≡ 16)

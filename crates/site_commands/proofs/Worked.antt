@@ -11,7 +11,7 @@ use Rattle.site_io.specs.declared.transfer.ReadStop.TheVariants as r
 use Rattle.site_words.specs.Asked.{Asked}
 use Rattle.site_commands.specs.Endings.{Ends, HasStopped, HasWorked, Works}
 use Rattle.site_commands.specs.Inputs.{Input, reading_of, HasInput, HasStoppedBy, whole_of, stop_text, stop_ending}
-use Rattle.site_commands.specs.Work.{IsOutput, Delivers, GivesOutput, HasDelivered, WritesOr, WritesLogged, WritesShort, WritesMade}
+use Rattle.site_commands.specs.Work.{IsOutput, Delivers, GivesOutput, HasDelivered, WritesBoth, WritesOr, WritesLogged, WritesShort, WritesMade}
 use Rattle.site_commands.specs.World.{World, Says}
 use Rattle.site_commands.specs.declared.ending.Ending.{Ending}
 use Rattle.site_commands.specs.declared.ending.Ending.TheVariants as e
@@ -39,6 +39,7 @@ ends_worked e.WriteFault asked before after of_work worked = worked
 ends_worked e.NetFault asked before after of_work worked = worked
 ends_worked e.TreeFault asked before after of_work worked = absurd of_work
 ends_worked e.Memory asked before after of_work worked = inr (inr worked)
+ends_worked e.NotSettled asked before after of_work worked = worked
 
 -- ---- outputs
 
@@ -47,6 +48,8 @@ abbrev pub output_ending : Output → Ending
 output_ending (o.Done text) = e.Done
 output_ending (o.Compiled log text) = e.Done
 output_ending (o.Refused text) = e.Refused
+output_ending (o.Faulty text line) = e.Refused
+output_ending (o.Unsettled text line) = e.NotSettled
 output_ending (o.Short text) = e.Memory
 output_ending (o.Fault text) = e.Refused
 output_ending (o.BadInput text) = e.BadInput
@@ -61,6 +64,11 @@ ending-logged : (ending : Ending) (log text : List ℕ) (out out' err err' : Str
 ending-logged e.WriteFault log text out out' err err' did = inr refl
 ending-logged ending log text out out' err err' did = inl did.0
 
+ending-both : (ending whole : Ending) (text line : List ℕ) (out out' err err' : Stream) →
+    WritesBoth ending whole text line out out' err err' → (ending ≡ whole) ⊎ (ending ≡ e.WriteFault)
+ending-both e.WriteFault whole text line out out' err err' did = inr refl
+ending-both ending whole text line out out' err err' did = inl did.0
+
 ending-short : (ending : Ending) (text : List ℕ) (out out' err err' : Stream) →
     WritesShort ending text out out' err err' → (ending ≡ e.Memory) ⊎ (ending ≡ e.WriteFault)
 ending-short e.WriteFault text out out' err err' did = inr refl
@@ -72,6 +80,10 @@ pub ending-delivers : (ending : Ending) (output : Output) (out out' err err' : S
 ending-delivers ending (o.Done text) out out' err err' did = ending-writes ending e.Done text out out' did.0
 ending-delivers ending (o.Compiled log text) out out' err err' did = ending-logged ending log text out out' err err' did
 ending-delivers ending (o.Refused text) out out' err err' did = ending-writes ending e.Refused text out out' did.0
+ending-delivers ending (o.Faulty text line) out out' err err' did =
+    ending-both ending e.Refused text line out out' err err' did
+ending-delivers ending (o.Unsettled text line) out out' err err' did =
+    ending-both ending e.NotSettled text line out out' err err' did
 ending-delivers ending (o.Short text) out out' err err' did = ending-short ending text out out' err err' did
 ending-delivers ending (o.Fault text) out out' err err' did = ending-writes ending e.Refused text err err' did.0
 ending-delivers ending (o.BadInput text) out out' err err' did = inl did.0
@@ -80,11 +92,14 @@ output_ending-of_work : (output : Output) → IsOfWork (output_ending output)
 output_ending-of_work (o.Done text) = tt
 output_ending-of_work (o.Compiled log text) = tt
 output_ending-of_work (o.Refused text) = tt
+output_ending-of_work (o.Faulty text line) = tt
+output_ending-of_work (o.Unsettled text line) = tt
 output_ending-of_work (o.Short text) = tt
 output_ending-of_work (o.Fault text) = tt
 output_ending-of_work (o.BadInput text) = tt
 
-pub either_of_work : (ending whole : Ending) → IsOfWork whole → (ending ≡ whole) ⊎ (ending ≡ e.WriteFault) → IsOfWork ending
+pub either_of_work : (ending whole : Ending) → IsOfWork whole → (ending ≡ whole) ⊎ (ending ≡ e.WriteFault) →
+    IsOfWork ending
 either_of_work ending whole of_work (inl is) = subst IsOfWork (sym is) of_work
 either_of_work ending whole of_work (inr is) = subst IsOfWork (sym is) tt
 
@@ -145,7 +160,8 @@ stops i.TooManyEntries asked before after did = inl did
 pub ends_stopped : (stop : InputStop) (ending : Ending) (asked : Asked) (before after : World) →
     ending ≡ stop_ending stop →
     HasStoppedBy stop (reading_of asked) before.source after.source before.folder after.folder →
-    Says (line (stop_text (whole_of asked) stop)) before.err after.err → after.out ≡ before.out → after.net ≡ before.net →
+    Says (line (stop_text (whole_of asked) stop)) before.err after.err → after.out ≡ before.out →
+    after.net ≡ before.net →
     after.machine ≡ before.machine → Ends ending asked before after
 ends_stopped stop ending asked before after is read said out net machine =
     subst (λ x. Ends x asked before after) (sym is)

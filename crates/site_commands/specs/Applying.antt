@@ -1,6 +1,6 @@
 -- What becomes of a node's catalog that is applied to a machine.
 use Rattle.std.specs.Prelude.{◌≡◌, ◌⊎◌, ℕ, Bool, true, false, nat_lt, List, [], ◌++◌, Option, None, Some, option_map}
-use Rattle.std.specs.Prelude.{Result, Ok, Err, codes}
+use Rattle.std.specs.Prelude.{Result, Ok, Err, MatchResult, codes}
 use Rattle.std.specs.List.{count_by}
 use Rattle.agent_docs.specs.MachineText.{machine_text}
 use Rattle.agent_docs.specs.ReportText.{has_changed, has_failed, report_text}
@@ -8,6 +8,7 @@ use Rattle.agent_machine.specs.Machines.{Told, Loads}
 use Rattle.agent_machine.specs.declared.machine_doc.MachineDoc.{MachineDoc}
 use Rattle.agent_machine.specs.declared.report.Report.{Report}
 use Rattle.agent_transaction.specs.Catalogs.{IsRun, IsRunStop}
+use Rattle.agent_transaction.specs.declared.run_stop.RunStop.{RunStop}
 use Rattle.agent_transaction.specs.declared.run_stop.RunStop.TheVariants as stop
 use Rattle.command_outputs.specs.Lines.{line}
 use Rattle.command_outputs.specs.Nodes.{NodeRefusal, node_meaning}
@@ -17,6 +18,7 @@ use Rattle.res_core.specs.declared.catalog.Catalog.{Catalog}
 use Rattle.site_bundle.specs.declared.bundle.Bundle.{Bundle}
 use Rattle.site_docs.specs.LogText.{log_text}
 use Rattle.site_io.specs.Stream.{Stream, HasWritten}
+use Rattle.wide_apply.specs.WideCatalogs.{IsWideRun, IsWideStop}
 use Rattle.site_commands.specs.Work.{SaysOnly, WritesOr, HasLogged}
 use Rattle.site_commands.specs.World.{FailsToSay}
 use Rattle.site_commands.specs.declared.ending.Ending.{Ending}
@@ -53,46 +55,64 @@ TellsReport ending report document out out' err err' =
 
 -- ---- a catalog
 
+-- the run over a catalog that has this report: one turn after another, or by waves where a number of workers is said
+abbrev pub RunsBy : Option ℕ → Catalog → Report → Told → Told → Type 0
+RunsBy None catalog report loaded after = IsRun catalog report loaded after
+RunsBy (Some workers) catalog report loaded after = IsWideRun catalog report loaded after
+
+-- and the run that stops
+abbrev pub StopsRun : Option ℕ → Catalog → RunStop → Told → Told → Type 0
+StopsRun None catalog why loaded after = IsRunStop catalog why loaded after
+StopsRun (Some workers) catalog why loaded after = IsWideStop catalog.resources catalog.edges why loaded after
+
+-- what came of the run is this
+abbrev pub EndsRun : Option ℕ → Catalog → Result Report RunStop → Told → Told → Type 0
+EndsRun by catalog result loaded after =
+    MatchResult result (λ report. RunsBy by catalog report loaded after)
+    (λ why. StopsRun by catalog why loaded after)
+
 -- the catalog was applied to this report, of which was told
-pub record HasTold (ending : Ending) (catalog : Catalog) (loaded : Told) (out out' err err' : Stream)
+pub record HasTold (ending : Ending) (by : Option ℕ) (catalog : Catalog) (loaded : Told) (out out' err err' : Stream)
     (after : Told) : Type 0 where
   pub report : Report
-  pub ran : IsRun catalog report loaded after
+  pub ran : RunsBy by catalog report loaded after
   pub told : TellsReport ending report (option_map (λ c. c.document) after.content) out out' err err'
 
 -- The catalog was applied to a machine with its document loaded, and told of; or memory was wanting for the run or in
 -- it, and only that was said. A catalog with a cycle, which no compile makes, would be refused before the machine's
 -- first call.
-abbrev pub HasRunLoaded : Ending → Catalog → Told → Stream → Stream → Stream → Stream → Told → Type 0
-HasRunLoaded e.Memory catalog loaded out out' err err' after =
-    (IsRunStop catalog stop.Memory loaded after × SaysOnly (line (codes "memory")) out out' err err')
-    ⊎ HasTold e.Memory catalog loaded out out' err err' after
-HasRunLoaded e.Refused catalog loaded out out' err err' after =
-    (cycle : List Reference) × (IsRunStop catalog (stop.Cycle cycle) loaded after
+abbrev pub HasRunLoaded : Ending → Option ℕ → Catalog → Told → Stream → Stream → Stream → Stream → Told → Type 0
+HasRunLoaded e.Memory by catalog loaded out out' err err' after =
+    (StopsRun by catalog stop.Memory loaded after × SaysOnly (line (codes "memory")) out out' err err')
+    ⊎ HasTold e.Memory by catalog loaded out out' err err' after
+HasRunLoaded e.Refused by catalog loaded out out' err err' after =
+    (cycle : List Reference) × (StopsRun by catalog (stop.Cycle cycle) loaded after
     × SaysOnly (line (codes "cycle")) out out' err err')
-HasRunLoaded ending catalog loaded out out' err err' after = HasTold ending catalog loaded out out' err err' after
+HasRunLoaded ending by catalog loaded out out' err err' after = HasTold ending by catalog loaded out out' err err' after
 
 -- the document was loaded, and then the catalog applied
-pub record RunsOn (ending : Ending) (catalog : Catalog) (document : MachineDoc) (out out' err err' : Stream)
-    (m m' : Told) : Type 0 where
+pub record RunsOn (ending : Ending) (by : Option ℕ) (catalog : Catalog) (document : MachineDoc)
+    (out out' err err' : Stream) (m m' : Told) : Type 0 where
   pub loaded : Told
   pub loads : Loads document m loaded
-  pub ran : HasRunLoaded ending catalog loaded out out' err err' m'
+  pub ran : HasRunLoaded ending by catalog loaded out out' err err' m'
 
 -- and before that the log was written whole
-pub record AppliesLogged (ending : Ending) (catalog : Catalog) (document : MachineDoc) (out out' err err' : Stream)
+pub record AppliesLogged (ending : Ending) (by : Option ℕ) (catalog : Catalog) (document : MachineDoc)
+    (out out' err err' : Stream)
     (m m' : Told) : Type 0 where
   pub logged : Stream
   pub log : HasLogged (log_text catalog.log) err logged
-  pub runs : RunsOn ending catalog document out out' logged err' m m'
+  pub runs : RunsOn ending by catalog document out out' logged err' m m'
 
 -- The log comes first. Where it was not written whole, the machine was not called, and nothing else was written.
-abbrev pub AppliesCatalog : Ending → Catalog → MachineDoc → Stream → Stream → Stream → Stream → Told → Told → Type 0
-AppliesCatalog e.WriteFault catalog document out out' err err' m m' =
+abbrev pub AppliesCatalog : Ending → Option ℕ → Catalog → MachineDoc → Stream → Stream → Stream → Stream → Told →
+    Told → Type 0
+AppliesCatalog e.WriteFault by catalog document out out' err err' m m' =
     (FailsToSay (log_text catalog.log) err err' × ((out' ≡ out) × (m' ≡ m)))
-    ⊎ AppliesLogged e.WriteFault catalog document out out' err err' m m'
-AppliesCatalog ending catalog document out out' err err' m m' =
-    AppliesLogged ending catalog document out out' err err' m m'
+    ⊎ AppliesLogged e.WriteFault by catalog document out out' err err' m m'
+AppliesCatalog ending by catalog document out out' err err' m m' =
+    AppliesLogged ending by catalog document out out' err err' m m'
 
 -- ---- a node
 
@@ -103,17 +123,17 @@ OrLacks Done e.Memory out out' err err' m m' =
 OrLacks Done ending out out' err err' m m' = Done ending
 
 -- where the node has no catalog, the line that tells why was written, or a front of it, and the machine was not called
-abbrev pub AppliesMeant : List ℕ → Result Catalog NodeRefusal → MachineDoc → Stream → Stream → Stream → Stream → Told →
-    Told
+abbrev pub AppliesMeant : Option ℕ → List ℕ → Result Catalog NodeRefusal → MachineDoc → Stream → Stream → Stream →
+    Stream → Told → Told
     → Ending → Type 0
-AppliesMeant node (Err refusal) document out out' err err' m m' ending =
+AppliesMeant by node (Err refusal) document out out' err err' m m' ending =
     WritesOr ending e.Refused (node_refusal_line node refusal) err err' × ((out' ≡ out) × (m' ≡ m))
-AppliesMeant node (Ok catalog) document out out' err err' m m' ending =
-    AppliesCatalog ending catalog document out out' err err' m m'
+AppliesMeant by node (Ok catalog) document out out' err err' m m' ending =
+    AppliesCatalog ending by catalog document out out' err err' m m'
 
 -- the node of a bundle was applied so: its catalog, by the facts that the site lists and without exports
-abbrev pub Applies : Ending → List ℕ → Bundle → Stream → Stream → Stream → Stream → Told → Told → Type 0
-Applies ending node said out out' err err' m m' =
-    OrLacks (AppliesMeant node (node_meaning said.site node) said.machine out out' err err' m m')
-    ending out out' err err'
+abbrev pub Applies : Ending → Option ℕ → List ℕ → Bundle → Stream → Stream → Stream → Stream → Told → Told → Type 0
+Applies ending by node said out out' err err' m m' =
+    OrLacks (AppliesMeant by node (node_meaning said.site node) said.machine out out' err err' m m') ending out out'
+    err err'
     m m'

@@ -50,12 +50,16 @@ Complained ending w.Memory err err' = (ending ≡ e.Memory) × Says (line (codes
 abbrev pub IsShared : Asked → Type 0
 IsShared (a.batch workers) = Unit {0}
 IsShared (a.serve port count dir) = Unit {0}
+IsShared (a.resume workers) = Unit {0}
+IsShared (a.settle rounds workers) = Unit {0}
 IsShared asked = ⊥
 
 -- it waits for nobody
 abbrev pub IsPlain : Asked → Type 0
 IsPlain (a.batch workers) = ⊥
 IsPlain (a.serve port count dir) = ⊥
+IsPlain (a.resume workers) = ⊥
+IsPlain (a.settle rounds workers) = ⊥
 IsPlain a.refused = ⊥
 IsPlain (a.bad_word word) = ⊥
 IsPlain asked = Unit {0}
@@ -74,8 +78,8 @@ pub record HasStopped (ending : Ending) (asked : Asked) (before after : World) :
 
 -- The work of a command on what was read ended so. `apply` alone calls the machine, and `serve` alone the listener.
 abbrev pub Works : Ending → Asked → Input → World → World → Type 0
-Works ending (a.apply node dir) (site said) before after =
-    Applies ending node said before.out after.out before.err after.err before.machine after.machine
+Works ending (a.apply node dir workers) (site said) before after =
+    Applies ending workers node said before.out after.out before.err after.err before.machine after.machine
     × (after.net ≡ before.net)
 Works ending (a.serve port count dir) (site said) before after =
     Serves ending said.site count before.out after.out before.err after.err before.net after.net

@@ -6,6 +6,7 @@ use Rattle.std.specs.Str.{IsUtf8, IsValidUpTo}
 use Rattle.json_documents.specs.LinesOfText.{IsFirstBad}
 use Rattle.journal_reading.specs.Journals.{IsJournalText}
 use Rattle.pp_values.specs.declared.place.TheConstants.{MAIN_MANIFEST}
+use Rattle.res_core.specs.Asked as requests
 use Rattle.site_bundle.specs.Bundles.{bundle_of}
 use Rattle.site_bundle.specs.FolderSites.{site_walk}
 use Rattle.site_bundle.specs.Refusals.{Refuses, stop_line}
@@ -24,6 +25,8 @@ use Rattle.site_io.specs.Transfer.{HasReadAll, StopsBy}
 use Rattle.site_io.specs.declared.transfer.ReadStop.TheVariants as r
 use Rattle.site_words.specs.Asked as a
 use Rattle.site_words.specs.Asked.{Asked}
+use Rattle.site_commands.specs.JournalParts.{journal_part, requests_said}
+use Rattle.site_commands.specs.declared.asking_input.Asking.{Asking}
 use Rattle.site_commands.specs.declared.ending.Ending.{Ending}
 use Rattle.site_commands.specs.declared.ending.Ending.TheVariants as e
 use Rattle.site_commands.specs.declared.input.InputStop.{InputStop}
@@ -41,6 +44,8 @@ pub data Reading : Type 0 where
   folder : List ℕ → Reading
   -- a journal, from the source
   journal : Reading
+  -- a journal and the requests behind it, from the source
+  resuming : Reading
 
 -- from the folder that is named, or else from the source
 abbrev pub site_from : Option (List ℕ) → Reading
@@ -53,12 +58,14 @@ reading_of (a.check dir) = site_from dir
 reading_of (a.compile node dir) = site_from dir
 reading_of a.sequence = bundle
 reading_of (a.lookup node key merge dir) = site_from dir
-reading_of (a.apply node dir) = site_from dir
+reading_of (a.apply node dir workers) = site_from dir
 reading_of (a.demo nodes) = nothing
 reading_of (a.batch workers) = bundle
 reading_of (a.serve port count dir) = folder dir
 reading_of a.audit = journal
 reading_of a.migrate = journal
+reading_of (a.resume workers) = resuming
+reading_of (a.settle rounds workers) = bundle
 reading_of a.refused = nothing
 reading_of (a.bad_word word) = nothing
 
@@ -72,6 +79,8 @@ pub data Input : Type 0 where
   site : Bundle → Input
   -- the entries of a journal
   history : List (Event SiteView) → Input
+  -- and what is asked behind it
+  asking : List (Event SiteView) → List requests.Asked → Input
 
 -- ---- journals
 
@@ -104,6 +113,7 @@ IsBadLine n said =
 -- what the bytes of a source say
 abbrev pub IsSaidBy : Reading → Input → List ℕ → Type 0
 IsSaidBy journal (history h) said = IsJournal h said
+IsSaidBy resuming (asking h asked) said = IsJournal h (journal_part said) × (requests_said said ≡ Ok asked)
 IsSaidBy reading input said = ⊥
 
 -- the source was read to its end, and its bytes say so
@@ -132,6 +142,7 @@ HasInput manifest (bytes input) s s' f f' = HasReadAll input MOST_FILE_BYTES s s
 HasInput bundle (site said) s s' f f' = HasReadBundle said s s' × (f' ≡ f)
 HasInput (folder dir) (site said) s s' f f' = (s' ≡ s) × ReadsFolder dir (Ok said) f f'
 HasInput journal input s s' f f' = HasReadSaid journal input s s' × (f' ≡ f)
+HasInput resuming input s s' f f' = HasReadSaid resuming input s s' × (f' ≡ f)
 HasInput reading input s s' f f' = ⊥
 
 -- ---- what stands in the way
@@ -143,6 +154,7 @@ limit_of manifest = MOST_FILE_BYTES
 limit_of bundle = MOST_BUNDLE_BYTES
 limit_of (folder dir) = 0
 limit_of journal = MOST_BUNDLE_BYTES
+limit_of resuming = MOST_BUNDLE_BYTES
 
 abbrev pub IsOfSource : Reading → Type 0
 IsOfSource nothing = ⊥
@@ -150,6 +162,7 @@ IsOfSource manifest = Unit {0}
 IsOfSource bundle = Unit {0}
 IsOfSource (folder dir) = ⊥
 IsOfSource journal = Unit {0}
+IsOfSource resuming = Unit {0}
 
 -- the source was read to its end, and its bytes are no bundle, or memory was wanting to read them
 pub record HasReadNone (why : BundleStop) (before after : Stream) : Type 0 where
@@ -157,12 +170,17 @@ pub record HasReadNone (why : BundleStop) (before after : Stream) : Type 0 where
   pub read : HasReadAll bytes MOST_BUNDLE_BYTES before after
   pub refuses : Refuses why (bundle_of bytes)
 
--- What is wrong with the bytes of a source that are to say a journal; or memory was wanting to read them, of which
--- nothing is said.
+-- What is wrong with the bytes of a source that are to say a journal, and requests behind it; or memory was wanting to
+-- read them, of which nothing is said. Of requests is told where the journal is one.
 abbrev pub IsWrong : InputStop → Reading → List ℕ → Type 0
 IsWrong (i.Refused b.Memory) journal said = Unit {0}
 IsWrong (i.BadLine number) journal said = (n : ℕ) × ((number ≡ decimal n) × IsBadLine n said)
 IsWrong i.TooManyEntries journal said = (h : List (Event SiteView)) × IsTooLong h said
+IsWrong (i.Refused b.Memory) resuming said = Unit {0}
+IsWrong (i.BadLine number) resuming said = (n : ℕ) × ((number ≡ decimal n) × IsBadLine n (journal_part said))
+IsWrong i.TooManyEntries resuming said = (h : List (Event SiteView)) × IsTooLong h (journal_part said)
+IsWrong (i.Refused why) resuming said =
+    ((h : List (Event SiteView)) × IsJournal h (journal_part said)) × Refuses why (requests_said said)
 IsWrong stop reading said = ⊥
 
 -- the source was read to its end, and this is wrong with its bytes
@@ -177,6 +195,7 @@ HasStoppedBy (i.Unread stop) reading s s' f f' = IsOfSource reading × (StopsBy 
 HasStoppedBy (i.Refused why) bundle s s' f f' = HasReadNone why s s' × (f' ≡ f)
 HasStoppedBy (i.Refused why) (folder dir) s s' f f' = (s' ≡ s) × ReadsFolder dir (Err why) f f'
 HasStoppedBy stop journal s s' f f' = HasReadWrong stop journal s s' × (f' ≡ f)
+HasStoppedBy stop resuming s s' f f' = HasReadWrong stop resuming s s' × (f' ≡ f)
 HasStoppedBy stop reading s s' f f' = ⊥
 
 -- the path that names the whole of what a command reads from the source
@@ -184,6 +203,7 @@ abbrev pub whole_of : Asked → List ℕ
 whole_of (a.manifest node) = MAIN_MANIFEST.now
 whole_of a.audit = codes "journal"
 whole_of a.migrate = codes "journal"
+whole_of (a.resume workers) = codes "journal"
 whole_of asked = codes "bundle"
 
 -- the line that tells the stop, without a line feed; where the source has more than is read, it names the whole
@@ -227,3 +247,9 @@ TellsLine stop n = ⊥
 abbrev pub ReadsJournal : Result (History SiteView) InputStop → List ℕ → Type 0
 ReadsJournal (Ok said) input = IsJournal said.entries input
 ReadsJournal (Err stop) input = IsWrong stop journal input
+
+-- and requests behind it
+abbrev pub ReadsAsking : Result Asking InputStop → List ℕ → Type 0
+ReadsAsking (Ok said) input =
+    IsJournal said.history.entries (journal_part input) × (requests_said input ≡ Ok said.requests)
+ReadsAsking (Err stop) input = IsWrong stop resuming input

@@ -5,6 +5,7 @@ use Rattle.agent_transaction.specs.Catalogs.{IsCycleTold}
 use Rattle.command_outputs.specs.Nodes.{NodeRefusal, node_meaning}
 use Rattle.command_outputs.specs.Statuses.{manifest_status, check_status, compile_status, sequence_status}
 use Rattle.command_outputs.specs.Statuses.{lookup_status, demo_status, audit_status, migrate_status, IsBatchStatus}
+use Rattle.command_outputs.specs.Statuses.{IsResumeStatus, IsSettleStatus}
 use Rattle.pp_values.specs.declared.place.TheConstants.{MAIN_MANIFEST}
 use Rattle.pp_values.specs.declared.reference.Reference.{Reference}
 use Rattle.res_core.specs.declared.catalog.Catalog.{Catalog}
@@ -18,8 +19,9 @@ use Rattle.site_bundle.specs.declared.limits.TheConstants.{MOST_BUNDLE_BYTES, MO
 use Rattle.site_core.specs.Events.{Event}
 use Rattle.site_words.specs.Asked as a
 use Rattle.site_words.specs.Asked.{Asked}
-use Rattle.site_commands.specs.Inputs.{Reading, nothing, manifest, bundle, folder, journal, Input, none, bytes, site}
-use Rattle.site_commands.specs.Inputs.{history, reading_of, IsSaidBy, IsTooLong, IsWritten}
+use Rattle.site_commands.specs.Inputs.{Reading, nothing, manifest, bundle, folder, journal, resuming, Input, none}
+use Rattle.site_commands.specs.Inputs.{bytes, site, history, asking, reading_of, IsSaidBy, IsTooLong, IsWritten}
+use Rattle.site_commands.specs.JournalParts.{journal_part, requests_said}
 use Rattle.site_commands.specs.World.{World}
 
 -- ---- the input that is told
@@ -40,6 +42,7 @@ input_told manifest before = option_map manifest_of before.source.left
 input_told bundle before = option_map (λ input. site_or (bundle_of input)) before.source.left
 input_told (folder dir) before = option_map (λ files. site_or (end_over files (site_walk dir))) before.folder.told
 input_told journal before = None
+input_told resuming before = None
 
 -- ---- the status by the input
 
@@ -61,12 +64,14 @@ IsWorkStatus status (a.check dir) (site said) = status ≡ check_status said.sit
 IsWorkStatus status (a.compile node dir) (site said) = status ≡ compile_status said.site node
 IsWorkStatus status a.sequence (site said) = status ≡ sequence_status said
 IsWorkStatus status (a.lookup node key merge dir) (site said) = status ≡ lookup_status said.site node key merge
-IsWorkStatus status (a.apply node dir) (site said) = IsApplyStatus status (node_meaning said.site node)
+IsWorkStatus status (a.apply node dir workers) (site said) = IsApplyStatus status (node_meaning said.site node)
 IsWorkStatus status (a.demo nodes) none = status ≡ demo_status nodes
 IsWorkStatus status (a.batch workers) (site said) = IsBatchStatus status
 IsWorkStatus status (a.serve port count dir) (site said) = status ≡ 0
 IsWorkStatus status a.audit (history h) = status ≡ audit_status h
 IsWorkStatus status a.migrate (history h) = status ≡ migrate_status h
+IsWorkStatus status (a.resume workers) (asking h asked) = IsResumeStatus status h
+IsWorkStatus status (a.settle rounds workers) (site said) = IsSettleStatus status
 IsWorkStatus status asked input = ⊥
 
 -- 11 where the input is none of its kind
@@ -74,14 +79,19 @@ abbrev pub IsStatusFor : ℕ → Asked → Result Input Refusal → Type 0
 IsStatusFor status asked (Ok input) = IsWorkStatus status asked input
 IsStatusFor status asked (Err refusal) = status ≡ 11
 
--- the bytes are too many, or no journal, or one of too many entries
+-- the bytes are no journal, or one of too many entries
 abbrev pub IsNoJournal : List ℕ → Type 0
 IsNoJournal said =
-    (MOST_BUNDLE_BYTES < length said)
-    ⊎ (((h : List (Event SiteView)) → IsWritten h said → ⊥) ⊎ ((h : List (Event SiteView)) × IsTooLong h said))
+    ((h : List (Event SiteView)) → IsWritten h said → ⊥) ⊎ ((h : List (Event SiteView)) × IsTooLong h said)
 
+-- the requests behind a journal are none
+abbrev pub IsNoList : List ℕ → Type 0
+IsNoList said = (why : Refusal) × (requests_said said ≡ Err why)
+
+-- the bytes are too many, or don't say what is read
 abbrev pub IsNoneSaid : Reading → List ℕ → Type 0
-IsNoneSaid journal said = IsNoJournal said
+IsNoneSaid journal said = (MOST_BUNDLE_BYTES < length said) ⊎ IsNoJournal said
+IsNoneSaid resuming said = (MOST_BUNDLE_BYTES < length said) ⊎ (IsNoJournal (journal_part said) ⊎ IsNoList said)
 IsNoneSaid reading said = ⊥
 
 -- The status by the bytes of a source that are to say a journal: that of the work on what they say, or 11 where they
@@ -103,5 +113,7 @@ IsSettled status a.audit before =
     IfSome before.source.left (λ said. IsSaidStatus status a.audit said ⊎ IsFaultStatus status)
 IsSettled status a.migrate before =
     IfSome before.source.left (λ said. IsSaidStatus status a.migrate said ⊎ IsFaultStatus status)
+IsSettled status (a.resume workers) before =
+    IfSome before.source.left (λ said. IsSaidStatus status (a.resume workers) said ⊎ IsFaultStatus status)
 IsSettled status asked before =
     IfSome (input_told (reading_of asked) before) (λ input. IsStatusFor status asked input ⊎ IsFaultStatus status)

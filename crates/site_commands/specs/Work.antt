@@ -4,13 +4,15 @@ use Rattle.command_outputs.specs.Journals.{audited_output, migrated_output}
 use Rattle.command_outputs.specs.Lines.{line}
 use Rattle.command_outputs.specs.Outputs.{manifest_output, checked_output, compiled_output, looked_up_output, HasRun}
 use Rattle.command_outputs.specs.Outputs.{HasShared, HasDemonstrated}
+use Rattle.command_outputs.specs.Resuming.{HasResumed}
+use Rattle.command_outputs.specs.Settling.{HasSettled}
 use Rattle.command_outputs.specs.declared.output.Output.{Output}
 use Rattle.command_outputs.specs.declared.output.Output.TheVariants as o
 use Rattle.pp_values.specs.declared.memory.Memory.{Memory}
 use Rattle.site_io.specs.Stream.{Stream, HasWritten}
 use Rattle.site_words.specs.Asked as a
 use Rattle.site_words.specs.Asked.{Asked}
-use Rattle.site_commands.specs.Inputs.{Input, none, bytes, site, history}
+use Rattle.site_commands.specs.Inputs.{Input, none, bytes, site, history, asking}
 use Rattle.site_commands.specs.World.{Says, FailsToSay}
 use Rattle.site_commands.specs.declared.ending.Ending.{Ending}
 use Rattle.site_commands.specs.declared.ending.Ending.TheVariants as e
@@ -26,6 +28,8 @@ IsOutput (a.demo nodes) output none = HasDemonstrated nodes output
 IsOutput (a.batch workers) output (site said) = HasShared workers output said
 IsOutput a.audit output (history h) = output ≡ audited_output h
 IsOutput a.migrate output (history h) = output ≡ migrated_output h
+IsOutput (a.resume workers) output (asking h asked) = HasResumed workers output h asked
+IsOutput (a.settle rounds workers) output (site said) = HasSettled rounds workers output said
 IsOutput asked output input = ⊥
 
 -- an error line alone
@@ -42,6 +46,17 @@ abbrev pub WritesShort : Ending → List ℕ → Stream → Stream → Stream �
 WritesShort e.WriteFault text out out' err err' = FailsToSay text out out' × (err' ≡ err)
 WritesShort ending text out out' err err' = (ending ≡ e.Memory)
     × (HasWritten text out out' × Says (line (codes "memory")) err err')
+
+-- the output was not written whole, and nothing of the line; or it was, and the line was not
+abbrev pub FailsBoth : List ℕ → List ℕ → Stream → Stream → Stream → Stream → Type 0
+FailsBoth text line out out' err err' =
+    (FailsToSay text out out' × (err' ≡ err)) ⊎ (HasWritten text out out' × FailsToSay line err err')
+
+-- the output was written whole, and then the line, and the run ends so; or one of them was not, which is a write fault
+abbrev pub WritesBoth : Ending → Ending → List ℕ → List ℕ → Stream → Stream → Stream → Stream → Type 0
+WritesBoth e.WriteFault whole text line out out' err err' = FailsBoth text line out out' err err'
+WritesBoth ending whole text line out out' err err' = (ending ≡ whole)
+    × (HasWritten text out out' × HasWritten line err err')
 
 -- a log was written whole; where it has no lines, the stream was left alone
 abbrev pub HasLogged : List ℕ → Stream → Stream → Type 0
@@ -61,6 +76,8 @@ abbrev pub Delivers : Ending → Output → Stream → Stream → Stream → Str
 Delivers ending (o.Done text) out out' err err' = WritesOr ending e.Done text out out' × (err' ≡ err)
 Delivers ending (o.Compiled log text) out out' err err' = WritesLogged ending log text out out' err err'
 Delivers ending (o.Refused text) out out' err err' = WritesOr ending e.Refused text out out' × (err' ≡ err)
+Delivers ending (o.Faulty text line) out out' err err' = WritesBoth ending e.Refused text line out out' err err'
+Delivers ending (o.Unsettled text line) out out' err err' = WritesBoth ending e.NotSettled text line out out' err err'
 Delivers ending (o.Short text) out out' err err' = WritesShort ending text out out' err err'
 Delivers ending (o.Fault text) out out' err err' = WritesOr ending e.Refused text err err' × (out' ≡ out)
 Delivers ending (o.BadInput text) out out' err err' = (ending ≡ e.BadInput) × SaysOnly text out out' err err'

@@ -1,11 +1,16 @@
 //! The commands that write texts.
-ghost use Rattle.std.specs.Prelude.{◌≤◌, option_map};
+ghost use Rattle.std.specs.Prelude.{◌≤◌, IfOk, IsTrue, length, option_map};
+ghost use Rattle.command_outputs.specs.Resuming.{HasResumed};
+ghost use Rattle.res_core.specs.AskedFacts.{give_facts};
+ghost use Rattle.site_bundle.specs.declared.limits.TheConstants.{MOST_REQUESTS};
+ghost use Rattle.site_core.specs.declared.history.TheConstants.{MOST_ENTRIES};
 ghost use Rattle.site_words.specs.Asked as asked;
-ghost use Rattle.word_rules.specs.declared.limits.TheConstants.{MOST_WORKERS};
+ghost use Rattle.word_rules.specs.declared.limits.TheConstants.{MOST_ROUNDS, MOST_WORKERS};
 ghost use Rattle.site_commands.specs.Endings.{Ends};
 ghost use Rattle.site_commands.specs.Work.{WritesMade};
 ghost use Rattle.site_commands.specs.World.{world};
 
+use crate::asking_input::{Asking, take_asking};
 use crate::delivering::deliver;
 use crate::ending::Ending;
 use crate::giving_up::{give_up, refuse};
@@ -13,7 +18,7 @@ use crate::input::{take_bundle, take_manifest, take_source};
 use crate::journal_input::take_journal;
 use command_outputs::{
     Output, audit_output, batch_output, check_output, compile_output, demo_output, lookup_output,
-    manifest_output, migrate_output, sequence_output,
+    manifest_output, migrate_output, resume_output, sequence_output, settle_output,
 };
 use hiera_merge::Merge;
 use pp_values::{MAIN_MANIFEST, Memory};
@@ -182,6 +187,74 @@ pub fn run_migrate<S: Source, K: Sink, E: Sink>(
     match take_journal(alloc, source) {
         Ok(history) => write_made(migrate_output(alloc, &history), out, err),
         Err(stop) => give_up(&stop, JOURNAL, err),
+    }
+}
+
+pub fn run_resume<S: Source, K: Sink, E: Sink, G: Gate + Sync, R: Threads + Wait + Sync>(
+    rt: &R,
+    alloc: Global,
+    workers: u32,
+    source: &mut S,
+    out: &mut K,
+    err: &mut E,
+    gate: &G,
+) -> Ending
+    requires some { 1 ≤ workers }
+    requires few { workers ≤ MOST_WORKERS }
+    ensures { (n : _) (f : _) (m : _) → Ends result (asked.resume workers)
+        (world (S.stream source.old) (K.stream out.old) (E.stream err.old) n f m)
+        (world (S.stream source.new) (K.stream out.new) (E.stream err.new) n f m) }
+{
+    match take_asking(alloc, source) {
+        Ok(asking) => write_made(answer_asking(rt, alloc, asking, workers, gate), out, err),
+        Err(stop) => give_up(&stop, JOURNAL, err),
+    }
+}
+
+/// The output to the requests behind a journal.
+fn answer_asking<G: Gate + Sync, R: Threads + Wait + Sync>(
+    rt: &R,
+    alloc: Global,
+    asking: Asking,
+    workers: u32,
+    gate: &G,
+) -> Result<Output, Memory>
+    requires few_entries { length asking.history.entries ≤ MOST_ENTRIES }
+    requires facts { IsTrue (give_facts asking.requests) }
+    requires short { length asking.requests ≤ MOST_REQUESTS }
+    requires some { 1 ≤ workers }
+    requires few { workers ≤ MOST_WORKERS }
+    ensures { IfOk result (λ output. HasResumed workers output asking.history.entries asking.requests) }
+{
+    let Asking { history, requests } = asking;
+    resume_output(rt, alloc, history, &requests, workers, gate)
+}
+
+pub fn run_settle<S: Source, K: Sink, E: Sink, G: Gate + Sync, R: Threads + Wait + Sync>(
+    rt: &R,
+    alloc: Global,
+    rounds: u32,
+    workers: u32,
+    source: &mut S,
+    out: &mut K,
+    err: &mut E,
+    gate: &G,
+) -> Ending
+    requires once { 1 ≤ rounds }
+    requires bounded { rounds ≤ MOST_ROUNDS }
+    requires some { 1 ≤ workers }
+    requires few { workers ≤ MOST_WORKERS }
+    ensures { (n : _) (f : _) (m : _) → Ends result (asked.settle rounds workers)
+        (world (S.stream source.old) (K.stream out.old) (E.stream err.old) n f m)
+        (world (S.stream source.new) (K.stream out.new) (E.stream err.new) n f m) }
+{
+    match take_source(alloc, source) {
+        Ok(bundle) => write_made(
+            settle_output(rt, alloc, bundle, rounds, workers, gate),
+            out,
+            err,
+        ),
+        Err(stop) => give_up(&stop, BUNDLE, err),
     }
 }
 

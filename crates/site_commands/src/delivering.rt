@@ -1,6 +1,7 @@
 //! Output on its way out.
 ghost use Rattle.std.specs.Prelude.{◌≡◌, OnOk, OnErr};
-ghost use Rattle.site_commands.specs.Work.{Delivers, HasLogged, WritesLogged};
+ghost use Rattle.site_io.specs.Stream.{HasWritten};
+ghost use Rattle.site_commands.specs.Work.{Delivers, FailsBoth, HasLogged, WritesLogged};
 ghost use Rattle.site_commands.specs.World.{FailsToSay};
 
 use crate::ending::Ending;
@@ -21,6 +22,14 @@ pub fn deliver<K: Sink, E: Sink>(output: &Output, out: &mut K, err: &mut E) -> E
         Output::Compiled { log, text } => deliver_compiled(log, text, out, err),
         Output::Refused(text) => match write_all(out, text.as_str().as_bytes()) {
             Ok(()) => Ending::Refused,
+            Err(_) => Ending::WriteFault,
+        },
+        Output::Faulty { text, line } => match write_both(text, line, out, err) {
+            Ok(()) => Ending::Refused,
+            Err(_) => Ending::WriteFault,
+        },
+        Output::Unsettled { text, line } => match write_both(text, line, out, err) {
+            Ok(()) => Ending::NotSettled,
             Err(_) => Ending::WriteFault,
         },
         Output::Short(text) => match write_all(out, text.as_str().as_bytes()) {
@@ -46,6 +55,27 @@ fn deliver_compiled<K: Sink, E: Sink>(log: &Text, text: &Text, out: &mut K, err:
             Err(_) => Ending::WriteFault,
         },
         Err(_) => Ending::WriteFault,
+    }
+}
+
+/// Writes the output, and then a line to the error stream, which is not begun where the output can't be written.
+fn write_both<K: Sink, E: Sink>(
+    text: &Text,
+    line: &Text,
+    out: &mut K,
+    err: &mut E,
+) -> Result<(), WriteFault>
+    ensures all { OnOk result (HasWritten text.now (K.stream out.old) (K.stream out.new)
+        × HasWritten line.now (E.stream err.old) (E.stream err.new)) }
+    ensures part { OnErr result (FailsBoth text.now line.now (K.stream out.old) (K.stream out.new) (E.stream err.old)
+        (E.stream err.new)) }
+{
+    match write_all(out, text.as_str().as_bytes()) {
+        Ok(()) => match write_all(err, line.as_str().as_bytes()) {
+            Ok(()) => Ok(()),
+            Err(fault) => Err(fault),
+        },
+        Err(fault) => Err(fault),
     }
 }
 

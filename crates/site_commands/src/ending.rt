@@ -38,6 +38,9 @@ pub enum Ending {
     TreeFault,
 
     Memory,
+
+    /// What the nodes of a site export has not settled in the rounds that were allowed.
+    NotSettled,
 }
 
 impl Ending {
@@ -58,6 +61,7 @@ impl Ending {
             Ending::NetFault => 14,
             Ending::TreeFault => 15,
             Ending::Memory => 16,
+            Ending::NotSettled => 17,
         }
     }
 }

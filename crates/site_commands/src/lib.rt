@@ -2,6 +2,7 @@
 #![tactic(auto)]
 
 mod applying;
+pub mod asking_input;
 mod commands;
 mod delivering;
 mod end_lines;
@@ -9,6 +10,7 @@ pub mod ending;
 mod giving_up;
 pub mod input;
 mod journal_input;
+mod journal_parts;
 pub mod program;
 mod running;
 mod say;

@@ -8,7 +8,7 @@ ghost use Rattle.site_commands.specs.World.{world, Says};
 use crate::ending::Ending;
 use crate::giving_up::refuse;
 use crate::site::site_main;
-use agent_machine::Machine;
+use agent_machine::WideMachine;
 use site_io::{Gate, Listener, Sink, Source, Tree};
 use std::alloc::Global;
 use std::io;
@@ -26,7 +26,7 @@ pub fn run_program<
     E: Sink,
     N: Listener,
     T: Tree,
-    M: Machine,
+    M: WideMachine,
     G: Gate + Sync,
     R: Threads + Wait + Sync,
 >(
@@ -43,11 +43,12 @@ pub fn run_program<
 ) -> ExitCode
 where
     N::Conn: Send + Drop,
+    M::Part: Drop + 'static,
     ensures { HasRunOn (exit_status result) line
         (world (S.stream source.old) (K.stream out.old) (E.stream err.old) (N.net net.old) (T.folder tree.old)
-        (M.state machine.old))
+        (M.Machine.state machine.old))
         (world (S.stream source.new) (K.stream out.new) (E.stream err.new) (N.net net.new) (T.folder tree.new)
-        (M.state machine.new)) }
+        (M.Machine.state machine.new)) }
 {
     let status = match line {
         Ok(line) => {

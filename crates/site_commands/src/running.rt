@@ -7,11 +7,11 @@ ghost use Rattle.site_commands.specs.World.{world};
 use crate::applying::run_apply;
 use crate::commands::{
     run_audit, run_batch, run_check, run_compile, run_demo, run_lookup, run_manifest, run_migrate,
-    run_sequence,
+    run_resume, run_sequence, run_settle,
 };
 use crate::ending::Ending;
 use crate::serving::run_serve;
-use agent_machine::Machine;
+use agent_machine::WideMachine;
 use site_io::{Gate, Listener, Sink, Source, Tree};
 use site_words::Command;
 use std::alloc::Global;
@@ -19,7 +19,8 @@ use std::sync::Wait;
 use std::thread::Threads;
 
 /// Runs a command that waits for nobody.
-pub fn run_plain<S: Source, K: Sink, E: Sink, T: Tree, M: Machine>(
+pub fn run_plain<S: Source, K: Sink, E: Sink, T: Tree, M: WideMachine, R: Threads>(
+    rt: &R,
     alloc: Global,
     command: Command<'_>,
     source: &mut S,
@@ -28,10 +29,15 @@ pub fn run_plain<S: Source, K: Sink, E: Sink, T: Tree, M: Machine>(
     tree: &mut T,
     machine: &mut M,
 ) -> Ending
-    requires { IsPlain (asked_by command) }
+where
+    M::Part: Drop + 'static,
+    requires plain { IsPlain (asked_by command) }
+    requires within { IsWithin (asked_by command) }
     ensures { (n : _) → Ends result (asked_by command.entry)
-        (world (S.stream source.old) (K.stream out.old) (E.stream err.old) n (T.folder tree.old) (M.state machine.old))
-        (world (S.stream source.new) (K.stream out.new) (E.stream err.new) n (T.folder tree.new) (M.state machine.new)) }
+        (world (S.stream source.old) (K.stream out.old) (E.stream err.old) n (T.folder tree.old)
+        (M.Machine.state machine.old))
+        (world (S.stream source.new) (K.stream out.new) (E.stream err.new) n (T.folder tree.new)
+        (M.Machine.state machine.new)) }
 {
     match command {
         Command::Manifest { node } => run_manifest(alloc, node, source, out, err),
@@ -44,13 +50,16 @@ pub fn run_plain<S: Source, K: Sink, E: Sink, T: Tree, M: Machine>(
             merge,
             dir,
         } => run_lookup(alloc, node, key, merge, dir, source, out, err, tree),
-        Command::Apply { node, dir } => {
-            run_apply(alloc, node, dir, source, out, err, tree, machine)
-        }
+        Command::Apply { node, dir, workers } => run_apply(
+            rt, alloc, node, dir, workers, source, out, err, tree, machine,
+        ),
         Command::Demo { nodes } => run_demo(alloc, nodes, out, err),
         Command::Audit => run_audit(alloc, source, out, err),
         Command::Migrate => run_migrate(alloc, source, out, err),
-        Command::Batch { .. } | Command::Serve { .. } => unreachable!(),
+        Command::Batch { .. }
+        | Command::Serve { .. }
+        | Command::Resume { .. }
+        | Command::Settle { .. } => unreachable!(),
     }
 }
 
@@ -86,6 +95,10 @@ where
         Command::Batch { workers } => run_batch(rt, alloc, workers, source, out, err, gate),
         Command::Serve { port, count, dir } => {
             run_serve(rt, alloc, port, count, dir, out, err, net, tree, gate)
+        }
+        Command::Resume { workers } => run_resume(rt, alloc, workers, source, out, err, gate),
+        Command::Settle { rounds, workers } => {
+            run_settle(rt, alloc, rounds, workers, source, out, err, gate)
         }
         Command::Manifest { .. }
         | Command::Check { .. }

@@ -11,7 +11,7 @@ ghost use Rattle.site_commands.specs.World.{world};
 use crate::ending::Ending;
 use crate::giving_up::{refuse, refuse_word};
 use crate::running::{run_plain, run_shared};
-use agent_machine::Machine;
+use agent_machine::WideMachine;
 use site_io::{Gate, Listener, Sink, Source, Tree};
 use site_words::{Command, WordStop, read_words};
 use std::alloc::Global;
@@ -25,7 +25,9 @@ use std::thread::Threads;
 /// | 0 | the command did its work, and no row below holds | of `manifest`, `compile` and `apply` the log |
 /// | 1 | the node has no catalog, the data have no value, or the site does not list the node | why |
 /// | 1 | `check` found a fault, or a reply of `sequence` or `batch` is a refusal | none |
-/// | 1 | `audit` found a history that is not legal | none |
+/// | 1 | `audit` found a history that is not legal, or a reply of `resume` is a refusal | none |
+/// | 1 | the history that `resume` reads is not legal, or its greatest author is too great | why |
+/// | 1 | a round of `settle` had a compile that was refused, or met a full history | why |
 /// | 2, 4, 6 | `apply`: something changed, failed, both | the log |
 /// | 10 | the words are faulty | what `clap` says, or `bad word WORD` |
 /// | 11 | the input is not what the command reads | `B1`, `B2 PATH`, `B3 PATH`, or `bad line N` of a journal |
@@ -34,6 +36,7 @@ use std::thread::Threads;
 /// | 14 | the listener failed | `net fault` |
 /// | 15 | the tree of files failed | `tree fault PATH` |
 /// | 16 | want of memory, in the program or in a reply that was written | `memory` |
+/// | 17 | the last round of `settle` still changed what a node exports | its sets before and after |
 ///
 /// The first that is met decides, in the order: words (10), input (12, 15, 11), work, output (13). An error line of
 /// statuses 10, 11, 12, 15 and 16 that can't be written changes no status.
@@ -43,7 +46,7 @@ pub fn site_main<
     E: Sink,
     N: Listener,
     T: Tree,
-    M: Machine,
+    M: WideMachine,
     G: Gate + Sync,
     R: Threads + Wait + Sync,
 >(
@@ -60,12 +63,13 @@ pub fn site_main<
 ) -> u8
 where
     N::Conn: Send + Drop,
+    M::Part: Drop + 'static,
     // What each status means: what was asked, what was read, what was done and what was written.
     ensures ended { HasEnded result (asked_of (texts_of words.now))
         (world (S.stream source.old) (K.stream out.old) (E.stream err.old) (N.net net.old) (T.folder tree.old)
-        (M.state machine.old))
+        (M.Machine.state machine.old))
         (world (S.stream source.new) (K.stream out.new) (E.stream err.new) (N.net net.new) (T.folder tree.new)
-        (M.state machine.new)) }
+        (M.Machine.state machine.new)) }
 
     // Faulty words are told exactly, but for want of memory; and where source and tree tell what they have, so is every
     // other status.
@@ -73,7 +77,7 @@ where
     ensures faulty { IsComplaint (asked_of (texts_of words.now)) → (result ≡ 10) ⊎ (result ≡ 16) }
     ensures settled { IsSettled result (asked_of (texts_of words.now))
         (world (S.stream source.old) (K.stream out.old) (E.stream err.old) (N.net net.old) (T.folder tree.old)
-        (M.state machine.old)) }
+        (M.Machine.state machine.old)) }
     ensures statuses { IsStatus result }
 
     // Faults of the outside are answered only where its counts rose.
@@ -92,7 +96,7 @@ fn run<
     E: Sink,
     N: Listener,
     T: Tree,
-    M: Machine,
+    M: WideMachine,
     G: Gate + Sync,
     R: Threads + Wait + Sync,
 >(
@@ -109,11 +113,12 @@ fn run<
 ) -> u8
 where
     N::Conn: Send + Drop,
+    M::Part: Drop + 'static,
     ensures { HasEnded result (asked_of (texts_of words.now))
         (world (S.stream source.old) (K.stream out.old) (E.stream err.old) (N.net net.old) (T.folder tree.old)
-        (M.state machine.old))
+        (M.Machine.state machine.old))
         (world (S.stream source.new) (K.stream out.new) (E.stream err.new) (N.net net.new) (T.folder tree.new)
-        (M.state machine.new)) }
+        (M.Machine.state machine.new)) }
 {
     match read_words(alloc, words) {
         Ok(command) => {
@@ -142,7 +147,7 @@ fn run_command<
     E: Sink,
     N: Listener,
     T: Tree,
-    M: Machine,
+    M: WideMachine,
     G: Gate + Sync,
     R: Threads + Wait + Sync,
 >(
@@ -159,15 +164,19 @@ fn run_command<
 ) -> u8
 where
     N::Conn: Send + Drop,
+    M::Part: Drop + 'static,
     requires { IsWithin (asked_by command) }
     ensures { HasEnded result (asked_by command.entry)
         (world (S.stream source.old) (K.stream out.old) (E.stream err.old) (N.net net.old) (T.folder tree.old)
-        (M.state machine.old))
+        (M.Machine.state machine.old))
         (world (S.stream source.new) (K.stream out.new) (E.stream err.new) (N.net net.new) (T.folder tree.new)
-        (M.state machine.new)) }
+        (M.Machine.state machine.new)) }
 {
     match command {
-        Command::Batch { .. } | Command::Serve { .. } => {
+        Command::Batch { .. }
+        | Command::Serve { .. }
+        | Command::Resume { .. }
+        | Command::Settle { .. } => {
             shared_command(
                 rt, alloc, command, source, out, err, net, tree, machine, gate,
             )
@@ -181,13 +190,25 @@ where
         | Command::Demo { .. }
         | Command::Audit
         | Command::Migrate => {
-            plain_command(alloc, command, source, out, err, net, tree, machine, gate)
+            plain_command(
+                rt, alloc, command, source, out, err, net, tree, machine, gate,
+            )
         }
     }
 }
 
 /// Runs a command that waits for nobody.
-pub fn plain_command<S: Source, K: Sink, E: Sink, N: Listener, T: Tree, M: Machine, G: Gate>(
+pub fn plain_command<
+    S: Source,
+    K: Sink,
+    E: Sink,
+    N: Listener,
+    T: Tree,
+    M: WideMachine,
+    G: Gate,
+    R: Threads,
+>(
+    rt: &R,
     alloc: Global,
     command: Command<'_>,
     source: &mut S,
@@ -198,14 +219,17 @@ pub fn plain_command<S: Source, K: Sink, E: Sink, N: Listener, T: Tree, M: Machi
     machine: &mut M,
     _gate: &G,
 ) -> u8
-    requires { IsPlain (asked_by command) }
+where
+    M::Part: Drop + 'static,
+    requires plain { IsPlain (asked_by command) }
+    requires within { IsWithin (asked_by command) }
     ensures { HasEnded result (asked_by command.entry)
         (world (S.stream source.old) (K.stream out.old) (E.stream err.old) (N.net _net.old) (T.folder tree.old)
-        (M.state machine.old))
+        (M.Machine.state machine.old))
         (world (S.stream source.new) (K.stream out.new) (E.stream err.new) (N.net _net.new) (T.folder tree.new)
-        (M.state machine.new)) }
+        (M.Machine.state machine.new)) }
 {
-    run_plain(alloc, command, source, out, err, tree, machine).status()
+    run_plain(rt, alloc, command, source, out, err, tree, machine).status()
 }
 
 /// Runs a command that may wait, for threads of its own and for what the gate waits for.
@@ -215,7 +239,7 @@ pub fn shared_command<
     E: Sink,
     N: Listener,
     T: Tree,
-    M: Machine,
+    M: WideMachine,
     G: Gate + Sync,
     R: Threads + Wait + Sync,
 >(
@@ -232,13 +256,14 @@ pub fn shared_command<
 ) -> u8
 where
     N::Conn: Send + Drop,
+    M::Part: Drop + 'static,
     requires shared { IsShared (asked_by command) }
     requires within { IsWithin (asked_by command) }
     ensures { HasEnded result (asked_by command.entry)
         (world (S.stream source.old) (K.stream out.old) (E.stream err.old) (N.net net.old) (T.folder tree.old)
-        (M.state _machine.old))
+        (M.Machine.state _machine.old))
         (world (S.stream source.new) (K.stream out.new) (E.stream err.new) (N.net net.new) (T.folder tree.new)
-        (M.state _machine.new)) }
+        (M.Machine.state _machine.new)) }
 {
     run_shared(rt, alloc, command, source, out, err, net, tree, gate).status()
 }

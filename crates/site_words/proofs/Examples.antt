@@ -6,8 +6,8 @@ use Rattle.clap.specs.Faults.{fault_of}
 use Rattle.clap.specs.declared.error.kind.ErrorKind.TheVariants as kind
 use Rattle.clap.proofs.OnLiterals.{clap_on_literals}
 use Rattle.hiera_merge.specs.declared.merge.Merge.TheVariants as by
-use Rattle.site_words.specs.Asked.{asked_of, manifest, check, compile, sequence, lookup, apply, demo, batch, serve, audit, migrate, refused, bad_word}
-use Rattle.site_words.specs.CommandLine.{reading_line, bundle_line, served_line, command_line}
+use Rattle.site_words.specs.Asked.{asked_of, manifest, check, compile, sequence, lookup, apply, demo, batch, serve, audit, migrate, resume, settle, refused, bad_word}
+use Rattle.site_words.specs.CommandLine.{reading_line, bundle_line, served_line, journal_line, command_line}
 
 -- a line of one, two or more words
 abbrev one : Text → List Text
@@ -28,14 +28,16 @@ commands : (asked_of (two (codes "manifest") (codes "web-1.example_0")) ≡ mani
     × (asked_of (one (codes "check")) ≡ check None)
     × (asked_of (two (codes "compile") (codes "n")) ≡ compile (codes "n") None)
     × (asked_of (three (codes "lookup") (codes "n") (codes "a::b")) ≡ lookup (codes "n") (codes "a::b") None None)
-    × (asked_of (two (codes "apply") (codes "n")) ≡ apply (codes "n") None)
+    × (asked_of (two (codes "apply") (codes "n")) ≡ apply (codes "n") None None)
     × (asked_of (two (codes "demo") (codes "4096")) ≡ demo 4096)
     × (asked_of (one (codes "batch")) ≡ batch 1)
     × (asked_of (codes "serve" ∷ codes "8080" ∷ codes "3" ∷ codes "--dir" ∷ codes "d" ∷ []) ≡ serve 8080 3 (codes "d"))
     × (asked_of (one (codes "audit")) ≡ audit)
     × (asked_of (one (codes "migrate")) ≡ migrate)
-unfolding reading_line bundle_line served_line command_line clap_on_literals
-commands = (refl, refl, refl, refl, refl, refl, refl, refl, refl, refl, refl)
+    × (asked_of (one (codes "resume")) ≡ resume 1)
+    × (asked_of (two (codes "settle") (codes "100")) ≡ settle 100 1)
+unfolding reading_line bundle_line served_line journal_line command_line clap_on_literals
+commands = (refl, refl, refl, refl, refl, refl, refl, refl, refl, refl, refl, refl, refl)
 
 -- options stand anywhere behind the command, as two words or as one
 options : (asked_of (lookup_with (codes "--merge" ∷ codes "deep" ∷ [])) ≡ lookup (codes "n") (codes "k") (Some by.Deep) None)
@@ -47,8 +49,13 @@ options : (asked_of (lookup_with (codes "--merge" ∷ codes "deep" ∷ [])) ≡ 
     × (asked_of (two (codes "check") (codes "--dir=-x")) ≡ check (Some (codes "-x")))
     × (asked_of (two (codes "check") (codes "--dir=")) ≡ check (Some []))
     × (asked_of (two (codes "batch") (codes "--workers=64")) ≡ batch 64)
-unfolding reading_line bundle_line served_line command_line clap_on_literals
-options = (refl, refl, refl, refl, refl, refl, refl)
+    × (asked_of (three (codes "apply") (codes "n") (codes "--workers=1")) ≡ apply (codes "n") None (Some 1))
+    × (asked_of (codes "apply" ∷ codes "--workers" ∷ codes "64" ∷ codes "--dir=d" ∷ codes "n" ∷ [])
+    ≡ apply (codes "n") (Some (codes "d")) (Some 64))
+    × (asked_of (three (codes "resume") (codes "--workers") (codes "8")) ≡ resume 8)
+    × (asked_of (three (codes "settle") (codes "--workers=2") (codes "1")) ≡ settle 1 2)
+unfolding reading_line bundle_line served_line journal_line command_line clap_on_literals
+options = (refl, refl, refl, refl, refl, refl, refl, refl, refl, refl, refl)
 
 -- behind `--` every word is positional, and `-` is one everywhere
 positional_words : (asked_of (codes "lookup" ∷ codes "--" ∷ codes "n" ∷ codes "--merge" ∷ [])
@@ -58,7 +65,7 @@ positional_words : (asked_of (codes "lookup" ∷ codes "--" ∷ codes "n" ∷ co
     ≡ lookup (codes "-n") (codes "-k") (Some by.Hash) None)
     × (asked_of (two (codes "manifest") (codes "--")) ≡ refused)
     × (asked_of (codes "check" ∷ codes "--" ∷ codes "--dir" ∷ codes "d" ∷ []) ≡ refused)
-unfolding reading_line bundle_line served_line command_line clap_on_literals
+unfolding reading_line bundle_line served_line journal_line command_line clap_on_literals
 positional_words = (refl, refl, refl, refl, refl)
 
 -- what `clap` refuses
@@ -82,8 +89,14 @@ refusals : (fault_of command_line [] ≡ kind.MissingSubcommand ∷ [])
     × (fault_of command_line (two (codes "sequence") (codes "--workers=2")) ≡ kind.UnknownArgument ∷ [])
     × (fault_of command_line (two (codes "audit") (codes "--workers=2")) ≡ kind.UnknownArgument ∷ [])
     × (fault_of command_line (two (codes "migrate") (codes "--dir=d")) ≡ kind.UnknownArgument ∷ [])
-unfolding reading_line bundle_line served_line command_line clap_on_literals
+    × (fault_of command_line (one (codes "settle")) ≡ kind.MissingRequiredArgument ∷ [])
+    × (fault_of command_line (codes "resume" ∷ codes "--workers=1" ∷ codes "--workers=1" ∷ []) ≡ kind.ArgumentConflict ∷ [])
+    × (fault_of command_line (three (codes "resume") (codes "--dir") (codes "d")) ≡ kind.UnknownArgument ∷ [])
+unfolding reading_line bundle_line served_line journal_line command_line clap_on_literals
 refusals = (
+  refl,
+  refl,
+  refl,
   refl,
   refl,
   refl,
@@ -122,5 +135,35 @@ bad_words : (asked_of (two (codes "manifest") (codes "Web")) ≡ bad_word (codes
     × (asked_of (two (codes "batch") (codes "--workers=+4")) ≡ bad_word (codes "+4"))
     × (asked_of (codes "serve" ∷ codes "65536" ∷ codes "0" ∷ codes "--dir=d" ∷ []) ≡ bad_word (codes "65536"))
     × (asked_of (codes "serve" ∷ codes "65535" ∷ codes "1025" ∷ codes "--dir=d" ∷ []) ≡ bad_word (codes "1025"))
-unfolding reading_line bundle_line served_line command_line clap_on_literals
-bad_words = (refl, refl, refl, refl, refl, refl, refl, refl, refl, refl, refl, refl, refl, refl, refl)
+    × (asked_of (three (codes "apply") (codes "n") (codes "--workers=0")) ≡ bad_word (codes "0"))
+    × (asked_of (three (codes "apply") (codes "N") (codes "--workers=0")) ≡ bad_word (codes "N"))
+    × (asked_of (two (codes "resume") (codes "--workers=65")) ≡ bad_word (codes "65"))
+    × (asked_of (two (codes "settle") (codes "101")) ≡ bad_word (codes "101"))
+    × (asked_of (three (codes "settle") (codes "--workers=0") (codes "0")) ≡ bad_word (codes "0"))
+    × (asked_of (three (codes "settle") (codes "--workers=x") (codes "07")) ≡ bad_word (codes "07"))
+    × (asked_of (three (codes "settle") (codes "--workers=x") (codes "7")) ≡ bad_word (codes "x"))
+unfolding reading_line bundle_line served_line journal_line command_line clap_on_literals
+bad_words = (
+  refl,
+  refl,
+  refl,
+  refl,
+  refl,
+  refl,
+  refl,
+  refl,
+  refl,
+  refl,
+  refl,
+  refl,
+  refl,
+  refl,
+  refl,
+  refl,
+  refl,
+  refl,
+  refl,
+  refl,
+  refl,
+  refl,
+)

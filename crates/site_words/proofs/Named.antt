@@ -7,7 +7,7 @@ use Rattle.clap.specs.Walk.{Held, Names, Row, Text, finished, nothing_held, sett
 use Rattle.clap.specs.Takes.{is_given}
 use Rattle.clap.specs.Simple.{Shape, argument_words, built, names_of, subcommand_of}
 use Rattle.clap.specs.Faults.{check_fault, defaults_fault, entered_fault, fault_of, level_fault, settle_fault, walk_fault}
-use Rattle.site_words.specs.CommandLine.{reading_line, bundle_line, served_line, command_line}
+use Rattle.site_words.specs.CommandLine.{reading_line, bundle_line, served_line, journal_line, command_line}
 
 later : (first rest : Kinds) → or_else first rest ≡ [] → rest ≡ []
 later [] rest none = none
@@ -21,7 +21,8 @@ wanted false false missing is none = cc
 unnamed : (s : Shape) (rows : List Row) → s.subcommand_required ≡ true → check_fault s rows false ≡ [] → ⊥
 unnamed s rows required none =
     wanted (s.arg_required_else_help && not (list_any (λ r. explicit_source r.source) rows)) s.subcommand_required
-    (not (s.subcommand_negates_reqs && false) && list_any (λ a. a.required && not (is_given a.id rows)) s.rules) required none
+    (not (s.subcommand_negates_reqs && false) && list_any (λ a. a.required && not (is_given a.id rows)) s.rules)
+    required none
 
 level_named : (s : Shape) (names : Names) (h : Held) (words : List Text) (has : Bool) (below : Kinds)
     → s.subcommand_required ≡ true → level_fault s names h words has below ≡ [] → has ≡ true
@@ -36,8 +37,9 @@ level_named s names h words false below required none =
     (later (settle_fault s.rules s.args_override_self end) defaults
     (later below settles (later (walk_fault s names (walk_from h) words) (or_else below settles) none)))))
 
-pub a_command_is_named : (words : List Text) → fault_of command_line words ≡ [] → is_some (subcommand_of command_line words) ≡ true
-unfolding reading_line bundle_line served_line command_line
+pub a_command_is_named : (words : List Text) → fault_of command_line words ≡ [] →
+    is_some (subcommand_of command_line words) ≡ true
+unfolding reading_line bundle_line served_line journal_line command_line
 a_command_is_named words none =
     let line = built command_line in
     let behind = argument_words command_line words in

@@ -14,14 +14,14 @@ use Rattle.site_words.specs.Said.{Said}
 use Rattle.site_words.specs.Reading.{IsParsedAs, IsRefusal, Reads}
 use Rattle.site_words.specs.declared.word_stop.WordStop.{WordStop}
 use Rattle.site_words.specs.declared.word_stop.WordStop.TheVariants as stop
-use Rattle.site_words.specs.CommandLine.{reading_line, bundle_line, served_line, command_line}
+use Rattle.site_words.specs.CommandLine.{reading_line, bundle_line, served_line, journal_line, command_line}
 
 pub command_line_is_simple : is_simple_and_free command_line ≡ true
-unfolding reading_line bundle_line served_line command_line
+unfolding reading_line bundle_line served_line journal_line command_line
 command_line_is_simple = refl
 
 is_simple_line : is_simple command_line ≡ true
-unfolding reading_line bundle_line served_line command_line
+unfolding reading_line bundle_line served_line journal_line command_line
 is_simple_line = refl
 
 -- what a parse by this command line says of the words that it takes

@@ -1,12 +1,14 @@
 -- What the words of a command line ask for.
-use Rattle.std.specs.Prelude.{ℕ, ◌≤◌, if◌then◌else◌, codes, List, [], ◌∷◌, Option, Some, None, Result, Ok, Err}
+use Rattle.std.specs.Prelude.{ℕ, ◌≤◌, if◌then◌else◌, codes, List, [], ◌∷◌, Option, Some, None, Result, Ok, Err, IfSome}
 use Rattle.std.specs.Str.{bytes_eq}
 use Rattle.clap.specs.Words.{Kinds, Row, Text, fault_of, subcommand_of}
 use Rattle.hiera_merge.specs.declared.merge.Merge.{Merge}
-use Rattle.word_rules.specs.declared.limits.TheConstants.{MOST_CONNECTIONS, MOST_DEMO_NODES, MOST_PORT, MOST_WORKERS}
+use Rattle.word_rules.specs.declared.limits.TheConstants.{MOST_CONNECTIONS, MOST_DEMO_NODES, MOST_PORT, MOST_ROUNDS}
+use Rattle.word_rules.specs.declared.limits.TheConstants.{MOST_WORKERS}
 use Rattle.site_words.specs.CommandLine.{command_line}
-use Rattle.site_words.specs.Said.{Said, ◌>>=◌, word_of, node_in, key_in, number_in, merge_in, workers_in, dir_in}
-use Rattle.site_words.specs.declared.ids.TheConstants.{NODES, PORT, COUNT, DIR}
+use Rattle.site_words.specs.Said.{Said, ◌>>=◌, word_of, node_in, key_in, number_in, merge_in, workers_in}
+use Rattle.site_words.specs.Said.{given_workers_in, dir_in}
+use Rattle.site_words.specs.declared.ids.TheConstants.{NODES, ROUNDS, PORT, COUNT, DIR}
 
 pub data Asked : Type 0 where
   -- the catalog of this node under the manifest that comes in
@@ -19,8 +21,8 @@ pub data Asked : Type 0 where
   sequence : Asked
   -- the value that the data of a bundle, or of this folder, have for a node and a key, by this merge where one is given
   lookup : Text → Text → Option Merge → Option Text → Asked
-  -- a run of this node's catalog on a machine
-  apply : Text → Option Text → Asked
+  -- a run of this node's catalog on a machine; by this many workers, where they are said
+  apply : Text → Option Text → Option ℕ → Asked
   -- what a run of the demo site with this many nodes comes to
   demo : ℕ → Asked
   -- the history and the replies of a bundle's requests, by this many workers
@@ -31,6 +33,10 @@ pub data Asked : Type 0 where
   audit : Asked
   -- a journal, in the version that is written today
   migrate : Asked
+  -- the history and the replies of requests over the history of a journal, by this many workers
+  resume : ℕ → Asked
+  -- whether what the nodes of a bundle export settles in so many rounds, by this many workers
+  settle : ℕ → ℕ → Asked
   -- the words are those of no command
   refused : Asked
   -- this word is the first that breaks the rule of its place: positional words in their order, and then options
@@ -61,7 +67,8 @@ lookup_in rows = do
 abbrev pub apply_in : List Row → Said Asked
 apply_in rows = do
   node ← node_in rows
-  Ok (apply node (dir_in rows))
+  workers ← given_workers_in rows
+  Ok (apply node (dir_in rows) workers)
 
 abbrev pub demo_in : List Row → Said Asked
 demo_in rows = do
@@ -79,6 +86,17 @@ serve_in rows = do
   count ← number_in COUNT.now MOST_CONNECTIONS rows
   Ok (serve port count (word_of DIR.now rows))
 
+abbrev pub resume_in : List Row → Said Asked
+resume_in rows = do
+  workers ← workers_in rows
+  Ok (resume workers)
+
+abbrev pub settle_in : List Row → Said Asked
+settle_in rows = do
+  rounds ← number_in ROUNDS.now MOST_ROUNDS rows
+  workers ← workers_in rows
+  Ok (settle rounds workers)
+
 -- ---- all of them
 
 abbrev pub asked_under : Text → List Row → Said Asked
@@ -94,6 +112,8 @@ asked_under name rows =
     else if bytes_eq name (codes "serve") then serve_in rows
     else if bytes_eq name (codes "audit") then Ok audit
     else if bytes_eq name (codes "migrate") then Ok migrate
+    else if bytes_eq name (codes "resume") then resume_in rows
+    else if bytes_eq name (codes "settle") then settle_in rows
     else Err name
 
 -- `clap` refuses words that name no command (`a_command_is_named`)
@@ -115,7 +135,10 @@ asked_of words = unless_refused (fault_of command_line words) (asked_in (subcomm
 
 -- the numbers are within their limits
 abbrev pub IsWithin : Asked → Type 0
+IsWithin (apply node dir workers) = IfSome workers (λ n. (1 ≤ n) × (n ≤ MOST_WORKERS))
 IsWithin (demo nodes) = (1 ≤ nodes) × (nodes ≤ MOST_DEMO_NODES)
 IsWithin (batch workers) = (1 ≤ workers) × (workers ≤ MOST_WORKERS)
 IsWithin (serve port count dir) = (1 ≤ port) × (port ≤ MOST_PORT) × (1 ≤ count) × (count ≤ MOST_CONNECTIONS)
+IsWithin (resume workers) = (1 ≤ workers) × (workers ≤ MOST_WORKERS)
+IsWithin (settle rounds workers) = (1 ≤ rounds) × (rounds ≤ MOST_ROUNDS) × (1 ≤ workers) × (workers ≤ MOST_WORKERS)
 IsWithin asked = Unit {0}

@@ -3,7 +3,7 @@
 use Rattle.std.specs.Prelude.{List, ℕ, Option, Some, true, codes}
 use Rattle.clap.specs.Words.{App, Rule, Shape, Text, new_app, new_rule, with_rule, with_subcommand}
 use Rattle.clap.specs.declared.builder.action.ArgAction.TheVariants.{Set}
-use Rattle.site_words.specs.declared.ids.TheConstants.{NODE, KEY, NODES, PORT, COUNT, MERGE, DIR, WORKERS}
+use Rattle.site_words.specs.declared.ids.TheConstants.{NODE, KEY, NODES, ROUNDS, PORT, COUNT, MERGE, DIR, WORKERS}
 
 -- a positional word; it has to be there
 abbrev pub positional : Text → Rule
@@ -35,7 +35,8 @@ lookup_line =
     (optional MERGE.now)) (optional DIR.now)
 
 abbrev pub apply_line : App
-apply_line = with_rule (with_rule (new_app (codes "apply")) (positional NODE.now)) (optional DIR.now)
+apply_line = with_rule (with_rule (with_rule (new_app (codes "apply")) (positional NODE.now)) (optional DIR.now))
+    (optional WORKERS.now)
 
 abbrev pub demo_line : App
 demo_line = with_rule (new_app (codes "demo")) (positional NODES.now)
@@ -53,6 +54,12 @@ audit_line = new_app (codes "audit")
 
 abbrev pub migrate_line : App
 migrate_line = new_app (codes "migrate")
+
+abbrev pub resume_line : App
+resume_line = with_rule (new_app (codes "resume")) (optional WORKERS.now)
+
+abbrev pub settle_line : App
+settle_line = with_rule (with_rule (new_app (codes "settle")) (positional ROUNDS.now)) (optional WORKERS.now)
 
 -- the words come without the program's name, and the first of them names a command
 abbrev pub bare_line : App
@@ -74,5 +81,8 @@ bundle_line = with_three reading_line sequence_line lookup_line apply_line
 unfoldable pub served_line : App
 served_line = with_three bundle_line demo_line batch_line serve_line
 
+unfoldable pub journal_line : App
+journal_line = with_three served_line audit_line migrate_line resume_line
+
 unfoldable pub command_line : App
-command_line = with_subcommand (with_subcommand served_line audit_line.top) migrate_line.top
+command_line = with_subcommand journal_line settle_line.top

@@ -28,12 +28,14 @@ asked_by (c.Check dir) = a.check (option_map (λ d. d.now) dir)
 asked_by (c.Compile node dir) = a.compile node.now (option_map (λ d. d.now) dir)
 asked_by c.Sequence = a.sequence
 asked_by (c.Lookup node key merge dir) = a.lookup node.now key.now merge (option_map (λ d. d.now) dir)
-asked_by (c.Apply node dir) = a.apply node.now (option_map (λ d. d.now) dir)
+asked_by (c.Apply node dir workers) = a.apply node.now (option_map (λ d. d.now) dir) workers
 asked_by (c.Demo nodes) = a.demo nodes
 asked_by (c.Batch workers) = a.batch workers
 asked_by (c.Serve port count dir) = a.serve port count dir.now
 asked_by c.Audit = a.audit
 asked_by c.Migrate = a.migrate
+asked_by (c.Resume workers) = a.resume workers
+asked_by (c.Settle rounds workers) = a.settle rounds workers
 
 -- an answer of the code, where a value says something
 abbrev pub saying : {A B : Type 0} → (A → B) → Result A BadWord → Said B

@@ -68,6 +68,18 @@ workers_said (Some word) = number_said MOST_WORKERS word
 abbrev pub workers_in : List Row → Said ℕ
 workers_in rows = workers_said (first_of WORKERS.now rows)
 
+abbrev pub some_number : Said ℕ → Said (Option ℕ)
+some_number (Ok n) = Ok (Some n)
+some_number (Err word) = Err word
+
+-- the workers that are said, if any are
+abbrev pub given_workers_said : Option Text → Said (Option ℕ)
+given_workers_said None = Ok None
+given_workers_said (Some word) = some_number (number_said MOST_WORKERS word)
+
+abbrev pub given_workers_in : List Row → Said (Option ℕ)
+given_workers_in rows = given_workers_said (first_of WORKERS.now rows)
+
 -- the folder that is named; any text names one
 abbrev pub dir_in : List Row → Option Text
 dir_in rows = first_of DIR.now rows

@@ -31,9 +31,11 @@ pub enum Command<'a> {
     },
 
     /// A run of this node's catalog on a machine.
+    /// With a number of workers, what waits for nothing else goes side by side.
     Apply {
         node: &'a str,
         dir: Option<&'a str>,
+        workers: Option<u32>,
     },
 
     /// What a run of the demo site with this many nodes comes to. There is no input.
@@ -58,4 +60,17 @@ pub enum Command<'a> {
 
     /// The journal that comes in, in the version that is written today.
     Migrate,
+
+    /// The history and the replies that come of requests which this many workers share out, over the history of the
+    /// journal that comes in.
+    Resume {
+        workers: u32,
+    },
+
+    /// Whether what the nodes of a bundle export settles in so many rounds, in each of which this many workers compile
+    /// all of them.
+    Settle {
+        rounds: u32,
+        workers: u32,
+    },
 }

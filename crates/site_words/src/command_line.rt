@@ -4,7 +4,7 @@ ghost use Rattle.clap.specs.Words.{app_of, rule_of};
 ghost use Rattle.clap.specs.declared.builder.command.Command.TheViews.{out-Command};
 ghost use Rattle.site_words.specs.CommandLine as spec;
 
-use crate::ids::{COUNT, DIR, KEY, MERGE, NODE, NODES, PORT, WORKERS};
+use crate::ids::{COUNT, DIR, KEY, MERGE, NODE, NODES, PORT, ROUNDS, WORKERS};
 use clap::{Arg, ArgAction, Command};
 use std::alloc::{AllocError, Global};
 
@@ -13,9 +13,17 @@ use std::alloc::{AllocError, Global};
 pub fn command_line<'a>(alloc: Global) -> Result<Command<'a>, AllocError>
     ensures { IfOk result (λ c. app_of c ≡ spec.command_line) }
 {
+    journal_line(alloc)?.subcommand(settle_line(alloc)?)
+}
+
+#[tactic(auto, unfolding(crate::specs::CommandLine::journal_line))]
+fn journal_line<'a>(alloc: Global) -> Result<Command<'a>, AllocError>
+    ensures { IfOk result (λ c. app_of c ≡ spec.journal_line) }
+{
     served_line(alloc)?
         .subcommand(audit_line(alloc)?)?
-        .subcommand(migrate_line(alloc)?)
+        .subcommand(migrate_line(alloc)?)?
+        .subcommand(resume_line(alloc)?)
 }
 
 #[tactic(auto, unfolding(crate::specs::CommandLine::served_line))]
@@ -104,7 +112,8 @@ fn apply_line<'a>(alloc: Global) -> Result<Command<'a>, AllocError>
 {
     Command::new(alloc, "apply")
         .arg(positional(alloc, NODE))?
-        .arg(optional(alloc, DIR))
+        .arg(optional(alloc, DIR))?
+        .arg(optional(alloc, WORKERS))
 }
 
 fn demo_line<'a>(alloc: Global) -> Result<Command<'a>, AllocError>
@@ -143,6 +152,22 @@ fn migrate_line<'a>(alloc: Global) -> Result<Command<'a>, AllocError>
     ensures local { IfOk result (λ c. (out-Command c).has_globals ≡ false) }
 {
     Ok(Command::new(alloc, "migrate"))
+}
+
+fn resume_line<'a>(alloc: Global) -> Result<Command<'a>, AllocError>
+    ensures line { IfOk result (λ c. app_of c ≡ spec.resume_line) }
+    ensures local { IfOk result (λ c. (out-Command c).has_globals ≡ false) }
+{
+    Command::new(alloc, "resume").arg(optional(alloc, WORKERS))
+}
+
+fn settle_line<'a>(alloc: Global) -> Result<Command<'a>, AllocError>
+    ensures line { IfOk result (λ c. app_of c ≡ spec.settle_line) }
+    ensures local { IfOk result (λ c. (out-Command c).has_globals ≡ false) }
+{
+    Command::new(alloc, "settle")
+        .arg(positional(alloc, ROUNDS))?
+        .arg(optional(alloc, WORKERS))
 }
 
 fn positional<'a>(alloc: Global, id: &'a str) -> Arg<'a>

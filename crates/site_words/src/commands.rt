@@ -6,11 +6,13 @@ ghost use Rattle.site_words.specs.Asked.{IsWithin};
 ghost use Rattle.site_words.specs.Reading.{asked_by, saying};
 
 use crate::command::Command;
-use crate::ids::{COUNT, DIR, NODES, PORT};
-use crate::values::{dir_of, key_of, merge_of, node_of, number_of, word_of, workers_of};
+use crate::ids::{COUNT, DIR, NODES, PORT, ROUNDS};
+use crate::values::{
+    dir_of, given_workers_of, key_of, merge_of, node_of, number_of, word_of, workers_of,
+};
 use crate::word_stop::BadWord;
 use clap::ArgMatches;
-use word_rules::{MOST_CONNECTIONS, MOST_DEMO_NODES, MOST_PORT};
+use word_rules::{MOST_CONNECTIONS, MOST_DEMO_NODES, MOST_PORT, MOST_ROUNDS};
 
 /// The command that was named.
 pub fn command_in<'a>(matches: &ArgMatches<'a>) -> Result<Command<'a>, BadWord<'a>>
@@ -40,6 +42,8 @@ fn command_under<'a>(name: &'a str, words: &ArgMatches<'a>) -> Result<Command<'a
         "serve" => serve(words),
         "audit" => Ok(Command::Audit),
         "migrate" => Ok(Command::Migrate),
+        "resume" => resume(words),
+        "settle" => settle(words),
         _ => Err(BadWord { word: name }),
     }
 }
@@ -83,9 +87,11 @@ fn apply<'a>(words: &ArgMatches<'a>) -> Result<Command<'a>, BadWord<'a>>
     ensures within { IfOk result (λ c. IsWithin (asked_by c)) }
 {
     let node = node_of(words)?;
+    let workers = given_workers_of(words)?;
     Ok(Command::Apply {
         node,
         dir: dir_of(words),
+        workers,
     })
 }
 
@@ -116,4 +122,21 @@ fn serve<'a>(words: &ArgMatches<'a>) -> Result<Command<'a>, BadWord<'a>>
         count,
         dir: word_of(words, DIR),
     })
+}
+
+fn resume<'a>(words: &ArgMatches<'a>) -> Result<Command<'a>, BadWord<'a>>
+    ensures asked { saying asked_by result ≡ spec.resume_in (rows_of (found_of words.now)) }
+    ensures within { IfOk result (λ c. IsWithin (asked_by c)) }
+{
+    let workers = workers_of(words)?;
+    Ok(Command::Resume { workers })
+}
+
+fn settle<'a>(words: &ArgMatches<'a>) -> Result<Command<'a>, BadWord<'a>>
+    ensures asked { saying asked_by result ≡ spec.settle_in (rows_of (found_of words.now)) }
+    ensures within { IfOk result (λ c. IsWithin (asked_by c)) }
+{
+    let rounds = number_of(words, ROUNDS, MOST_ROUNDS)?;
+    let workers = workers_of(words)?;
+    Ok(Command::Settle { rounds, workers })
 }

@@ -6,6 +6,8 @@ pub const KEY: &str = "KEY";
 
 pub const NODES: &str = "N";
 
+pub const ROUNDS: &str = "ROUNDS";
+
 pub const PORT: &str = "PORT";
 
 pub const COUNT: &str = "COUNT";

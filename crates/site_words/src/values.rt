@@ -1,5 +1,5 @@
 //! What single words say, by the rule of their place.
-ghost use Rattle.std.specs.Prelude.{◌≡◌, ◌≤◌, ◌<◌, ◌^◌, IfOk, option_map};
+ghost use Rattle.std.specs.Prelude.{◌≡◌, ◌≤◌, ◌<◌, ◌^◌, IfOk, IfSome, option_map};
 ghost use Rattle.clap.specs.Words.{found_of, rows_of};
 ghost use Rattle.site_words.specs.Reading.{saying};
 ghost use Rattle.site_words.specs.Said as spec;
@@ -64,6 +64,18 @@ pub fn workers_of<'a>(words: &ArgMatches<'a>) -> Result<u32, BadWord<'a>>
     match words.get_str(WORKERS) {
         None => Ok(1),
         Some(word) => number_said(word, MOST_WORKERS),
+    }
+}
+
+/// The workers, where there is a word on them.
+#[tactic(auto, using(crate::proofs::Rows::found_in_rows))]
+pub fn given_workers_of<'a>(words: &ArgMatches<'a>) -> Result<Option<u32>, BadWord<'a>>
+    ensures number { saying (λ n. n) result ≡ spec.given_workers_in (rows_of (found_of words.now)) }
+    ensures within { IfOk result (λ given. IfSome given (λ n. (1 ≤ n) × (n ≤ MOST_WORKERS))) }
+{
+    match words.get_str(WORKERS) {
+        None => Ok(None),
+        Some(word) => Ok(Some(number_said(word, MOST_WORKERS)?)),
     }
 }
 

@@ -9,6 +9,9 @@ pub const MOST_DEMO_NODES: u32 = 4096;
 /// The most workers that share work out.
 pub const MOST_WORKERS: u32 = 64;
 
+/// The most rounds in which a site may settle.
+pub const MOST_ROUNDS: u32 = 100;
+
 /// The most connections that a service accepts.
 pub const MOST_CONNECTIONS: u32 = 1024;
 

@@ -12,10 +12,10 @@ module _ {S J : Type 0} (gives : S → Option J → S → Type 0) where
 
   -- jobs were given, and each result is what the job at its place promises
   pub record HasRun {O : Type 0} (promise : J → O → Type 0) (most : ℕ) (s : S) (results : List O) (s' : S)
-    : Type 0 where
-      pub jobs : List J
-      pub supplied : Supplied most s jobs s'
-      pub kept : AllZip promise jobs results
+      : Type 0 where
+    pub jobs : List J
+    pub supplied : Supplied most s jobs s'
+    pub kept : AllZip promise jobs results
 
   -- the same where results stood already, and these stand behind them from the last to the first
   pub record HasStacked {O : Type 0} (promise : J → O → Type 0) (most : ℕ) (s : S) (before after : List O)

@@ -6,7 +6,7 @@ use Rattle.pp_values.specs.Datum.{undef, flag, int, text, list, hash, no_entries
 use Rattle.pp_values.specs.declared.place.TheConstants.{MAIN_MANIFEST}
 use Rattle.res_core.specs.Asked.{compile, deactivate}
 use Rattle.site_bundle.specs.NodeNames.{is_node_name}
-use Rattle.site_bundle.specs.SiteView.{SiteView, facts_for, main_text, text_at, put_in, site_of}
+use Rattle.site_bundle.specs.SiteView.{SiteView, facts_for, file_in, main_text, text_at, put_in, site_of}
 use Rattle.site_bundle.specs.Given.{are_distinct, has_main, is_manifest_path}
 use Rattle.site_bundle.specs.declared.limits.TheConstants.{MOST_BUNDLE_BYTES, MOST_FILES, MOST_FILE_BYTES, MOST_NAME_CHARACTERS, MOST_REQUESTS}
 use Rattle.site_bundle.specs.Refusals.{not_json, bad_shape, too_large, result_and_then}
@@ -283,6 +283,31 @@ no_file = refl
 no_manifest : text_at site (codes "a") ≡ None
 unfolding site
 no_manifest = refl
+
+-- a file is found whether it is a manifest or not
+with_data : SiteView
+with_data = record {
+  manifests = (codes "a.pp", codes "y") ∷ (MAIN_MANIFEST.now, codes "x") ∷ [];
+  «data» = (codes "a.epp", codes "e") ∷ (codes "hiera.yaml", []) ∷ [];
+  nodes = [];
+}
+
+found_manifest : file_in with_data (codes "a.pp") ≡ Some (codes "y")
+unfolding with_data
+found_manifest = refl
+
+found_data : file_in with_data (codes "a.epp") ≡ Some (codes "e")
+unfolding with_data
+found_data = refl
+
+-- one without a text is one
+found_empty : file_in with_data (codes "hiera.yaml") ≡ Some []
+unfolding with_data
+found_empty = refl
+
+found_none : file_in with_data (codes "a") ≡ None
+unfolding with_data
+found_none = refl
 
 -- files and nodes stand by path and name in byte order
 in_order : site_of ((codes "z", codes "d") ∷ (MAIN_MANIFEST.now, codes "x") ∷ (codes "hiera.yaml", codes "h") ∷

@@ -4,4 +4,4 @@ use Rattle.agent_machine.proofs.Sent.{machine_send}
 use Rattle.site_program.proofs.fn.main.on_large_stack.Goals as goal
 
 pub run_program-requires-send-M-Part : goal.run_program-requires-send-M-Part
-run_program-requires-send-M-Part g c κs within = param_send _ _ (arg_send _ yes _ machine_send)
+run_program-requires-send-M-Part g c κs = param_send _ _ (arg_send _ yes _ machine_send)

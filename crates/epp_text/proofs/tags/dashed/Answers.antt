@@ -1,4 +1,5 @@
-use Rattle.std.proofs.Common.{ℕ, List, ◌+◌, ◌-◌, ◌<◌, ◌≤◌, ◌∙◌, ap, drop, length, get_or, length-drop, subst, sym, arith}
+use Rattle.std.proofs.Common.{ℕ, List, ◌+◌, ◌-◌, ◌<◌, ◌≤◌, ◌∙◌, ap, drop, length, get_or, length-drop, subst, sym}
+use Rattle.std.proofs.Common.{arith}
 use Rattle.std.proofs.lemmas.List.{take_rest}
 use Rattle.epp_text.specs.Fronts.{IsPart}
 use Rattle.epp_text.proofs.Cuts.{dashed_is_part}

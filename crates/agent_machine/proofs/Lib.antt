@@ -3,3 +3,4 @@ pub mod CopyLemmas
 mod Examples
 pub mod MachineLemmas
 pub mod MapLemmas
+pub mod Sent

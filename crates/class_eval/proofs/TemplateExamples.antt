@@ -12,10 +12,11 @@ use Rattle.pp_values.specs.Faults as faults
 use Rattle.pp_values.specs.declared.fault.What.TheVariants as what
 use Rattle.pp_values.specs.declared.place.Place.{Place}
 use Rattle.class_eval.specs.Statements.{statement_rule, statements_from}
-use Rattle.class_eval.specs.Templates.{are_given, are_params, are_taken, given_by, has_param, names_from, param_rule, params_from, rendered_rule}
+use Rattle.class_eval.specs.Templates.{are_given, are_params, are_taken, given_by, has_param, names_from}
+use Rattle.class_eval.specs.Templates.{param_rule, params_from, rendered_rule}
 use Rattle.eval_calls.specs.Functions.{bind_rule}
 use Rattle.eval_world.specs.Inner.{Inner}
-use Rattle.eval_world.specs.Outcomes.{◌>>=◌, ◌>>◌, pure}
+use Rattle.eval_world.specs.Outcomes.{Step, ◌>>◌, pure}
 use Rattle.eval_world.specs.Renderings.{Rendering}
 use Rattle.eval_world.specs.Worlds.{assign, assign_at, emit, fault, top}
 use Rattle.eval_world.specs.declared.world.World.{World}
@@ -94,8 +95,12 @@ bound : (w : World) → given_by inner (Some both) (given (codes "x") ∷ []) ca
 unfolding are_params are_given has_param params_from param_rule bind_rule
 bound w = refl
 
+abbrev nothing_set : Step (Unit {0})
+nothing_set = pure tt
+
 -- without parameters: what is no variable's name is left out
-names : (w : World) → given_by inner None (given (codes "x") ∷ given (codes "X") ∷ (d.int (pos 1), d.undef) ∷ []) call top w
-    ≡ (assign_at top (codes "x") (d.flag true) at >> (pure tt >> (pure tt >> pure tt))) w
+names : (w : World) →
+    given_by inner None (given (codes "x") ∷ given (codes "X") ∷ (d.int (pos 1), d.undef) ∷ []) call top w
+    ≡ (assign_at top (codes "x") (d.flag true) at >> (nothing_set >> (nothing_set >> nothing_set))) w
 unfolding names_from
 names w = refl

@@ -22,7 +22,8 @@ texts : (pieces_of [] ≡ [])
     × (pieces_of (codes " a  b ") ≡ text (codes " a  b ") 1 ∷ [])
     × (pieces_of (codes "a % b < c %> d -%>") ≡ text (codes "a % b < c %> d -%>") 1 ∷ [])
     × (pieces_of (codes "a" ++ 10 ∷ 13 ∷ 10 ∷ codes "b") ≡ text (codes "a" ++ 10 ∷ 13 ∷ 10 ∷ codes "b") 1 ∷ [])
-    × (pieces_of (195 ∷ 182 ∷ codes "<% a %>" ++ 195 ∷ 182 ∷ []) ≡ text (195 ∷ 182 ∷ []) 1 ∷ code (codes " a ") 1 ∷ text (195 ∷ 182 ∷ []) 1 ∷ [])
+    × (pieces_of (195 ∷ 182 ∷ codes "<% a %>" ++ 195 ∷ 182 ∷ [])
+    ≡ text (195 ∷ 182 ∷ []) 1 ∷ code (codes " a ") 1 ∷ text (195 ∷ 182 ∷ []) 1 ∷ [])
 unfolding run tag front_at pieces_of
 texts = (refl, refl, refl, refl, refl)
 
@@ -91,14 +92,16 @@ unfolding run tag front_at pieces_of
 breaks = (refl, refl, refl, refl, refl, refl, refl, refl)
 
 -- lines are counted through texts, tags and what is dropped
-lines : (pieces_of (codes "a" ++ 10 ∷ codes "<%" ++ 10 ∷ codes "b%><%= c %>") ≡ text (codes "a" ++ 10 ∷ []) 1 ∷ code (10 ∷ codes "b") 2 ∷ value (codes " c ") 3 ∷ [])
+lines : (pieces_of (codes "a" ++ 10 ∷ codes "<%" ++ 10 ∷ codes "b%><%= c %>")
+    ≡ text (codes "a" ++ 10 ∷ []) 1 ∷ code (10 ∷ codes "b") 2 ∷ value (codes " c ") 3 ∷ [])
     × (pieces_of (10 ∷ 10 ∷ codes "<%= a %>") ≡ text (10 ∷ 10 ∷ []) 1 ∷ value (codes " a ") 3 ∷ [])
 unfolding run tag front_at pieces_of
 lines = (refl, refl)
 
 -- nothing ends a tag
 unclosed_tags : (pieces_of (codes "<%") ≡ unclosed 1 ∷ [])
-    × (pieces_of (codes "a" ++ 10 ∷ codes "<%= b" ++ 10 ∷ codes "% >") ≡ text (codes "a" ++ 10 ∷ []) 1 ∷ unclosed 2 ∷ [])
+    × (pieces_of (codes "a" ++ 10 ∷ codes "<%= b" ++ 10 ∷ codes "% >")
+    ≡ text (codes "a" ++ 10 ∷ []) 1 ∷ unclosed 2 ∷ [])
     × (pieces_of (codes "<%# a") ≡ unclosed 1 ∷ [])
     × (pieces_of (codes "<%->") ≡ unclosed 1 ∷ [])
     × (pieces_of (codes "<% a %> <%- b") ≡ code (codes " a ") 1 ∷ text (codes " ") 1 ∷ unclosed 1 ∷ [])
@@ -106,7 +109,9 @@ unfolding run tag front_at pieces_of
 unclosed_tags = (refl, refl, refl, refl, refl)
 
 -- parameters, and a lambda over three tags
-a_list : pieces_of (codes "<%- | Array $xs | -%>" ++ 10 ∷ codes "<% $xs.each |$x| { -%>" ++ 10 ∷ codes "x <%= $x %>" ++ 10 ∷ codes "<% } -%>" ++ 10 ∷ [])
-    ≡ code (codes " | Array $xs | ") 1 ∷ code (codes " $xs.each |$x| { ") 2 ∷ text (codes "x ") 3 ∷ value (codes " $x ") 3 ∷ text (10 ∷ []) 3 ∷ code (codes " } ") 4 ∷ []
+a_list : pieces_of (codes "<%- | Array $xs | -%>" ++ 10 ∷ codes "<% $xs.each |$x| { -%>" ++ 10 ∷ codes "x <%= $x %>"
+    ++ 10 ∷ codes "<% } -%>" ++ 10 ∷ [])
+    ≡ code (codes " | Array $xs | ") 1 ∷ code (codes " $xs.each |$x| { ") 2 ∷ text (codes "x ") 3
+    ∷ value (codes " $x ") 3 ∷ text (10 ∷ []) 3 ∷ code (codes " } ") 4 ∷ []
 unfolding run tag front_at pieces_of
 a_list = refl

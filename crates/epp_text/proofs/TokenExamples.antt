@@ -47,24 +47,31 @@ parameters : (told (codes "<%- | $x | -%>") ≡ mark k.ParamsBegin 1 ∷ x 1 ∷
     × (told (codes "<%| |%>") ≡ mark k.ParamsBegin 1 ∷ mark k.ParamsEnd 1 ∷ mark k.TagEnd 1 ∷ [])
     × (told (codes "<%|%>") ≡ mark k.ParamsBegin 1 ∷ mark k.TagEnd 1 ∷ [])
     × (told (codes "<%| $x %>") ≡ mark k.ParamsBegin 1 ∷ x 1 ∷ mark k.TagEnd 1 ∷ [])
-    × (told (codes "a<%# b %><%| $x |%>") ≡ emitted (codes "a") 1 ∷ mark k.ParamsBegin 1 ∷ x 1 ∷ mark k.ParamsEnd 1 ∷ mark k.TagEnd 1 ∷ [])
+    × (told (codes "a<%# b %><%| $x |%>")
+    ≡ emitted (codes "a") 1 ∷ mark k.ParamsBegin 1 ∷ x 1 ∷ mark k.ParamsEnd 1 ∷ mark k.TagEnd 1 ∷ [])
     × (told (codes "<% %><%| $x |%>") ≡ mark k.Bar 1 ∷ x 1 ∷ mark k.Bar 1 ∷ [])
     × (told (codes "<%= $x %><%|%>") ≡ mark k.RenderExpr 1 ∷ x 1 ∷ mark k.TagEnd 1 ∷ mark k.Bar 1 ∷ [])
 unfolding told
 parameters = (refl, refl, refl, refl, refl, refl, refl)
 
 -- a bar at a code's end is a lambda's last one where the next code begins with `{`
-lambdas : (told (codes "<% f |$x| { %>") ≡ token k.Name (codes "f") 1 ∷ mark k.Bar 1 ∷ x 1 ∷ mark k.LastBar 1 ∷ mark k.OpenBrace 1 ∷ [])
-    × (told (codes "<% f |$x| %><% { %>") ≡ token k.Name (codes "f") 1 ∷ mark k.Bar 1 ∷ x 1 ∷ mark k.LastBar 1 ∷ mark k.OpenBrace 1 ∷ [])
-    × (told (codes "<% f |$x| %><%# a %><% { %>") ≡ token k.Name (codes "f") 1 ∷ mark k.Bar 1 ∷ x 1 ∷ mark k.LastBar 1 ∷ mark k.OpenBrace 1 ∷ [])
-    × (told (codes "<% f |$x| %> <% { %>") ≡ token k.Name (codes "f") 1 ∷ mark k.Bar 1 ∷ x 1 ∷ mark k.Bar 1 ∷ emitted (codes " ") 1 ∷ mark k.OpenBrace 1 ∷ [])
+lambdas : (told (codes "<% f |$x| { %>")
+    ≡ token k.Name (codes "f") 1 ∷ mark k.Bar 1 ∷ x 1 ∷ mark k.LastBar 1 ∷ mark k.OpenBrace 1 ∷ [])
+    × (told (codes "<% f |$x| %><% { %>")
+    ≡ token k.Name (codes "f") 1 ∷ mark k.Bar 1 ∷ x 1 ∷ mark k.LastBar 1 ∷ mark k.OpenBrace 1 ∷ [])
+    × (told (codes "<% f |$x| %><%# a %><% { %>")
+    ≡ token k.Name (codes "f") 1 ∷ mark k.Bar 1 ∷ x 1 ∷ mark k.LastBar 1 ∷ mark k.OpenBrace 1 ∷ [])
+    × (told (codes "<% f |$x| %> <% { %>")
+    ≡ token k.Name (codes "f") 1 ∷ mark k.Bar 1 ∷ x 1 ∷ mark k.Bar 1 ∷ emitted (codes " ") 1
+    ∷ mark k.OpenBrace 1 ∷ [])
 unfolding told
 lambdas = (refl, refl, refl, refl)
 
 -- what a code leaves open ends with it, and a bracket behind a tag begins a list
 cut_off : (told (codes "<% 'a %>b") ≡ mark k.TextBegin 1 ∷ mark k.Unclosed 1 ∷ emitted (codes "b") 1 ∷ [])
     × (told (codes "<% # a %>b") ≡ emitted (codes "b") 1 ∷ [])
-    × (told (codes "<% $x %><%[b]%>") ≡ x 1 ∷ mark k.OpenBracket 1 ∷ token k.Name (codes "b") 1 ∷ mark k.CloseBracket 1 ∷ [])
+    × (told (codes "<% $x %><%[b]%>")
+    ≡ x 1 ∷ mark k.OpenBracket 1 ∷ token k.Name (codes "b") 1 ∷ mark k.CloseBracket 1 ∷ [])
     × (told (codes "a" ++ 10 ∷ codes "<% b") ≡ emitted (codes "a" ++ 10 ∷ []) 1 ∷ mark k.Bad 2 ∷ [])
 unfolding told
 cut_off = (refl, refl, refl, refl)

@@ -57,7 +57,6 @@ impl<'a> Pieces<'a> {
 }
 
 /// `<%%` or `%%>`
-#[tactic(auto, using(crate::proofs::Cuts::written_is_part))]
 fn written(text: &str, from: usize, to: usize) -> Front
     requires within { (3 ≤ length text.now) × (from < 2) × (to ≤ 3) × (from ≤ to) }
     requires ascii { (k : ℕ) → k < 3 → slice_index text.now k < 128 }

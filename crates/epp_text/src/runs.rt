@@ -80,7 +80,7 @@ fn run_to(begins: bool, bytes: &[u8], len: usize) -> usize
 }
 
 /// A run of text.
-#[tactic(auto, unfolding(crate::specs::Pieces::run), using(crate::proofs::Cuts::run_is_part))]
+#[tactic(auto, unfolding(crate::specs::Pieces::run))]
 pub fn run(begins: bool, text: &str) -> Front
     requires { 0 < length text.now }
     ensures value { result ≡ spec.run begins text.now }

@@ -69,7 +69,6 @@ fn drops_break(bytes: &[u8]) -> bool
 }
 
 /// A tag that nothing ends.
-#[tactic(auto, using(crate::proofs::Cuts::rest_is_part))]
 fn unclosed(text: &str, kind: Option<PieceKind>, from: usize) -> Front
     requires { 0 < length text.now }
     ensures value { result ≡ spec.tag_by kind from None text.now }
@@ -79,7 +78,6 @@ fn unclosed(text: &str, kind: Option<PieceKind>, from: usize) -> Front
 }
 
 /// A tag that ends with `%>` alone.
-#[tactic(auto, using(crate::proofs::Cuts::tag_is_part))]
 fn plain(text: &str, kind: Option<PieceKind>, from: usize, end: usize) -> Front
     requires begin { (0 < from) × (slice_index text.now (from - 1) < 128) }
     requires within { (from ≤ end) × (end + 2 ≤ length text.now) }
@@ -91,7 +89,6 @@ fn plain(text: &str, kind: Option<PieceKind>, from: usize, end: usize) -> Front
 }
 
 /// A tag that ends with `-%>`.
-#[tactic(auto, using(crate::proofs::Cuts::dashed_is_part))]
 fn dashed(text: &str, kind: Option<PieceKind>, from: usize, end: usize) -> Front
     requires begin { (0 < from) × (slice_index text.now (from - 1) < 128) }
     requires within { (from < end) × (end + 2 ≤ length text.now) }

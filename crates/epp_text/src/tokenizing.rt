@@ -23,7 +23,7 @@ pub fn template_tokens<'a>(alloc: Global, pieces: &[Piece<'a>]) -> Result<Tokens
     let mut done = Tokens::new(alloc);
     let mut first = true;
     let mut rest = pieces;
-    while let Some((piece, more)) = rest.split_first() {
+    while let [piece, more @ ..] = rest {
         let tokens = piece_tokens(alloc, first, piece)?;
         join(&mut done, tokens)?;
         first = first_behind(first, piece.kind());

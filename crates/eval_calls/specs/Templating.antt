@@ -30,15 +30,15 @@ text_with (d.text t) given = Some (record { text = t; given = given })
 text_with _ given = None
 
 abbrev pub with_hash : Datum → Datum → Option Asked
-with_hash text (d.hash es) = text_with text (Some (d.hash es))
-with_hash text _ = None
+with_hash first (d.hash es) = text_with first (Some (d.hash es))
+with_hash first _ = None
 
 -- None where the function does not take these arguments
 abbrev pub asked_of : List Datum → Option Asked
 asked_of [] = None
-asked_of (text ∷ []) = text_with text None
-asked_of (text ∷ given ∷ []) = with_hash text given
-asked_of (text ∷ given ∷ x ∷ xs) = None
+asked_of (first ∷ []) = text_with first None
+asked_of (first ∷ given ∷ []) = with_hash first given
+asked_of (first ∷ given ∷ x ∷ xs) = None
 
 -- ---- the file of a template
 

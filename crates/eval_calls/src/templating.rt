@@ -12,6 +12,9 @@ use eval_world::{Evaluated, Forms, Goal, Here, INLINE_FILE, Meaning, Rendering, 
 use pp_values::{Memory, Stop, Text, Value, Values};
 use std::alloc::Global;
 
+/// How many bytes a template's path has beside those of its module and its name there.
+const BESIDE: usize = 19;
+
 /// `epp('m/p', { 'x' => 1 })`: the template of a file.
 #[tactic(auto, unfolding(crate::specs::Templating::epp_rule))]
 pub fn epp<F: Fn(&mut World<'_>, Goal<'_>, Here, u32) -> Result<Evaluated, Stop>, M: Meaning>(
@@ -209,18 +212,22 @@ fn template_path(alloc: Global, name: &Text) -> Result<Option<Text>, Memory>
     ensures { IfOk result (λ o. o ≡ spec.template_path name.now) }
 {
     match name.as_str().split_once('/') {
-        Some((module, file)) => Ok(Some(path_in(alloc, module, file)?)),
+        Some((folder, file)) => Ok(Some(path_in(alloc, folder, file)?)),
         None => Ok(None),
     }
 }
 
-fn path_in(alloc: Global, module: &str, file: &str) -> Result<Text, Memory>
-    ensures { IfOk result (λ t. t ≡ codes "modules/" ++ (module.now ++ (codes "/templates/" ++ file.now))) }
+/// The template of this path within a module's folder of templates.
+fn path_in(alloc: Global, folder: &str, file: &str) -> Result<Text, Memory>
+    ensures { IfOk result (λ t. t ≡ codes "modules/" ++ (folder.now ++ (codes "/templates/" ++ file.now))) }
 {
-    let room = module.len().saturating_add(file.len()).saturating_add(19);
+    let room = folder
+        .len()
+        .saturating_add(file.len())
+        .saturating_add(BESIDE);
     let mut path = String::with_capacity(alloc, room)?;
     path.push_str("modules/")?;
-    path.push_str(module)?;
+    path.push_str(folder)?;
     path.push_str("/templates/")?;
     path.push_str(file)?;
     Ok(Text::new(path))

@@ -146,36 +146,36 @@ fn path_in(alloc: Global, name: &str) -> Result<Option<Text>, Memory>
 {
     match name.split_once("::") {
         None => Ok(None),
-        Some((module, rest)) => path_behind(alloc, module, rest),
+        Some((front, rest)) => path_behind(alloc, front, rest),
     }
 }
 
 /// The path, where what stands behind the module is one segment.
-fn path_behind(alloc: Global, module: &str, rest: &str) -> Result<Option<Text>, Memory>
-    ensures { IfOk result (λ o. o ≡ spec.path_by (module.now ∷ segments rest.now)) }
+fn path_behind(alloc: Global, front: &str, rest: &str) -> Result<Option<Text>, Memory>
+    ensures { IfOk result (λ o. o ≡ spec.path_by (front.now ∷ segments rest.now)) }
 {
     match rest.split_once("::") {
-        None => one_path(alloc, module, rest),
+        None => one_path(alloc, front, rest),
         Some(_) => Ok(None),
     }
 }
 
-fn one_path(alloc: Global, module: &str, function: &str) -> Result<Option<Text>, Memory>
-    ensures { IfOk result (λ o. o ≡ Some (spec.file_of_function module.now function.now)) }
+fn one_path(alloc: Global, front: &str, function: &str) -> Result<Option<Text>, Memory>
+    ensures { IfOk result (λ o. o ≡ Some (spec.file_of_function front.now function.now)) }
 {
-    Ok(Some(path_of(alloc, module, function)?))
+    Ok(Some(path_of(alloc, front, function)?))
 }
 
-fn path_of(alloc: Global, module: &str, function: &str) -> Result<Text, Memory>
-    ensures { IfOk result (λ t. t ≡ spec.file_of_function module.now function.now) }
+fn path_of(alloc: Global, front: &str, function: &str) -> Result<Text, Memory>
+    ensures { IfOk result (λ t. t ≡ spec.file_of_function front.now function.now) }
 {
-    let room = module
+    let room = front
         .len()
         .saturating_add(function.len())
         .saturating_add(BESIDE);
     let mut path = String::with_capacity(alloc, room)?;
     path.push_str("modules/")?;
-    path.push_str(module)?;
+    path.push_str(front)?;
     path.push_str("/functions/")?;
     path.push_str(function)?;
     path.push_str(".pp")?;

@@ -27,9 +27,9 @@ abbrev bare : List Statement → Result File Fault
 bare body = defines (codes "f") (tree.function_of (tree.name_at (codes "f") 1) [] None body 1)
 
 -- its parameters, what it gives, its words and its expressions
-function : file_of main_path (line (codes "function ::m::f(Integer $x, $y = 2) >> Array[B] {") (line (codes "notice $x, 1; f(2) $y") (codes "}")))
+function : file_of main_path (line (codes "function ::m::f($x, Integer $y = 2) >> Array[B] {") (line (codes "notice $x, 1; f(2) $y") (codes "}")))
     ≡ defines (codes "m::f") (tree.function_of (tree.name_at (codes "::m::f") 1)
-    (tree.param (Some (type 1 (codes "Integer"))) (codes "x") None 1 ∷ tree.param None (codes "y") (Some (number 1 2)) 1 ∷ [])
+    (tree.param None (codes "x") None 1 ∷ tree.param (Some (type 1 (codes "Integer"))) (codes "y") (Some (number 1 2)) 1 ∷ [])
     (Some (tree.expr_at 1 (form.Postfix (type 1 (codes "Array")) (postfix.Access (type 1 (codes "B") ∷ []) ∷ []))))
     (statement.Words (tree.words (codes "notice") (variable 2 (codes "x") ∷ number 2 1 ∷ []) 2)
     ∷ alone (tree.expr_at 2 (form.Call (tree.call (codes "f") (number 2 2 ∷ []) None))) ∷ alone (variable 2 (codes "y")) ∷ []) 1)

@@ -5,7 +5,6 @@ use Rattle.pp_lexer.specs.declared.kind.Kind.TheVariants as k
 use Rattle.pp_lexer.specs.Seen.{Token}
 use Rattle.pp_tree.specs.declared.operators.BinaryOperator.{BinaryOperator}
 use Rattle.pp_tree.specs.declared.operators.PrefixOperator.{PrefixOperator}
-use Rattle.pp_tree.specs.declared.operators.PrefixOperator.TheVariants as prefix
 use Rattle.pp_tree.specs.declared.expr.Expr.{Expr}
 use Rattle.pp_tree.specs.declared.expr.Form.{Form}
 use Rattle.pp_tree.specs.declared.expr.Form.TheVariants as form

@@ -1,6 +1,5 @@
 -- The grammar of files, and how the rules stand within one another.
-use Rattle.std.specs.Prelude.{◌≡◌, ℕ, zero, suc, ltb, Bool, true, false, List, [], ◌∷◌, length, Option, Some, None}
-use Rattle.pp_lexer.specs.declared.kind.Kind.{Kind}
+use Rattle.std.specs.Prelude.{◌≡◌, ℕ, zero, suc, ltb, true, false, List, [], ◌∷◌, length, Option, Some, None}
 use Rattle.pp_lexer.specs.declared.kind.Kind.TheVariants as k
 use Rattle.pp_lexer.specs.Seen.{Token}
 use Rattle.pp_tree.specs.declared.expr.Expr.{Expr}

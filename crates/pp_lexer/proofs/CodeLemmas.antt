@@ -1,5 +1,5 @@
 -- What stands at a place outside of texts, by its first byte.
-use Rattle.std.proofs.Common.{◌≡◌, ℕ, ◌<◌, ◌==◌, false, List, [], ◌∷◌, length, drop, get_or, refl, arith}
+use Rattle.std.proofs.Common.{◌≡◌, ℕ, ◌<◌, ◌==◌, false, List, drop, get_or, refl, arith}
 use Rattle.std.proofs.lemmas.Bool.Decides.{nat_tests}
 use Rattle.pp_lexer.specs.Bytes.{blank_len, line_end}
 use Rattle.pp_lexer.specs.Fronts.{front}

@@ -1,5 +1,5 @@
 -- A list that is taken from its end is the other list, taken from its front.
-use Rattle.std.proofs.Common.{◌≡◌, List, [], ◌∷◌, ◌++◌, drop, length, reverse, ap, sym, ◌∙◌}
+use Rattle.std.proofs.Common.{◌≡◌, List, [], ◌∷◌, ◌++◌, length, reverse, ap, sym, ◌∙◌}
 use Rattle.std.proofs.lemmas.List.{length-reverse, reverse-append, reverse-reverse}
 use Rattle.pp_lexer.specs.Seen.{Token}
 

@@ -8,7 +8,6 @@ use Rattle.std.specs.Str.{bytes_eq}
 use Rattle.pp_lexer.specs.Bytes.{is_word}
 use Rattle.pp_lexer.specs.Words.{continues_word, word_end, named, name_kind, words_of_length}
 use Rattle.pp_lexer.specs.declared.kind.Kind.{Kind}
-use Rattle.pp_lexer.specs.declared.kind.Kind.TheVariants as kinds
 use Rattle.pp_lexer.specs.declared.words.TheConstants.{WORDS}
 use Rattle.pp_lexer.specs.declared.words.WordSort.{WordSort}
 

@@ -1,7 +1,7 @@
 -- What the clauses of `site_main` rest on, and a reader has to believe: Meaning, Events, Sets, Legal, Asked, Said,
--- Fits, Runs, Each
+-- Fits, Runs, Each, Resuming
 -- What functions promise one another, what types keep, and what proofs read: SitesRead, EntryViews, Core, Answers,
--- Snapshots, Counts, Steps, Additions, Compiling, Resuming, Changes
+-- Snapshots, Counts, Steps, Additions, Compiling, Changes
 pub mod Meaning
 pub mod SitesRead
 pub mod Events

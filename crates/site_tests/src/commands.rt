@@ -34,6 +34,16 @@ pub fn ends_so<R: Threads + Wait + Sync>(
     alloc: Global,
     run: &Run<'_>,
 ) -> Result<bool, Memory> {
+    ends_so_on(rt, alloc, run, &[])
+}
+
+/// Whether the run ends so on a machine of which the calls with these numbers fail, counted from 1.
+pub fn ends_so_on<R: Threads + Wait + Sync>(
+    rt: &R,
+    alloc: Global,
+    run: &Run<'_>,
+    failing: &[u64],
+) -> Result<bool, Memory> {
     let (words, input, (reads, writes, tells), status, wanted, told) = run;
     let words = words_of(alloc, words)?;
     let mut source = MemSource::new(alloc, input.as_bytes(), &[*reads])?;
@@ -41,7 +51,7 @@ pub fn ends_so<R: Threads + Wait + Sync>(
     let mut err = MemSink::new(alloc, 4096, &[*tells])?;
     let mut net = MemListener::new(alloc, Vec::new(alloc), &[])?;
     let mut tree = MemTree::new(alloc, &[])?;
-    let mut machine = empty_machine(alloc)?;
+    let mut machine = empty_machine(alloc, failing)?;
     let ended = site_main(
         rt,
         alloc,
@@ -58,13 +68,13 @@ pub fn ends_so<R: Threads + Wait + Sync>(
     Ok(ended == *status && out.written() == wanted.as_bytes() && is_told)
 }
 
-/// A machine of which nothing is recorded, until a document is loaded.
-pub fn empty_machine(alloc: Global) -> Result<DocMachine, Memory> {
+/// A machine of which nothing is recorded, until a document is loaded, and of which the calls with these numbers fail.
+pub fn empty_machine(alloc: Global, failing: &[u64]) -> Result<DocMachine, Memory> {
     let document = MachineDoc {
         failing: FailingTexts::new(alloc),
         state: States::new(alloc),
     };
-    DocMachine::new(alloc, document, &[])
+    DocMachine::new(alloc, document, failing)
 }
 
 /// What `clap` says of words that it refuses, whatever that is.
@@ -454,7 +464,7 @@ const PACKAGE: &str =
     r#"{"bundle": 1, "files": {"manifests/site.pp": "package { 'p': ensure => present }\nclass e { }\ninclude e\nservice { 's': ensure => running }\nnotify { 'n': }\nPackage['p'] -> Class['e']\nClass['e'] ~> Service['s']"}, "nodes": {"n": {}}, "machine": {"failing": ["write Package[p] ensure"], "state": {}}}"#;
 
 /// Two files to which a service subscribes.
-const FILES: &str =
+pub const FILES: &str =
     r#"{"bundle": 1, "files": {"manifests/site.pp": "file { '/a': content => 'x' }\nfile { '/b': content => 'y' }\nservice { 's': ensure => running, subscribe => [File['/a'], File['/b']] }"}, "nodes": {"n": {}}, "machine": {"failing": [], "state": {"Service[s]": {"ensure": "running"}}}}"#;
 
 /// The same, where both files are as they are to be.

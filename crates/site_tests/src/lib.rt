@@ -11,6 +11,8 @@ mod faults;
 #[cfg(test)]
 mod lookups;
 #[cfg(test)]
+mod machines;
+#[cfg(test)]
 mod names;
 #[cfg(test)]
 mod replies;

@@ -8,8 +8,8 @@ use std::sync::Wait;
 use std::test::Fail;
 use std::thread::Threads;
 
-/// What two connections send, which call of the listener is to fail, counted from 1 (0 is none); then the status, and what
-/// stands on output and error stream.
+/// What two connections send where three are wanted, which call of the listener is to fail, counted from 1 (0 is
+/// none); then the status, and what stands on output and error stream.
 type Service<'a> = (&'a str, &'a str, u64, u8, &'a str, &'a str);
 
 const ASKED: &str = "POST /catalog/n HTTP/1.1\r\nHost: s\r\nContent-Length: 2\r\n\r\n{}";
@@ -25,13 +25,14 @@ const PUBLISHED: &str =
 {"entries":2}
 "#;
 
-const SERVICES: [Service<'static>; 5] = [
+const SERVICES: [Service<'static>; 6] = [
     ("", "", 0, 0, OPENED, ""),
     (ASKED, "", 0, 0, PUBLISHED, ""),
     (ASKED, "POST", 0, 0, PUBLISHED, "connection 2 H4\n"),
     // The first call listens, and the third one takes the second connection.
     (ASKED, "", 1, 14, OPENED, "net fault\n"),
     ("POST", ASKED, 3, 14, OPENED, "connection 1 H4\nnet fault\n"),
+    (ASKED, ASKED, 3, 14, PUBLISHED, "net fault\n"),
 ];
 
 fn connections(alloc: Global, first: &str, second: &str) -> Result<Vec<MemConn>, AllocError> {
@@ -51,7 +52,7 @@ fn folder(alloc: Global) -> Result<MemTree, Memory> {
 
 fn serve_words(alloc: Global) -> Result<Vec<String>, AllocError> {
     let mut words = Vec::new(alloc);
-    for word in ["serve", "8140", "2", "--dir", "d"].iter() {
+    for word in ["serve", "8140", "3", "--dir", "d"].iter() {
         words.push(String::from_str(alloc, word)?)?;
     }
     Ok(words)
@@ -70,7 +71,7 @@ fn comes_to<R: Threads + Wait + Sync>(
     let mut err = MemSink::new(alloc, 4096, &[])?;
     let mut net = MemListener::new(alloc, connections(alloc, first, second)?, &[*failing])?;
     let mut tree = folder(alloc)?;
-    let mut machine = empty_machine(alloc)?;
+    let mut machine = empty_machine(alloc, &[])?;
     let ended = site_main(
         rt,
         alloc,

@@ -1,4 +1,4 @@
--- What a reader has to believe: Waves, WideRuns, WideCatalogs
+-- What the clauses of `site_main` rest on, and a reader has to believe: Waves, WideCatalogs, WideRuns
 -- What functions promise one another, what types keep, and what proofs read: Apart, Going, Shares, WideLaws
 pub mod Apart
 pub mod Going

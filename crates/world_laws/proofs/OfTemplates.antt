@@ -3,6 +3,7 @@ use Rattle.std.proofs.Common.{ℕ, ◌≤◌, Bool, true, false, List, [], ◌�
 use Rattle.pp_tree.specs.declared.expr.Expr.{Expr}
 use Rattle.pp_tree.specs.declared.param.Param.{Param}
 use Rattle.pp_tree.specs.declared.statement.Statement.{Statement}
+use Rattle.pp_tree.specs.declared.template.Template.{Template}
 use Rattle.pp_values.specs.Datum as datum
 use Rattle.pp_values.specs.Datum.{Datum, Pair}
 use Rattle.pp_values.specs.declared.place.Place.{Place}
@@ -117,7 +118,7 @@ module _ (inner : Inner) (g : GrowsInner inner) where
       (r : Rendering) (own : Here) →
       Grows (template_rule inner r own)
   unfolding template_rule
-  template_grows blocks r own = and_then (answer_grows _) (λ t.
+  template_grows blocks r own = and_then (answer_grows _) (λ (t : Template).
       and_then (given_grows t.params (pairs_given r.given) r own) (λ u.
       rendered_grows inner t.block own (blocks t.block own)))
 

@@ -6,7 +6,7 @@ use Rattle.pp_tree.specs.declared.definition.Name.{Name}
 use Rattle.pp_grammar.proofs.Reader.Inner.{Inner}
 use Rattle.pp_grammar.specs.Kinds.{is_name}
 use Rattle.pp_grammar.proofs.Reader.Expressions.{loosest}
-use Rattle.pp_grammar.proofs.Reader.FunctionBodies.{unbraced_by, unbraced_from, unbraced, function_words, worded_by, worded, value_statement, function_statement_by, function_statement, next_statement_by, next_statement, function_statements, function_block}
+use Rattle.pp_grammar.proofs.Reader.FunctionBodies.{stated, unbraced_by, unbraced_from, unbraced, function_words, worded_by, worded, value_statement, function_statement_by, function_statement, next_statement_by, next_statement, function_statements, function_block}
 use Rattle.pp_grammar.proofs.Local.Steps.{Cut, IsLocal, any, one, if_given, bind_local, first_local, loose_local, given_local, none_local, pure_local, refuse_local, peek_local, here_local, if_local, expect_local, eat_local}
 use Rattle.pp_grammar.proofs.Local.Lists.{repeat_local, separated_local}
 use Rattle.pp_grammar.proofs.Local.Inner.{InnerLocal, opening_local, function_statements_in_local}
@@ -43,7 +43,7 @@ module _ {c : Cut} {a b : Inner} (I : InnerLocal c a b) where
 
   value_statement_local : {d : Bool} → IsLocal c d one (value_statement a) (value_statement b)
   unfolding value_statement
-  value_statement_local = here_local (λ at. first_local unbraced_local (λ _. pure_local _))
+  value_statement_local = here_local (λ at. first_local unbraced_local (λ x. pure_local (stated at x)))
 
   function_statement_by_local : {d : Bool} (next : Option Kind) → IsLocal c d one (function_statement_by a next) (function_statement_by b next)
   function_statement_by_local (Some k.StatementFunction) = first_local taken_name_local worded_local

@@ -1,5 +1,5 @@
 -- What is read one level further in, by two readers of which the second may open more levels.
-use Rattle.std.proofs.Common.{◌≡◌, Bool, true, false}
+use Rattle.std.proofs.Common.{◌≡◌, Bool}
 use Rattle.pp_lexer.specs.declared.kind.Kind.{Kind}
 use Rattle.pp_lexer.specs.Seen.{Token}
 use Rattle.pp_parser.specs.declared.inset.Inset.{Inset}

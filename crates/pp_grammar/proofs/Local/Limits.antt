@@ -1,13 +1,12 @@
 -- Two readers of the same text, of which the second one may open more levels from some place on, or everywhere.
-use Rattle.std.proofs.Common.{◌≡◌, ℕ, ◌+◌, ◌<◌, ◌≤◌, ltb, Bool, true, false, not, [], length, Ok, Err, refl, sym, ap, subst, ◌∙◌, arith}
-use Rattle.pp_lexer.specs.Seen.{Token}
+use Rattle.std.proofs.Common.{◌≡◌, ℕ, ◌+◌, ◌<◌, ◌≤◌, ltb, Bool, true, false, not, [], Ok, Err, refl, sym, ap, subst, ◌∙◌, arith}
 use Rattle.pp_parser.specs.declared.refusal.Refusal.TheVariants as refusals
 use Rattle.pp_grammar.proofs.Reader.Input.{Input, Outcome, Parser}
 use Rattle.pp_grammar.proofs.Reader.Inner.{Inner}
 use Rattle.pp_grammar.proofs.Reader.Levels.{within_to, within}
-use Rattle.pp_grammar.proofs.Local.Steps.{Cut, Alike, AlikeAt, Deepens, Follows, IsLocal, any}
+use Rattle.pp_grammar.proofs.Local.Steps.{Cut, AlikeAt, Deepens, Follows, IsLocal, any}
 use Rattle.pp_grammar.proofs.Local.Inner.{InnerLocal}
-use Rattle.pp_grammar.proofs.Local.Levels.{from_place, more_levels, more_behind}
+use Rattle.pp_grammar.proofs.Local.Levels.{more_levels, more_behind}
 use Rattle.pp_grammar.proofs.Local.Laws.{alike_itself, alike_same, same_place}
 
 -- the same text twice, and where the second one may open more

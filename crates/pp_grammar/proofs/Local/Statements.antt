@@ -306,7 +306,7 @@ module _ {c : Cut} {a b : Inner} (I : InnerLocal c a b) where
 
   emitted_value_local : {d : Bool} → IsLocal c d (stated None) (emitted_value a) (emitted_value b)
   unfolding emitted_value
-  emitted_value_local = bind_by 1 (stated None) (λ x. omega arith) (λ x. omega arith) take_local
+  emitted_value_local = bind_by {behind = waiting} 1 (stated None) (λ x. omega arith) (λ x. omega arith) take_local
       (λ _. bind_local (whole_local I false false) (λ x. bind_local (expect_local _) (λ _. pure_by (statement.EmitValue x, None) refl)))
 
   pub statement_by_local : {d : Bool} (next : Option Kind) → IsLocal c d (stated None) (statement_by a next) (statement_by b next)

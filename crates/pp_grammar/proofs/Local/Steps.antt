@@ -9,7 +9,7 @@ use Rattle.pp_grammar.proofs.Reader.Input.{Input, Outcome, Parser, and_then, ◌
 use Rattle.pp_grammar.specs.Kinds.{is_kind}
 use Rattle.pp_grammar.specs.Laws.{SameHead}
 use Rattle.pp_grammar.proofs.Local.Ahead.{Past}
-use Rattle.pp_grammar.specs.Keys.{earlier_line, doubled_key}
+use Rattle.pp_grammar.specs.Keys.{earlier_line}
 use Rattle.pp_grammar.proofs.Reader.Keys.{noting}
 use Rattle.pp_tree.specs.declared.expr.Expr.{Expr}
 use Rattle.pp_tree.specs.declared.expr.Pair.{Pair}

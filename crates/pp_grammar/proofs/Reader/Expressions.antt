@@ -1,9 +1,8 @@
 -- Expressions, as readers. A rule stands on some level; what stands one level further in is asked of `inner`.
-use Rattle.std.specs.Prelude.{ℕ, zero, suc, ◌+◌, ◌-◌, Bool, true, false, if◌then◌else◌, ◌==◌, List, [], ◌∷◌, ◌++◌, Option, Some, None}
+use Rattle.std.specs.Prelude.{ℕ, zero, suc, Bool, true, false, if◌then◌else◌, List, [], ◌++◌, Option, Some, None}
 use Rattle.pp_lexer.specs.declared.kind.Kind.{Kind}
 use Rattle.pp_lexer.specs.declared.kind.Kind.TheVariants as k
 use Rattle.pp_tree.specs.declared.operators.BinaryOperator.{BinaryOperator}
-use Rattle.pp_tree.specs.declared.operators.BinaryOperator.TheVariants as binary
 use Rattle.pp_tree.specs.declared.operators.PrefixOperator.{PrefixOperator}
 use Rattle.pp_tree.specs.declared.operators.PrefixOperator.TheVariants as prefix
 use Rattle.pp_tree.specs.declared.expr.Expr.{Expr}
@@ -20,7 +19,7 @@ use Rattle.pp_tree.specs.declared.param.Param.{Param}
 use Rattle.pp_tree.specs.declared.statement.Statement.{Statement}
 use Rattle.pp_tree.specs.declared.conditions.CaseOption.{CaseOption}
 use Rattle.pp_tree.specs.declared.conditions.Elsif.{Elsif}
-use Rattle.pp_tree.specs.Building.{expr_at, line_of, pair, operation, call, lambda, param, elsif, if_of, unless_of, case_of, case_option as option_of_case}
+use Rattle.pp_tree.specs.Building.{expr_at, pair, operation, call, lambda, param, elsif, if_of, unless_of, case_of, case_option as option_of_case}
 use Rattle.pp_parser.specs.declared.started.Started.{Started}
 use Rattle.pp_grammar.proofs.Reader.Input.{Parser, ◌>>=◌, ◌>>◌, ◌<$>◌, pure, peek, here, take, refuse, expect, expect_any, repeat, separated, separated_some}
 use Rattle.pp_grammar.proofs.Reader.Inner.{Inner, opening, whole_in, operand_in, interpolated_in, param_in, statements_in, case_option_in}

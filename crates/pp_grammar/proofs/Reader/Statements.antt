@@ -13,7 +13,6 @@ use Rattle.pp_tree.specs.declared.statement.Operand.{Operand}
 use Rattle.pp_tree.specs.declared.statement.Operand.TheVariants as operand
 use Rattle.pp_tree.specs.declared.statement.Link.{Link}
 use Rattle.pp_tree.specs.declared.statement.Arrow.{Arrow}
-use Rattle.pp_tree.specs.declared.statement.Arrow.TheVariants as arrow
 use Rattle.pp_tree.specs.declared.resource.ResourceForm.{ResourceForm}
 use Rattle.pp_tree.specs.declared.resource.ResourceForm.TheVariants as resource_form
 use Rattle.pp_tree.specs.declared.resource.Body.{Body}

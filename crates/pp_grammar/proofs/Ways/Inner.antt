@@ -1,5 +1,5 @@
 -- What is read one level further in, and which kinds surely end it.
-use Rattle.std.proofs.Common.{◌≡◌, ℕ, Bool, true, false, not, [], Option, Some, None, refl, ap, ◌∙◌, arith}
+use Rattle.std.proofs.Common.{◌≡◌, ℕ, Bool, true, false, not, Option, Some, None, ap, ◌∙◌}
 use Rattle.pp_lexer.specs.declared.kind.Kind.{Kind}
 use Rattle.pp_lexer.specs.declared.kind.Kind.TheVariants as k
 use Rattle.pp_grammar.proofs.Reader.Input.{Input, Parser, ◌>>=◌, ◌>>◌, pure, expect, separated}
@@ -8,7 +8,7 @@ use Rattle.pp_grammar.specs.Kinds.{is_kind}
 use Rattle.pp_grammar.proofs.Reader.Levels.{within}
 use Rattle.pp_tree.specs.declared.expr.Expr.{Expr}
 use Rattle.pp_grammar.proofs.Sound.Steps.{is_kind_is}
-use Rattle.pp_grammar.proofs.Local.Steps.{Cut, Falls, any}
+use Rattle.pp_grammar.proofs.Local.Steps.{Falls, any}
 use Rattle.pp_grammar.proofs.Local.Inner.{InnerLocal}
 use Rattle.pp_grammar.proofs.Local.Levels.{nowhere, itself}
 use Rattle.pp_grammar.proofs.Ways.Steps.{Rule, everything}

@@ -6,7 +6,7 @@ use Rattle.pp_parser.specs.declared.inset.InsetTree.TheVariants as part
 use Rattle.pp_parser.specs.declared.refusal.Refusal.TheVariants as refusals
 use Rattle.pp_grammar.proofs.Reader.Input.{Input, Outcome, Parser, and_then, ◌>>=◌, pure, refuse}
 use Rattle.pp_grammar.proofs.Reader.Inner.{expr_of, param_of, block_of, case_option_of, query_of, whole_in, operand_in, interpolated_in, param_in, statements_in, function_statements_in, case_option_in, query_in}
-use Rattle.pp_grammar.proofs.Reader.Levels.{part_by, within_to, within, deepest_to, read_to}
+use Rattle.pp_grammar.proofs.Reader.Levels.{part_by, within, deepest_to, read_to}
 use Rattle.pp_grammar.proofs.Reader.Expressions.{whole, operand, interpolated, param_rule, case_option}
 use Rattle.pp_grammar.proofs.Reader.Statements.{statements, query}
 use Rattle.pp_grammar.proofs.Reader.FunctionBodies.{function_statements}

@@ -1,5 +1,5 @@
 -- Whole texts within one limit and within another one.
-use Rattle.std.proofs.Common.{◌≡◌, ℕ, zero, suc, ◌+◌, ◌<◌, ◌≤◌, ltb, Bool, true, false, not, List, Option, length, Ok, Err, refl, sym, ap, subst, ◌∙◌, arith}
+use Rattle.std.proofs.Common.{◌≡◌, ℕ, zero, suc, ◌+◌, ◌<◌, ◌≤◌, ltb, Bool, true, not, List, Option, Ok, Err, refl, subst, arith}
 use Rattle.std.proofs.lemmas.Bool.{le-ltb}
 use Rattle.pp_lexer.specs.Seen.{Token}
 use Rattle.pp_parser.specs.declared.refusal.Refusal.TheVariants as refusals

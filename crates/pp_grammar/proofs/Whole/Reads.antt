@@ -119,7 +119,7 @@ file_reads path = record {
 
 to_end : {N : Within} {i j : Input} {ss : List Statement} → AreStatementsToEnd N i ss j → j.left ≡ []
 to_end (AreStatementsToEnd.end i e) = at_end i e
-to_end (AreStatementsToEnd.more i j l m s ss d e more) = to_end more
+to_end (AreStatementsToEnd.more i j l m s ss d e behind) = to_end behind
 
 template_ends : {N : Within} {i j : Input} {found : Template} → IsTemplate N i found j → j.left ≡ []
 template_ends (IsTemplate.template i j l m texts ss ps ts p ds) = to_end ds

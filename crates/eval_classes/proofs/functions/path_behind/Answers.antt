@@ -7,4 +7,4 @@ pub returns-in-None : goal.returns-in-None
 returns-in-None c = rw (segments_whole c.args.rest.now c.in-None.ensures.cases) c.one_path.ensures
 
 pub returns-in-Some : goal.returns-in-Some
-returns-in-Some c = sym (no_path c.args.module.now _ _ _ c.in-Some.ensures.cases)
+returns-in-Some c = sym (no_path c.args.front.now _ _ _ c.in-Some.ensures.cases)

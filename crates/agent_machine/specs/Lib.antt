@@ -1,6 +1,6 @@
--- What the clauses of `site_main` rest on, and a reader has to believe: Contents, Machines, States
+-- What the clauses of `site_main` rest on, and a reader has to believe: Contents, Machines, Parts, States
 -- What functions promise one another, what types keep, and what proofs read: CallTexts, Failing, Forms, MachineCodes,
--- Parts, Recorded, ReportCodes, StateCodes
+-- Recorded, ReportCodes, StateCodes
 pub mod CallTexts
 pub mod Contents
 pub mod Failing

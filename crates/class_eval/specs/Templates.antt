@@ -5,6 +5,7 @@ use Rattle.epp_text.specs.Parsing.{template_of}
 use Rattle.pp_tree.specs.declared.expr.Expr.{Expr}
 use Rattle.pp_tree.specs.declared.param.Param.{Param}
 use Rattle.pp_tree.specs.declared.statement.Statement.{Statement}
+use Rattle.pp_tree.specs.declared.template.Template.{Template}
 use Rattle.pp_values.specs.Datum as d
 use Rattle.pp_values.specs.Datum.{Datum, Pair}
 use Rattle.pp_values.specs.Faults as faults
@@ -120,9 +121,14 @@ rendered_rule inner b own = do
   block_rule inner b own
   finish before
 
--- The template is read when it is used, so a fault of its text comes behind those of the call's arguments.
+-- the text by the template's tree
+unfoldable pub written_rule : Inner → Template → Rendering → Here → Step Datum
+written_rule inner t r own = do
+  given_by inner t.params (pairs_given r.given) r own
+  rendered_rule inner t.block own
+
+-- A fault of the template's text is told when it is used, and comes behind those of the call's arguments.
 unfoldable pub template_rule : Inner → Rendering → Here → Step Datum
 template_rule inner r own = do
   t ← answered (template_of r.file r.text)
-  given_by inner t.params (pairs_given r.given) r own
-  rendered_rule inner t.block own
+  written_rule inner t r own

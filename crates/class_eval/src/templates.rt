@@ -22,7 +22,7 @@ use pp_tree::template::Template;
 use pp_values::{Fault, Memory, Place, Stop, Text, Value, What};
 use std::alloc::Global;
 
-/// The text of a template, which is read here.
+/// The text of a template, which is parsed here where it is not yet.
 #[tactic(auto, unfolding(crate::specs::Templates::template_rule))]
 pub fn template<F: Fn(&mut World<'_>, Goal<'_>, Here, u32) -> Result<Evaluated, Stop>, M: Meaning>(
     forms: &Forms<F, M>,
@@ -34,8 +34,46 @@ pub fn template<F: Fn(&mut World<'_>, Goal<'_>, Here, u32) -> Result<Evaluated, 
     ensures { Gives same (spec.template_rule (M.within forms.now.left) (rendering_seen rendering.now) own world.old) result
         world.new }
 {
+    match world
+        .environment
+        .template_at(rendering.file, rendering.text)
+    {
+        Some(Ok(read)) => written(forms, world, read, rendering, own),
+        Some(Err(fault)) => Err(Stop::Fault(fault.copy(world.heap.alloc())?)),
+        None => parsed(forms, world, rendering, own),
+    }
+}
+
+/// The text of a template that is not parsed yet.
+#[tactic(auto, unfolding(crate::specs::Templates::template_rule))]
+fn parsed<F: Fn(&mut World<'_>, Goal<'_>, Here, u32) -> Result<Evaluated, Stop>, M: Meaning>(
+    forms: &Forms<F, M>,
+    world: &mut World<'_>,
+    rendering: &Rendering<'_>,
+    own: Here,
+) -> Result<Evaluated, Stop>
+    requires { Nests (M.within forms.now.left) forms.now.left (F.pre forms.now.inner) (F.post forms.now.inner) }
+    ensures { Gives same (spec.template_rule (M.within forms.now.left) (rendering_seen rendering.now) own world.old) result
+        world.new }
+{
     let read = parse_epp(world.heap.alloc(), rendering.file, rendering.text)?;
-    give(forms, world, &read, rendering, own)?;
+    written(forms, world, &read, rendering, own)
+}
+
+/// The text of a template by its tree.
+#[tactic(auto, unfolding(crate::specs::Templates::written_rule))]
+fn written<F: Fn(&mut World<'_>, Goal<'_>, Here, u32) -> Result<Evaluated, Stop>, M: Meaning>(
+    forms: &Forms<F, M>,
+    world: &mut World<'_>,
+    read: &Template,
+    rendering: &Rendering<'_>,
+    own: Here,
+) -> Result<Evaluated, Stop>
+    requires { Nests (M.within forms.now.left) forms.now.left (F.pre forms.now.inner) (F.post forms.now.inner) }
+    ensures { Gives same (spec.written_rule (M.within forms.now.left) read.now (rendering_seen rendering.now) own world.old)
+        result world.new }
+{
+    give(forms, world, read, rendering, own)?;
     let text = rendered(forms, world, &read.block, own)?;
     Ok(Evaluated::new(Value::Text(text)))
 }

@@ -13,7 +13,7 @@ use export_store::Version;
 use pp_tree::File;
 use pp_values::{Fault, Stop, Text, Value};
 use res_core::{Catalog, ExportSet};
-use site_bundle::{Site, data_of};
+use site_bundle::{Site, data_of, templates_of};
 use std::alloc::Global;
 
 /// The catalog of a node with these facts and what it exports, by a site and the sets that the nodes export; or the
@@ -40,11 +40,16 @@ fn refused(alloc: Global, fault: &Fault) -> Result<(Catalog, ExportSet), Stop>
     Err(Stop::Fault(fault.copy(alloc)?))
 }
 
-/// What is read of a site: its manifests and its data.
+/// What is read of a site: its manifests, its data and its templates.
 fn environment_of<'a>(site: &'a Site, main: &'a File) -> Environment<'a>
     ensures { result ≡ spec.environment_of site.now main.now }
 {
-    Environment::new(main, site.manifests().as_map(), data_of(site))
+    Environment::new(
+        main,
+        site.manifests().as_map(),
+        data_of(site),
+        templates_of(site),
+    )
 }
 
 /// The same by the trees of the manifests.

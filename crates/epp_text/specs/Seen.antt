@@ -14,3 +14,7 @@ abbrev pub piece_code : Coded PieceKind → Coded Piece
 piece_code kinds =
     code_by (PieceKind × (List ℕ × ℕ)) (coded× kinds (coded× (coded_list coded_ℕ) coded_ℕ))
     (λ p. (p.kind, (p.text, p.line))) (λ q. record { kind = q.0; text = q.1.0; line = q.1.1 }) (λ _. refl)
+
+-- a path, and the text that stands there
+abbrev pub Filed : Type 0
+Filed = List ℕ × List ℕ

@@ -1,24 +1,29 @@
-ghost use Rattle.std.specs.Prelude.{◌≡◌};
+ghost use Rattle.std.specs.Prelude.{◌≡◌, IfSome};
 ghost use Rattle.std.specs.FinMap.{find};
 ghost use Rattle.std.specs.Option.{option_copied};
+ghost use Rattle.epp_text.specs.Parsing.{template_of};
 ghost use Rattle.eval_world.specs.Environment.{text_at};
 ghost use Rattle.pp_values.specs.Rising.{text_cmp};
 
+use epp_text::Templates;
 use hiera_config::SiteData;
+use pp_tree::template::Template;
 use pp_tree::{File, ManifestFile};
-use pp_values::Text;
+use pp_values::{Fault, Text};
 use std::collections::BTreeMap;
 use std::marker::Model;
 
-/// What an evaluation reads: the main manifest, all manifests of the site by their paths, and the site's data. They
-/// stay as they are.
+/// What an evaluation reads: the main manifest, all manifests of the site by their paths, the site's data, and the
+/// templates that are parsed already. They stay as they are.
 ///
-/// A contract sees trees, faults and texts, and not where they lie.
+/// A contract sees trees, faults and texts, and not where they lie. It doesn't see which templates are parsed: what was
+/// read of one is what its text says.
 #[derive(Drop)]
 pub struct Environment<'a> {
     main: &'a File,
     files: &'a BTreeMap<Text, ManifestFile>,
     site_data: &'a SiteData,
+    templates: &'a Templates,
 }
 
 impl<'a> Model for Environment<'a> {
@@ -38,6 +43,7 @@ impl<'a> Environment<'a> {
         main: &'a File,
         files: &'a BTreeMap<Text, ManifestFile>,
         site_data: &'a SiteData,
+        templates: &'a Templates,
     ) -> Environment<'a>
         ensures { result ≡ record { main = main.now; files = files.now.entries; site_data = site_data.now } }
     {
@@ -45,6 +51,7 @@ impl<'a> Environment<'a> {
             main,
             files,
             site_data,
+            templates,
         }
     }
 
@@ -70,6 +77,13 @@ impl<'a> Environment<'a> {
             Some(file) => Some(&file.text),
             None => other_text(self.site_data, path),
         }
+    }
+
+    /// What was read of the template of this text in the file at this path, if it is parsed already.
+    pub fn template_at(&self, path: &Text, text: &Text) -> Option<&'a Result<Template, Fault>>
+        ensures { IfSome result (λ r. r.now ≡ template_of path.now text.now) }
+    {
+        self.templates.get(path, text)
     }
 
     /// The data of the site.

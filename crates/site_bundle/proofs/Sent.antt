@@ -1,4 +1,4 @@
--- A manifest may go to another thread, and manifests may be shared by threads.
+-- A manifest may go to another thread, and manifests and templates may be shared by threads.
 use denote.Param.Send.{IsSend, IsSync, struct_send, struct_sync, sendable}
 use denote.Struct.Declared as declared
 use Rattle.std.proofs.Crossing.{crosses}
@@ -40,6 +40,9 @@ use Rattle.pp_tree.specs.contracts.definition.Node as node
 use Rattle.pp_tree.specs.contracts.table.Table as table
 use Rattle.pp_tree.specs.contracts.file.File as file
 use Rattle.pp_tree.specs.contracts.manifest_file.ManifestFile as site_file
+use Rattle.pp_tree.specs.contracts.template.Template as template
+use Rattle.epp_text.specs.contracts.template_file.TemplateFile as template_file
+use Rattle.epp_text.specs.contracts.templates.Templates as templates
 use Rattle.site_bundle.specs.contracts.manifest.Manifest as manifest
 use Rattle.site_bundle.specs.contracts.site_files.SiteFiles as site_files
 
@@ -345,6 +348,44 @@ files_send = search (sendable, crosses, map.the_send, text.the_send, site_file_s
 
 pub files_sync : IsSync site_files.the_row
 files_sync = search (sendable, crosses, map.the_sync, text.the_sync, site_file_sync) depth 40 fits 40000
+
+-- ---- templates
+
+pub template_fields_send : IsSend (declared.field template.the_type).row
+template_fields_send =
+    struct_send (declared.shape template.the_type) (
+      search sends depth 40 fits 40000,
+      (search sends depth 40 fits 40000, tt),
+    )
+
+pub template_fields_sync : IsSync (declared.field template.the_type).row
+template_fields_sync =
+    struct_sync (declared.shape template.the_type) (
+      search syncs depth 40 fits 40000,
+      (search syncs depth 40 fits 40000, tt),
+    )
+
+pub template_send : IsSend (declared.row template.the_type)
+template_send = search (sendable, template_fields_send) depth 20
+
+pub template_sync : IsSync (declared.row template.the_type)
+template_sync = search (sendable, template_fields_sync) depth 20
+
+pub template_file_send : IsSend template_file.the_row
+template_file_send =
+    search (sendable, crosses, text.the_send, result.the_field_send, template_send, fault.the_send)
+    depth 40 fits 40000
+
+pub template_file_sync : IsSync template_file.the_row
+template_file_sync =
+    search (sendable, crosses, text.the_sync, result.the_field_sync, template_sync, fault.the_sync)
+    depth 40 fits 40000
+
+pub templates_send : IsSend templates.the_row
+templates_send = search (sendable, crosses, map.the_send, text.the_send, template_file_send) depth 40 fits 40000
+
+pub templates_sync : IsSync templates.the_row
+templates_sync = search (sendable, crosses, map.the_sync, text.the_sync, template_file_sync) depth 40 fits 40000
 
 -- ---- a manifest on its way to a thread and back
 

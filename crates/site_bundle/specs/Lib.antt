@@ -1,6 +1,6 @@
 -- What the clauses of `site_main` rest on, and a reader has to believe: Given, SiteView, NodeNames, Refusals,
 -- Documents, Keeping, Files, GivenFacts, Nodes, RequestsOf, Machines, Bundles, Walks, Gathering, FolderSites
--- What functions promise one another, what types keep, and what proofs read: Listing
+-- What functions promise one another, what types keep, and what proofs read: Listing, Templates
 pub mod Given
 pub mod SiteView
 pub mod Listing
@@ -17,3 +17,4 @@ pub mod Bundles
 pub mod Walks
 pub mod Gathering
 pub mod FolderSites
+pub mod Templates

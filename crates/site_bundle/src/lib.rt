@@ -22,6 +22,7 @@ mod refusing;
 mod requests;
 pub mod site;
 pub mod site_files;
+mod site_templates;
 pub mod stop_lines;
 mod walking;
 
@@ -32,6 +33,6 @@ pub use limits::{MOST_BUNDLE_BYTES, MOST_FILE_BYTES, MOST_NAME_CHARACTERS, MOST_
 pub use listed_nodes::ListedNodes;
 pub use node_name::is_node_name;
 pub use reading::{read_bundle, read_request_list, read_site_text};
-pub use site::{Site, data_of, file_text, make_site, site_of_main};
+pub use site::{Site, data_of, file_text, make_site, site_of_main, templates_of};
 pub use site_files::SiteFiles;
 pub use stop_lines::stop_text;

@@ -10,12 +10,15 @@ ghost use Rattle.pp_values.specs.declared.place.TheConstants.{MAIN_MANIFEST};
 ghost use Rattle.site_bundle.specs.Given.{are_distinct, has_main, are_short};
 ghost use Rattle.site_bundle.specs.Keeping.{kept};
 ghost use Rattle.site_bundle.specs.SiteView.{facts_for, file_in, main_text, have_facts, put_in, site_of};
+ghost use Rattle.site_bundle.specs.Templates.{with_templates};
 
 use crate::kept_files::KeptFiles;
 use crate::listed_nodes::ListedNodes;
 use crate::manifest_texts::ManifestTexts;
 use crate::parsing::{parse_all, parse_in_turn};
 use crate::site_files::SiteFiles;
+use crate::site_templates::read_templates;
+use epp_text::Templates;
 use hiera_config::SiteData;
 use pp_tree::manifest_file::ManifestFile;
 use pp_values::fact_pairs::FactPairs;
@@ -28,8 +31,8 @@ use std::alloc::Global;
 use std::marker::Model;
 use std::thread::Threads;
 
-/// A site: its manifests and the files of its data, which were read when it was made, and the facts that it lists for
-/// nodes.
+/// A site: its manifests, its templates and the files of its data, which were read when it was made, and the facts that
+/// it lists for nodes.
 ///
 /// A contract sees the paths and texts of the files, and the nodes with what their facts say.
 pub struct Site {
@@ -37,6 +40,8 @@ pub struct Site {
     main: Text,
     manifests: SiteFiles,
     data: SiteData,
+    // Those among the other files, parsed.
+    templates: Templates,
     nodes: ListedNodes,
 }
 
@@ -47,15 +52,17 @@ impl Drop for Site {
             main: _main,
             manifests: _manifests,
             data: _data,
+            templates: _templates,
             nodes: _nodes,
         } = self;
     }
 }
 
 impl Model for Site {
-    ghost use Rattle.std.specs.Prelude.{◌≡◌, IsSome};
+    ghost use Rattle.std.specs.Prelude.{◌≡◌, [], IsSome};
     ghost use Rattle.pp_values.specs.declared.place.TheConstants.{MAIN_MANIFEST};
     ghost use Rattle.site_bundle.specs.SiteView.{SiteView, coded_site, text_at};
+    ghost use Rattle.site_bundle.specs.Templates.{with_templates};
 
     ghost Value = { SiteView };
 
@@ -63,7 +70,7 @@ impl Model for Site {
 
     ghost view = { λ s. record { manifests = s.manifests; «data» = s.data; nodes = s.nodes } };
 
-    ghost invariant = { λ s. (s.main ≡ MAIN_MANIFEST.now)
+    ghost invariant = { λ s. (s.main ≡ MAIN_MANIFEST.now) × (s.templates ≡ with_templates [] s.data)
         × IsSome (text_at (record { manifests = s.manifests; «data» = s.data; nodes = s.nodes }) MAIN_MANIFEST.now) };
 }
 
@@ -102,6 +109,14 @@ pub fn data_of(site: &Site) -> &SiteData
     ensures { result.now ≡ site.now.data }
 {
     &site.data
+}
+
+/// The site's templates, as they were parsed when it was made. They are kept for speed: what is rendered says the same
+/// without them.
+pub fn templates_of(site: &Site) -> &Templates
+    ensures { result.now ≡ with_templates [] site.now.data }
+{
+    &site.templates
 }
 
 /// The text of the file at this path, a manifest or another one, where the site has such a file.
@@ -193,11 +208,13 @@ fn site_of_files(
     ensures { IfOk result (λ s. s ≡ record { manifests = manifests; «data» = others; nodes = nodes }) }
 {
     let main = Text::from_str(alloc, MAIN_MANIFEST)?;
+    let templates = read_templates(alloc, &others)?;
     let data = planned(alloc, others)?;
     Ok(Site {
         main,
         manifests,
         data,
+        templates,
         nodes,
     })
 }

@@ -1,5 +1,6 @@
 //! The calls for one expression and for one block, at lawful depths and past them.
 use class_eval::Evaluator;
+use epp_text::Templates;
 use eval_world::{Environment, Evaluated, Here};
 use hiera_config::SiteData;
 use pp_parser::manifest::parse;
@@ -43,7 +44,8 @@ fn value_in(alloc: Global, main: &File, is_block: bool, depth: u32) -> Result<St
     let facts = Value::Hash(Pairs::new(alloc));
     let files = BTreeMap::new(alloc);
     let site_data = SiteData::new(alloc);
-    let environment = Environment::new(main, &files, &site_data);
+    let templates = Templates::new(alloc);
+    let environment = Environment::new(main, &files, &site_data, &templates);
     let mut evaluator = Evaluator::start(alloc, environment, &node, &facts)?;
     if is_block {
         return given(

@@ -117,7 +117,7 @@ module _ (inner : Inner) (g : GrowsInner inner) where
   pub template_grows : ((b : List Statement) (own : Here) → Grows (block_rule inner b own)) →
       (r : Rendering) (own : Here) →
       Grows (template_rule inner r own)
-  unfolding template_rule
+  unfolding template_rule written_rule
   template_grows blocks r own = and_then (answer_grows _) (λ (t : Template).
       and_then (given_grows t.params (pairs_given r.given) r own) (λ u.
       rendered_grows inner t.block own (blocks t.block own)))

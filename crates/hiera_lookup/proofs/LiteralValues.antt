@@ -8,7 +8,7 @@ use Rattle.hiera_config.specs.Meant.{go_on}
 use Rattle.hiera_config.proofs.Simple.{both_left, both_right}
 use Rattle.hiera_lookup.specs.Asks.{asks, list_asks, pair_asks}
 use Rattle.hiera_lookup.specs.Filled.{Gives, answer_to, as_key, filled, list_filled, pairs_filled}
-use Rattle.hiera_lookup.specs.Literals.{is_literal, are_literal, are_literal_pairs}
+use Rattle.hiera_config.specs.Literals.{is_literal, are_literal, are_literal_pairs}
 use Rattle.hiera_lookup.specs.Look.{Looks, answers, interpolated}
 use Rattle.hiera_lookup.specs.World.{World}
 use Rattle.hiera_lookup.proofs.PlainTexts.{plain_asks, plain_filled}
@@ -16,12 +16,6 @@ use Rattle.hiera_lookup.proofs.PlainTexts.{plain_asks, plain_filled}
 not_so : (b : Bool) → not b ≡ true → b ≡ false
 not_so true is = absurd (cc is)
 not_so false is = refl
-
--- what a hash of the code's own says of its keys
-pub with_distinct : (b : Bool) (ps : List Pair) → IsTrue (are_distinct ps)
-    → b ≡ (b && are_distinct (pairs_of (entries_of ps)))
-with_distinct true ps distinct = sym (ap are_distinct (pairs_of-entries_of ps) ∙ distinct)
-with_distinct false ps distinct = refl
 
 -- ---- they ask for nothing
 

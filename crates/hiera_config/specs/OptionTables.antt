@@ -38,7 +38,8 @@ kept_option table root = option_among table.by_key.entries root
 
 -- these pairs are put over what was kept: of two with one key the first counts
 abbrev pub PutsOver : List Pair → List (List ℕ × Value) → List (List ℕ × Value) → Type 0
-PutsOver ps old new = (root : List ℕ) → option_among new root ≡ or_else (value_at (text root) ps) (option_among old root)
+PutsOver ps old new =
+    (root : List ℕ) → option_among new root ≡ or_else (value_at (text root) ps) (option_among old root)
 
 -- the sources are tables, and this is kept of them
 abbrev pub KeepsTables : List Source → OptionTable → Type 0

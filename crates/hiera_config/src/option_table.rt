@@ -1,6 +1,6 @@
 //! The options of look-ups, read once for a site.
 ghost use Rattle.std.specs.Prelude.{◌≡◌, ℕ, true, List, [], ◌∷◌, IfOk, IfSome, OnOk, option_map};
-ghost use Rattle.pp_values.specs.Views.{view, pair_views};
+ghost use Rattle.pp_values.specs.Views.{view};
 ghost use Rattle.hiera_config.specs.Found.{source_views};
 ghost use Rattle.hiera_config.specs.OptionTables.{IsOption, KeepsOptions, KeepsTables, PutsOver, are_tables, is_table};
 ghost use Rattle.hiera_config.specs.OptionTables.{first_options, kept_option, option_among};

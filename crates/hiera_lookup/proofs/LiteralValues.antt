@@ -1,8 +1,7 @@
 -- Values in which nothing is interpolated.
-use Rattle.std.proofs.Common.{◌≡◌, ℕ, Bool, true, false, not, ◌&&◌, IsTrue, cond, List, [], ◌∷◌, ◌++◌, Some, Ok, is_some, codes, refl, sym, ap, ◌∙◌, append_assoc, append-nil}
+use Rattle.std.proofs.Common.{◌≡◌, ℕ, Bool, true, false, not, ◌&&◌, cond, List, [], ◌∷◌, ◌++◌, Some, Ok, is_some, codes, refl, sym, ap, ◌∙◌, append_assoc, append-nil}
 use Rattle.pp_values.specs.Datum.{Datum, undef, flag, int, text, list, hash, reference, kind, default, Data, no_data, datum, Entries, no_entries, entry, Pair, entries_of, pairs_of}
 use Rattle.pp_values.specs.Keys.{is_key, same_key, lacks, are_distinct, with_pair}
-use Rattle.pp_values.proofs.Lists.{pairs_of-entries_of}
 use Rattle.hiera_config.specs.Cuts.{cut_at}
 use Rattle.hiera_config.specs.Meant.{go_on}
 use Rattle.hiera_config.proofs.Simple.{both_left, both_right}

@@ -17,7 +17,6 @@ use Rattle.hiera_config.proofs.Simple.{both_left, both_right}
 use Rattle.hiera_merge.specs.declared.merge.Merge.{Merge}
 use Rattle.hiera_merge.specs.declared.merge.Merge.TheVariants as by
 use Rattle.hiera_merge.specs.DeepSteps.{AreKeyed}
-use Rattle.hiera_merge.specs.Digging.{member}
 use Rattle.hiera_merge.specs.Merges.{pairs_in, with_pairs, is_hash, takes}
 use Rattle.hiera_merge.proofs.HashLemmas.{none_put, value_put, hash_distinct}
 use Rattle.hiera_lookup.specs.Found.{found, found_in, dug_or_refused}

@@ -8,11 +8,12 @@ use Rattle.hiera_config.proofs.option_table.joined.Goals as goal
 
 pub loop-source-preserved : goal.loop-source-preserved
 loop-source-preserved c =
-    let parts = c.pop.ensures.items ∙ ap (λ o. c.pop.new.self.items ++ option_to_list o) c.in-Some.is in (
+    let parts = c.pop.ensures.items ∙ ap (λ o. c.pop.new.self.items ++ option_to_list o) c.in-Some.is in
+    let puts =
+    subst (λ v. PutsOver (pairs_in (view v)) c.loop-source.by_key.entries c.put_table.new.by_key.entries)
+    c.into_value.ensures c.in_ok-put_table.ensures in (
       tables_left c.loop-source.left.items c.pop.new.self.items c.in-Some.source parts c.loop-source.invariant.0,
       λ root.
           one_higher root c.loop-source.left.items c.pop.new.self.items c.in-Some.source c.loop-source.by_key.entries
-          c.put_table.new.by_key.entries _ parts c.loop-source.invariant.0 (subst (λ v. PutsOver (pairs_in (view v)) c.loop-source.by_key.entries c.put_table.new.by_key.entries)
-          c.into_value.ensures c.in_ok-put_table.ensures)
-          (c.loop-source.invariant.1 root),
+          c.put_table.new.by_key.entries _ parts c.loop-source.invariant.0 puts (c.loop-source.invariant.1 root),
     )

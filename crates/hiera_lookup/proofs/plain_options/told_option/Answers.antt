@@ -8,4 +8,4 @@ pub returns-in-Some : goal.returns-in-Some
 returns-in-Some c =
     has_by_option c.args.world.now.data.now (seen_variables c.args.world.now.variables)
     (option_map (λ t. t.now) c.args.of_module) c.args.root.now (option_map (λ v. view v.now) c.in-Some.options)
-    c.merge_by-in-Some.result c.in-Some.ensures c.merge_by-in-Some.ensures
+    c.merge_by.result c.in-Some.ensures c.merge_by.ensures

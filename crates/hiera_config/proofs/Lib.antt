@@ -15,3 +15,4 @@ mod FlagLemmas
 mod PlanLemmas
 pub mod Simple
 mod SoundLemmas
+pub mod OptionLemmas

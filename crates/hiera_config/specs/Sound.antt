@@ -127,3 +127,7 @@ AreSources files name key found = (v : Variables) → sources files v name key �
 abbrev pub LacksConfig : List File → Option (List ℕ) → Type 0
 LacksConfig files None = ⊤
 LacksConfig files (Some name) = None ≡ text_at (config_path (module_folder name)) files
+
+-- so they are for each such module
+abbrev pub SoundSources : List File → List ℕ → List Source → Type 0
+SoundSources files key found = (name : Option (List ℕ)) → LacksConfig files name → AreSources files name key found

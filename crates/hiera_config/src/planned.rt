@@ -4,8 +4,8 @@ ghost use Rattle.hiera_config.specs.Documents.{text_at};
 ghost use Rattle.hiera_config.specs.Flags.{mark_of};
 ghost use Rattle.hiera_config.specs.Found.{source_views};
 ghost use Rattle.hiera_config.specs.Planning.{Skips};
-ghost use Rattle.hiera_config.specs.Sound.{SkipsAll, SoundLayers, AreSources, source_if, had_in_slot, had_in};
-ghost use Rattle.hiera_config.specs.Sound.{value_in_text};
+ghost use Rattle.hiera_config.specs.Sound.{SkipsAll, SoundLayers, SoundSources, AreSources, source_if, had_in_slot};
+ghost use Rattle.hiera_config.specs.Sound.{had_in, value_in_text};
 
 use crate::flags::mark_of;
 use crate::highest::{lacks_config, value_in_file};
@@ -32,6 +32,20 @@ pub fn planned_sources(
     if !lacks_config(alloc, files, module_name) {
         return Ok(None);
     }
+    Ok(Some(sources_in(alloc, files, global, environment, key)?))
+}
+
+/// The same for each module that has no configuration.
+pub fn sound_sources(
+    alloc: Global,
+    files: &SiteData,
+    key: &str,
+) -> Result<Option<Vec<Source>>, Memory>
+    ensures { IfOk result (λ o. IfSome o (λ v. SoundSources files.now key.now (source_views v.items))) }
+{
+    let Some((global, environment)) = files.sound_plans() else {
+        return Ok(None);
+    };
     Ok(Some(sources_in(alloc, files, global, environment, key)?))
 }
 

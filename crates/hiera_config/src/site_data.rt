@@ -7,6 +7,7 @@ ghost use Rattle.hiera_config.specs.Config.{config_of};
 ghost use Rattle.hiera_config.specs.Documents.{is_of_module, put_in};
 ghost use Rattle.hiera_config.specs.Keeping.{filed, IsKept, AreSimple, lacks_options, are_none, lacks_defaults};
 ghost use Rattle.hiera_config.specs.Keeping.{simple_file};
+ghost use Rattle.hiera_config.specs.OptionTables.{KeepsOptions};
 ghost use Rattle.hiera_config.specs.Planning.{PlannedAt};
 ghost use Rattle.hiera_config.specs.Sound.{SoundLayers};
 ghost use Rattle.hiera_config.specs.Sources.{global_folder};
@@ -15,6 +16,7 @@ ghost use Rattle.serde_json.specs.View.{view as json_view};
 use crate::config::{Config, Level};
 use crate::config_reading::{config_of, parsed};
 use crate::flags::flags_of;
+use crate::option_table::{OPTIONS, OptionTable, options_in};
 use crate::plan::{FixedFile, Plan, file_at, plan_at};
 use crate::soundness::{are_sound_layers, is_sound_document};
 use pp_values::{Memory, Text, TextPairs, copy_text_pairs};
@@ -58,12 +60,15 @@ pub struct SiteData {
     environment: Plan,
     // Both layers have a sound file for each of their levels.
     is_sound: bool,
+    // The options of look-ups, where the sound files tell them.
+    options: Option<OptionTable>,
 }
 
 impl Model for SiteData {
-    ghost use Rattle.std.specs.Prelude.{◌≡◌, true, List};
+    ghost use Rattle.std.specs.Prelude.{◌≡◌, true, List, IfSome};
     ghost use Rattle.hiera_config.specs.Documents.{File};
     ghost use Rattle.hiera_config.specs.Keeping.{filed, AreKept, KeptSimple};
+    ghost use Rattle.hiera_config.specs.OptionTables.{KeepsOptions};
     ghost use Rattle.hiera_config.specs.Planning.{ArePlanned};
     ghost use Rattle.hiera_config.specs.Sound.{SoundLayers};
 
@@ -73,7 +78,8 @@ impl Model for SiteData {
 
     ghost invariant = { λ s. AreKept s.by_path.entries × (s.is_simple ≡ true → KeptSimple s.by_path.entries)
         × ArePlanned (filed s.by_path.entries) s.global.items s.environment.items
-        × (s.is_sound ≡ true → SoundLayers (filed s.by_path.entries) s.global.items s.environment.items) };
+        × (s.is_sound ≡ true → SoundLayers (filed s.by_path.entries) s.global.items s.environment.items)
+        × IfSome s.options (λ t. KeepsOptions (filed s.by_path.entries) t) };
 }
 
 impl SiteData {
@@ -86,6 +92,7 @@ impl SiteData {
             global: Vec::new(alloc),
             environment: Vec::new(alloc),
             is_sound: false,
+            options: None,
         }
     }
 
@@ -101,12 +108,23 @@ impl SiteData {
         self.global = Vec::new(alloc);
         self.environment = Vec::new(alloc);
         self.is_sound = false;
+        self.options = None;
         Ok(())
     }
 
-    /// Finds the data files of the global layer and of the environment ahead. It must be called once all files are
-    /// read, for speed: without it look-ups tell the same, but write the paths of all levels and read all their files.
+    /// Finds the data files of the global layer and of the environment ahead, and reads the options of look-ups. It
+    /// must be called once all files are read, for speed: without it look-ups tell the same, but write the paths of all
+    /// levels, and read all their files and all options.
     pub fn plan(&mut self, alloc: Global) -> Result<(), Memory>
+        ensures { self.new ≡ self.old }
+    {
+        self.plan_layers(alloc)?;
+        let options = options_in(alloc, self)?;
+        self.options = options;
+        Ok(())
+    }
+
+    fn plan_layers(&mut self, alloc: Global) -> Result<(), Memory>
         ensures { self.new ≡ self.old }
     {
         let global = plan_at(alloc, &self.by_path, "global/")?;
@@ -159,6 +177,13 @@ impl SiteData {
         }
     }
 
+    /// The options of look-ups, where the sound plans tell them.
+    pub fn options(&self) -> Option<&OptionTable>
+        ensures { IfSome result (λ t. KeepsOptions self.now t.now) }
+    {
+        self.options.as_ref()
+    }
+
     /// All files, by path in byte order.
     pub fn as_map(&self) -> &BTreeMap<Text, DataFile>
         ensures { filed result.now.entries ≡ self.now }
@@ -207,7 +232,7 @@ fn lacks_options(json: &Option<Json>) -> bool
     ensures { result ≡ lacks_options (option_map json_view json.now) }
 {
     match json {
-        Some(json) => json.get("lookup_options").is_none(),
+        Some(json) => json.get(OPTIONS).is_none(),
         None => true,
     }
 }

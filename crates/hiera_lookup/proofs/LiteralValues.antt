@@ -1,14 +1,13 @@
 -- Values in which nothing is interpolated.
-use Rattle.std.proofs.Common.{◌≡◌, ℕ, Bool, true, false, not, ◌&&◌, IsTrue, cond, List, [], ◌∷◌, ◌++◌, Some, Ok, is_some, codes, refl, sym, ap, ◌∙◌, append_assoc, append-nil}
+use Rattle.std.proofs.Common.{◌≡◌, ℕ, Bool, true, false, not, ◌&&◌, cond, List, [], ◌∷◌, ◌++◌, Some, Ok, is_some, codes, refl, sym, ap, ◌∙◌, append_assoc, append-nil}
 use Rattle.pp_values.specs.Datum.{Datum, undef, flag, int, text, list, hash, reference, kind, default, Data, no_data, datum, Entries, no_entries, entry, Pair, entries_of, pairs_of}
 use Rattle.pp_values.specs.Keys.{is_key, same_key, lacks, are_distinct, with_pair}
-use Rattle.pp_values.proofs.Lists.{pairs_of-entries_of}
 use Rattle.hiera_config.specs.Cuts.{cut_at}
 use Rattle.hiera_config.specs.Meant.{go_on}
 use Rattle.hiera_config.proofs.Simple.{both_left, both_right}
 use Rattle.hiera_lookup.specs.Asks.{asks, list_asks, pair_asks}
 use Rattle.hiera_lookup.specs.Filled.{Gives, answer_to, as_key, filled, list_filled, pairs_filled}
-use Rattle.hiera_lookup.specs.Literals.{is_literal, are_literal, are_literal_pairs}
+use Rattle.hiera_config.specs.Literals.{is_literal, are_literal, are_literal_pairs}
 use Rattle.hiera_lookup.specs.Look.{Looks, answers, interpolated}
 use Rattle.hiera_lookup.specs.World.{World}
 use Rattle.hiera_lookup.proofs.PlainTexts.{plain_asks, plain_filled}
@@ -16,12 +15,6 @@ use Rattle.hiera_lookup.proofs.PlainTexts.{plain_asks, plain_filled}
 not_so : (b : Bool) → not b ≡ true → b ≡ false
 not_so true is = absurd (cc is)
 not_so false is = refl
-
--- what a hash of the code's own says of its keys
-pub with_distinct : (b : Bool) (ps : List Pair) → IsTrue (are_distinct ps)
-    → b ≡ (b && are_distinct (pairs_of (entries_of ps)))
-with_distinct true ps distinct = sym (ap are_distinct (pairs_of-entries_of ps) ∙ distinct)
-with_distinct false ps distinct = refl
 
 -- ---- they ask for nothing
 

@@ -4,22 +4,25 @@ use Rattle.std.specs.Prelude.{IfSome}
 use Rattle.pp_values.specs.Datum.{Datum, undef, flag, int, text, list, hash, reference, kind, default, Pair, entries_of, pairs_of}
 use Rattle.pp_values.specs.Keys.{same_key, are_distinct, value_at, with_pair}
 use Rattle.pp_values.proofs.Lists.{pairs_of-entries_of, entries_of-pairs_of}
-use Rattle.hiera_lookup.specs.Literals.{is_literal, are_literal_pairs}
+use Rattle.hiera_config.specs.Literals.{is_literal, are_literal_pairs}
+use Rattle.hiera_config.specs.Documents.{File}
 use Rattle.hiera_config.specs.Meant.{Meant, go_on}
-use Rattle.hiera_lookup.specs.OptionTables.{is_table, are_tables, joined_tables, merge_by, HasOption}
+use Rattle.hiera_config.specs.OptionTables.{is_table, are_tables, first_options, IsOption}
+use Rattle.hiera_lookup.specs.OptionTables.{joined_tables, merge_by, HasOption}
 use Rattle.hiera_config.specs.Sound.{or_else}
-use Rattle.hiera_config.specs.Sources.{Source}
+use Rattle.hiera_config.specs.Sources.{Source, sources}
+use Rattle.hiera_config.specs.Variables.{Variables}
+use Rattle.hiera_config.proofs.OptionLemmas.{table_member}
 use Rattle.hiera_config.proofs.Simple.{both_left, both_right}
 use Rattle.hiera_merge.specs.declared.merge.Merge.{Merge}
 use Rattle.hiera_merge.specs.declared.merge.Merge.TheVariants as by
 use Rattle.hiera_merge.specs.DeepSteps.{AreKeyed}
-use Rattle.hiera_merge.specs.Digging.{member}
 use Rattle.hiera_merge.specs.Merges.{pairs_in, with_pairs, is_hash, takes}
 use Rattle.hiera_merge.proofs.HashLemmas.{none_put, value_put, hash_distinct}
 use Rattle.hiera_lookup.specs.Found.{found, found_in, dug_or_refused}
 use Rattle.hiera_lookup.specs.Look.{Looks, is_busy, look, look_within, merge_for, interpolated}
 use Rattle.hiera_lookup.specs.Options.{options_key, option_in, of_options, or_bad}
-use Rattle.hiera_lookup.specs.Plain.{IsOptionFor, MergesBy, first_options}
+use Rattle.hiera_lookup.specs.Plain.{IsOptionFor, MergesBy}
 use Rattle.hiera_lookup.specs.World.{World}
 use Rattle.hiera_lookup.proofs.Firsts.{within_none}
 use Rattle.hiera_lookup.proofs.LiteralValues.{literal_whole}
@@ -113,17 +116,6 @@ are_hashes (s ∷ ss) are =
 
 -- ---- the value of a key is that of the highest table which has it
 
-table_member : (d : Datum) (root : List ℕ) → is_table d ≡ true → member root d ≡ value_at (text root) (pairs_in d)
-table_member undef root is = absurd (cc is)
-table_member (flag b) root is = absurd (cc is)
-table_member (int z) root is = absurd (cc is)
-table_member (text t) root is = absurd (cc is)
-table_member (list ds) root is = absurd (cc is)
-table_member (hash es) root is = refl
-table_member (reference r) root is = absurd (cc is)
-table_member (kind s) root is = absurd (cc is)
-table_member default root is = absurd (cc is)
-
 over_lower : (k : Datum) (ps out : List Pair) (o : Option Datum) → IsTrue (are_distinct ps) → value_at k ps ≡ o
     → or_else o (value_at k out) ≡ value_at k (with_pairs ps out)
 over_lower k ps out None distinct is = sym (none_put k ps out is)
@@ -151,6 +143,13 @@ pub told_by : (meant : Meant (List Source)) (ss : List Source) (root : List ℕ)
 told_by meant ss root None told by = tt
 told_by meant ss root (Some m) told by =
     record { sources = ss; told = told; tables = by.0; says = by.1 }
+
+pub has_by_option : (files : List File) (v : Variables) (name : Option (List ℕ)) (root : List ℕ) (o : Option Datum)
+    (r : Option Merge) → IsOption files name root o → r ≡ merge_by o
+    → IfSome r (λ m. HasOption (sources files v name options_key) root m)
+has_by_option files v name root o r option is =
+    told_by (sources files v name options_key) option.sources root r (option.told v)
+    (merges_by_if root option.sources o r option.tables option.first is)
 
 -- ---- the look-up of the options gives the joined tables as they are
 

@@ -1,7 +1,6 @@
 -- What the clauses of `site_main` rest on, and a reader has to believe: World, Asks, Filled, Found, Looked, Options,
 -- Look
--- What functions promise one another, what types keep, and what proofs read: AnswerPlaces, Finds, OptionTables,
--- Plain, Literals
+-- What functions promise one another, what types keep, and what proofs read: AnswerPlaces, Finds, OptionTables, Plain
 pub mod World
 pub mod Asks
 pub mod Filled
@@ -13,4 +12,3 @@ pub mod Look
 pub mod Finds
 pub mod OptionTables
 pub mod Plain
-pub mod Literals

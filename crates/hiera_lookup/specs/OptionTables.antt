@@ -1,22 +1,14 @@
 -- The merge of a key by the options of look-ups, where these are hashes in which nothing is interpolated.
-use Rattle.std.specs.Prelude.{◌≡◌, ℕ, Bool, true, ◌&&◌, List, map, Option, None, Some, Ok}
-use Rattle.std.specs.List.{list_all}
+use Rattle.std.specs.Prelude.{◌≡◌, ℕ, true, List, map, Option, None, Some, Ok}
 use Rattle.pp_values.specs.Datum.{Datum, text, Pair}
 use Rattle.pp_values.specs.Keys.{value_at}
 use Rattle.hiera_config.specs.Meant.{Meant}
+use Rattle.hiera_config.specs.OptionTables.{are_tables}
 use Rattle.hiera_config.specs.Sources.{Source}
 use Rattle.hiera_merge.specs.declared.merge.Merge.{Merge}
 use Rattle.hiera_merge.specs.declared.merge.Merge.TheVariants as by
-use Rattle.hiera_merge.specs.Merges.{is_hash, hash_merge}
+use Rattle.hiera_merge.specs.Merges.{hash_merge}
 use Rattle.hiera_merge.specs.Options.{merge_of}
-use Rattle.hiera_lookup.specs.Literals.{is_literal}
-
--- a hash in which nothing is interpolated
-abbrev pub is_table : Datum → Bool
-is_table d = is_hash d && is_literal d
-
-abbrev pub are_tables : List Source → Bool
-are_tables ss = list_all (λ s. is_table s.0) ss
 
 -- the pairs of these tables, joined one level deep
 abbrev pub joined_tables : List Source → List Pair

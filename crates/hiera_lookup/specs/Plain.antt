@@ -1,18 +1,18 @@
 -- Where it is plain what the options say of how a key is merged.
-use Rattle.std.specs.Prelude.{◌≡◌, ◌≢◌, ℕ, true, false, List, [], ◌∷◌, Option, None, Some, Ok}
+use Rattle.std.specs.Prelude.{◌≡◌, ◌≢◌, ℕ, true, false, List, Option, Ok, Some}
 use Rattle.std.specs.Str.{bytes_eq}
 use Rattle.pp_values.specs.Datum.{Datum, text}
 use Rattle.pp_values.specs.Keys.{value_at}
 use Rattle.hiera_config.specs.Documents.{File}
 use Rattle.hiera_config.specs.Keeping.{AreSimple}
-use Rattle.hiera_config.specs.Sound.{HasHighest, or_else}
+use Rattle.hiera_config.specs.OptionTables.{are_tables}
+use Rattle.hiera_config.specs.Sound.{HasHighest}
 use Rattle.hiera_config.specs.Sources.{Source}
 use Rattle.hiera_merge.specs.declared.merge.Merge.{Merge}
 use Rattle.hiera_merge.specs.declared.merge.Merge.TheVariants as by
-use Rattle.hiera_merge.specs.Digging.{member}
 use Rattle.hiera_lookup.specs.Found.{found, root_of}
 use Rattle.hiera_lookup.specs.Look.{is_busy, look, merge_for, option_for}
-use Rattle.hiera_lookup.specs.OptionTables.{are_tables, joined_tables, merge_by}
+use Rattle.hiera_lookup.specs.OptionTables.{joined_tables, merge_by}
 use Rattle.hiera_lookup.specs.Options.{options_key}
 use Rattle.hiera_lookup.specs.World.{World}
 
@@ -39,11 +39,6 @@ pub record IsFirst (w : World) (left : ℕ) (busy : List (List ℕ)) (of_module 
 abbrev pub IsOptionFor : World → ℕ → List (List ℕ) → Option (List ℕ) → List ℕ → Merge → Type 0
 IsOptionFor w left busy of_module root merge =
     bytes_eq root options_key ≡ false → option_for w (look w left) busy of_module root ≡ Ok merge
-
--- what the highest of these tables that has the key has for it
-abbrev pub first_options : List ℕ → List Source → Option Datum
-first_options root [] = None
-first_options root (s ∷ ss) = or_else (member root s.0) (first_options root ss)
 
 -- the sources have tables in which nothing is interpolated, and by them this is the merge of the root key
 abbrev pub MergesBy : List Source → List ℕ → Merge → Type 0

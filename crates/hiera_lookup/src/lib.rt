@@ -7,7 +7,6 @@ pub mod busy;
 pub mod calling;
 pub mod filling;
 pub mod finding;
-pub mod literals;
 pub mod looked;
 pub mod looking;
 pub mod option_reading;

@@ -17,13 +17,10 @@ use crate::answer::Answers;
 use crate::filling::{as_key, fill};
 use crate::looked::Looked;
 use crate::world::World;
-use hiera_config::{Refused, Source, bad_data, sources};
+use hiera_config::{OPTIONS, Refused, Source, bad_data, sources};
 use hiera_merge::{Merge, member, merge_of};
 use pp_values::{Memory, Text, Value, same_key};
 use std::alloc::Global;
-
-/// The key under which data files keep the options of look-ups.
-pub const OPTIONS: &str = "lookup_options";
 
 /// The merge for a root key, by the merged options.
 pub fn option_in(

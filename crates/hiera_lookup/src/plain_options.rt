@@ -2,16 +2,15 @@
 ghost use Rattle.std.specs.Prelude.{◌≡◌, IfSome, option_map};
 ghost use Rattle.pp_values.specs.Views.{view};
 ghost use Rattle.hiera_config.specs.Found.{source_views};
-ghost use Rattle.hiera_lookup.specs.OptionTables.{HasOption, merge_by, is_table, are_tables};
+ghost use Rattle.hiera_config.specs.OptionTables.{first_options};
+ghost use Rattle.hiera_lookup.specs.OptionTables.{HasOption, merge_by};
 ghost use Rattle.hiera_lookup.specs.Options.{options_key};
-ghost use Rattle.hiera_lookup.specs.Plain.{IsOptionFor, first_options, MergesBy};
+ghost use Rattle.hiera_lookup.specs.Plain.{IsOptionFor, MergesBy};
 ghost use Rattle.hiera_lookup.specs.World.{seen};
 
 use crate::busy::is_busy;
-use crate::literals::is_literal;
-use crate::option_reading::OPTIONS;
 use crate::world::World;
-use hiera_config::{Source, sources};
+use hiera_config::{OPTIONS, Source, are_tables, option_of, sources};
 use hiera_merge::{Merge, member, merge_of};
 use pp_values::{Texts, Value};
 use std::alloc::Global;
@@ -35,7 +34,22 @@ pub fn plain_option(
     if is_busy(busy, OPTIONS) {
         return None;
     }
-    source_option(alloc, world, of_module, root)
+    told_option(alloc, world, of_module, root)
+}
+
+fn told_option(
+    alloc: Global,
+    world: &World<'_>,
+    of_module: Option<&str>,
+    root: &str,
+) -> Option<Merge>
+    ensures { IfSome result (λ m.
+        HasOption ((seen world.now).had (option_map (λ t. t.now) of_module.entry) options_key) root.now m) }
+{
+    match option_of(alloc, world.data, of_module, root) {
+        Some(options) => merge_by(options),
+        None => source_option(alloc, world, of_module, root),
+    }
 }
 
 /// By the sources of the options, which are read for this key alone.
@@ -61,27 +75,6 @@ fn option_in_tables(sources: &[Source], root: &str) -> Option<Merge>
         return None;
     }
     merge_by(options_in(sources, root))
-}
-
-/// Whether the value of each source is a hash in which nothing is interpolated.
-fn are_tables(sources: &[Source]) -> bool
-    ensures { result ≡ are_tables (source_views sources.now) }
-{
-    for source in sources {
-        if !is_table(&source.value) {
-            return false;
-        }
-    }
-    true
-}
-
-fn is_table(value: &Value) -> bool
-    ensures { result ≡ is_table (view value.now) }
-{
-    match value {
-        Value::Hash(_) => is_literal(value),
-        _ => false,
-    }
 }
 
 fn merge_by(options: Option<&Value>) -> Option<Merge>

@@ -19,6 +19,7 @@ invariant_of-self-2 c = (
       (c.self.invariant.1 (both_left _ _ simple))),
   (empty_plan_at _ _ _ c.new.ensures.items, empty_plan_at _ _ _ c.new-2.ensures.items),
   λ is. absurd (cc is),
+  tt,
 )
 
 pub returns : goal.returns

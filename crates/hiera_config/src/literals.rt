@@ -2,9 +2,9 @@
 ghost use Rattle.std.specs.Prelude.{◌≡◌};
 ghost use Rattle.pp_values.specs.Datum.{data_of, entries_of};
 ghost use Rattle.pp_values.specs.Views.{view, views, pair_views};
-ghost use Rattle.hiera_lookup.specs.Literals.{is_literal, are_literal, are_literal_pairs};
+ghost use Rattle.hiera_config.specs.Literals.{is_literal, are_literal, are_literal_pairs};
 
-use hiera_config::interpolates;
+use crate::interpolation::interpolates;
 use pp_values::Value;
 
 /// Whether no text within the value interpolates anything.

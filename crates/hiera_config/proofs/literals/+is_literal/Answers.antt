@@ -5,9 +5,9 @@ use Rattle.pp_values.specs.Falls.{inner_size-data_of, entries_size-entries_of}
 use Rattle.pp_values.specs.Views.{view}
 use Rattle.pp_values.proofs.Inner.{item_falls, pair_falls}
 use Rattle.pp_values.specs.Datum.{entries_of}
-use Rattle.hiera_lookup.specs.Literals.{is_literal, are_literal_pairs}
-use Rattle.hiera_lookup.proofs.LiteralValues.{with_distinct}
-use Rattle.hiera_lookup.proofs.literals.+is_literal.Goals as goal
+use Rattle.hiera_config.specs.Literals.{is_literal, are_literal_pairs}
+use Rattle.hiera_config.proofs.OptionLemmas.{with_distinct}
+use Rattle.hiera_config.proofs.literals.+is_literal.Goals as goal
 
 pub is_literal-are_literal-requires : goal.is_literal-are_literal-requires
 is_literal-are_literal-requires t c =

@@ -3,8 +3,8 @@ use Rattle.std.proofs.Common.{◌≡◌, drop}
 use Rattle.pp_values.specs.Datum.{data_of, entries_of}
 use Rattle.pp_values.specs.Sizes.{datum_size, data_size, pairs_size}
 use Rattle.pp_values.specs.Views.{view, views, pair_views}
-use Rattle.hiera_lookup.specs.Literals.{are_literal, are_literal_pairs}
-use Rattle.hiera_lookup.proofs.literals.+is_literal.Given as goal
+use Rattle.hiera_config.specs.Literals.{are_literal, are_literal_pairs}
+use Rattle.hiera_config.proofs.literals.+is_literal.Given as goal
 
 abbrev pub decreases-is_literal : goal.decreases-is_literal
 decreases-is_literal l = datum_size (view l.value.now)

@@ -5,6 +5,7 @@ mod Readable
 mod KeptReads
 mod Resumed
 pub mod Sent
+mod SentValue
 mod SentData
 mod SettledSites
 pub mod Statuses

@@ -13,8 +13,10 @@ use Rattle.serde_json.specs.contracts.value.Value as json
 use Rattle.pp_values.proofs.text.Text.TheSendSync as text
 use Rattle.hiera_config.proofs.config.Config.TheSendSync as config
 use Rattle.hiera_config.proofs.plan.FixedFile.TheSendSync as fixed_file
+use Rattle.hiera_config.specs.contracts.option_table.OptionTable as option_table
 use Rattle.hiera_config.specs.contracts.site_data.DataFile as data_file
 use Rattle.hiera_config.specs.contracts.site_data.SiteData as site_data
+use Rattle.command_outputs.proofs.SentValue.{value_send, value_sync}
 
 json_send : IsSend json.the_row
 json_send =
@@ -82,6 +84,26 @@ data_file_send = search (sendable, data_file_fields_send) depth 20
 data_file_sync : IsSync (declared.row data_file.the_type)
 data_file_sync = search (sendable, data_file_fields_sync) depth 20
 
+option_table_fields_send : IsSend (declared.field option_table.the_type).row
+option_table_fields_send =
+    struct_send (declared.shape option_table.the_type) (
+      search (sendable, crosses, map.the_send, text.the_send, value_send, global.the_send) depth 40 fits 40000,
+      tt,
+    )
+
+option_table_fields_sync : IsSync (declared.field option_table.the_type).row
+option_table_fields_sync =
+    struct_sync (declared.shape option_table.the_type) (
+      search (sendable, crosses, map.the_sync, text.the_sync, value_sync, global.the_sync) depth 40 fits 40000,
+      tt,
+    )
+
+option_table_send : IsSend (declared.row option_table.the_type)
+option_table_send = search (sendable, option_table_fields_send) depth 20
+
+option_table_sync : IsSync (declared.row option_table.the_type)
+option_table_sync = search (sendable, option_table_fields_sync) depth 20
+
 pub data_send : IsSend site_data.the_row
 data_send =
     search (
@@ -94,6 +116,7 @@ data_send =
       option.the_field_send,
       global.the_send,
       fixed_file.the_send,
+      option_table_send,
     )
     depth 40 fits 40000
 
@@ -109,5 +132,6 @@ data_sync =
       option.the_field_sync,
       global.the_sync,
       fixed_file.the_sync,
+      option_table_sync,
     )
     depth 40 fits 40000

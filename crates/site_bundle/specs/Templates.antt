@@ -33,6 +33,6 @@ abbrev pub with_template : KeptTemplates → List ℕ → List ℕ → KeptTempl
 with_template kept path text = if is_template_path path then insert_entry text_cmp kept path (path, text) else kept
 
 -- the templates among files, kept one after another
-unfoldable pub with_templates : KeptTemplates → List Filed → KeptTemplates
+abbrev pub with_templates : KeptTemplates → List Filed → KeptTemplates
 with_templates kept [] = kept
 with_templates kept (f ∷ fs) = with_templates (with_template kept f.0 f.1) fs

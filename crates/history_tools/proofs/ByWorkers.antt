@@ -1,6 +1,6 @@
 -- A round whose entries were made those of its workers.
 use Rattle.std.proofs.Common.{◌≡◌, ℕ, zero, suc, ◌+◌, ◌≤◌, List, [], ◌∷◌, ◌++◌, length, take, drop, Some, refl, sym, ap, ◌∙◌, subst, arith, append_assoc, append-nil, length-append}
-use Rattle.std.specs.Prelude.{IsTrue, IsSomeAnd}
+use Rattle.std.specs.Prelude.{IsTrue, IsSomeAnd, Result, Ok, Err}
 use Rattle.std.specs.BTreeMap.{BTreeMap}
 use Rattle.std.specs.Cmp.{first_so, second_so}
 use Rattle.std.specs.List.{AllZip, list_all}
@@ -8,6 +8,7 @@ use Rattle.std.proofs.Math.Seq.{take-append_seam, drop-append_seam}
 use Rattle.std.proofs.lemmas.List.{map-append}
 use Rattle.std.proofs.lemmas.Bool.{and_from}
 use Rattle.list_sums.specs.Counts.{bit}
+use Rattle.res_core.specs.declared.export_set.ExportSet.{ExportSet}
 use Rattle.site_core.specs.Asked.{Asked}
 use Rattle.site_core.specs.Counts.{AreCountsOf}
 use Rattle.site_core.specs.Each.{Each}
@@ -22,7 +23,7 @@ use Rattle.site_core.specs.Said.{Said, said}
 use Rattle.site_core.specs.declared.reply.ReplyOf.{ReplyOf}
 use Rattle.site_core.proofs.Legal.{Legal-push}
 use Rattle.site_core.proofs.Shapes.{are_entries-push}
-use Rattle.history_tools.specs.Settles.{is_for, published, IsCompiled}
+use Rattle.history_tools.specs.Settles.{is_for, published, IsCompiled, IsMeantFrom}
 use Rattle.history_tools.specs.Rounds.{IsPublication}
 use Rattle.history_tools.specs.SameWorkers.{by_worker, by_workers, GoesOn}
 use Rattle.history_tools.proofs.Erased.{erased, all_erased, same_length, same_meaning, same_entry, author_within}
@@ -189,6 +190,16 @@ module _ {S : Type 0} where
 
 module _ {S C F : Type 0} (meaning : Meaning S C F) (listed : Listed S) (limit : ℕ) (site : S) (low : ℕ)
     (h g : List (Event S)) (bound workers : ℕ) (same : all_erased h ≡ all_erased g) (few : base_of g ≤ workers) where
+  still_meant : (node : List ℕ) (k : ℕ) (answer : Result (C × ExportSet) F) →
+      IsMeantFrom meaning listed site h low node k answer → IsMeantFrom meaning listed site g low node k answer
+  still_meant node k answer m = record {
+    fresh = m.fresh;
+    inside = subst (λ n. k ≤ n) (same_length h g same) m.inside;
+    facts = m.facts;
+    facts_are = m.facts_are;
+    meant = sym (same_meaning h g same meaning k node m.facts) ∙ m.meant;
+  }
+
   still_said : (node : List ℕ) (told : Said C F) → TellsSaid meaning listed limit site h bound low node told →
       TellsSaid meaning listed limit site g workers low node told
   still_said node (t.served entry k catalog) tells =
@@ -201,14 +212,11 @@ module _ {S C F : Type 0} (meaning : Meaning S C F) (listed : Listed S) (limit :
         facts_are = tells.facts_are ∙ ap Some (sym found.3);
         fresh = let fresh = tells.fresh in let k_is = found.4 in omega (arith, fresh, k_is);
       }
-  still_said node (t.refused k fault) tells = (
-    tells.0,
-    subst (λ n. k ≤ n) (same_length h g same) tells.1,
-    (tells.2.0, tells.2.1, sym (same_meaning h g same meaning k node tells.2.0) ∙ tells.2.2),
-  )
+  still_said node (t.refused k fault) tells = still_meant node k (Err fault) tells
   still_said node (t.unknown k) tells = tells
   still_said node (t.ahead n) tells = tells
-  still_said node (t.full n) tells = (tells.0, sym (same_length h g same) ∙ tells.1)
+  still_said node (t.full n) (is, full, (k, made, meant)) =
+      (is, sym (same_length h g same) ∙ full, (k, made, still_meant node k (Ok made) meant))
   still_said node (t.added which entry) tells = tells
   still_said node t.short tells = tt
 

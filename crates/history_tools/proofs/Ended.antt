@@ -1,5 +1,5 @@
 -- How a search stands after a round, and how it ends.
-use Rattle.std.proofs.Common.{◌≡◌, ◌⊎◌, inl, inr, ℕ, zero, suc, ◌+◌, ◌<◌, ◌≤◌, ⊎_elim, Bool, true, false, List, [], ◌∷◌, ◌++◌, length, take, drop, slice_get, Some, None, refl, sym, ap, ◌∙◌, subst, arith, append_assoc, length-append, true≢false}
+use Rattle.std.proofs.Common.{◌≡◌, inl, inr, ℕ, zero, suc, ◌+◌, ◌<◌, ◌≤◌, Bool, true, false, List, [], ◌∷◌, ◌++◌, length, take, drop, slice_get, Some, None, refl, sym, ap, ◌∙◌, subst, arith, append_assoc, length-append, true≢false}
 use Rattle.std.specs.List.{AllZip}
 use Rattle.std.specs.Prelude.{IsTrue, is_some, Err}
 use Rattle.std.specs.Str.{bytes_eq}
@@ -11,16 +11,14 @@ use Rattle.pp_values.specs.Rising.{is_rising, has_text}
 use Rattle.site_core.specs.Each.{Each}
 use Rattle.site_core.specs.Events.{Event}
 use Rattle.site_core.specs.Fits.{Listed}
-use Rattle.site_core.specs.Legal.{meaning_at}
 use Rattle.site_core.specs.Meaning.{Meaning}
 use Rattle.site_core.specs.declared.reply.ReplyOf.{ReplyOf}
 use Rattle.site_core.specs.declared.reply.ReplyOf.TheVariants as a
-use Rattle.site_core.proofs.Each.{each_map}
-use Rattle.history_tools.specs.Settles.{AreAll, AreSome, IsRefused, published}
+use Rattle.history_tools.specs.Settles.{AreAll, AreSome, IsMeantFrom, HasMetFull, IsNotRefused, IsRefused, IsFull, published}
 use Rattle.history_tools.specs.Rounds.{is_served, is_meant, ComesTo}
 use Rattle.history_tools.specs.declared.outcome.Outcome.TheVariants as o
-use Rattle.history_tools.proofs.Names.{stands, stands_once, text_itself, has_here}
-use Rattle.history_tools.proofs.Rounded.{hits, IsRound, hits_few, hits_all, named_all}
+use Rattle.history_tools.proofs.Names.{stands, stands_once, has_here}
+use Rattle.history_tools.proofs.Rounded.{IsRound, IsReplied, replied_from, hits_few, hits_all, named_all}
 use Rattle.history_tools.proofs.Told.{Tells}
 
 module _ {A : Type 0} where
@@ -61,6 +59,10 @@ pub known_all : {S : Type 0} (listed : Listed S) (site : S) (nodes : List (List 
 known_all {S} listed site nodes all =
     each_has (λ node. (s : S) → s ≡ site → listed s node ≡ None → ⊥) nodes
     (λ n has s same none. true≢false (sym has ∙ all n ∙ ap is_some (ap (λ t. listed t n) (sym same) ∙ none)))
+
+pub bit_few : (b : Bool) → bit b ≤ 1
+bit_few true = omega arith
+bit_few false = omega arith
 
 stands_taken : (n : List ℕ) (m : ℕ) (nodes : List (List ℕ)) → stands n (take m nodes) ≤ stands n nodes
 stands_taken n m nodes =
@@ -107,47 +109,48 @@ module _ {S C F : Type 0} (meaning : Meaning S C F) (listed : Listed S) (limit :
   pub last_ones : (made : Made) → drop (length before) h ≡ made.more
   last_ones made = ap (drop (length before)) (sym made.split) ∙ drop-append_seam before made.more
 
-  hits_front : (n : List ℕ) (front back : List (List ℕ)) (rfront rback : List (ReplyOf C F)) →
-      AllZip (Tells meaning listed limit site h bound (length before)) front rfront →
-      hits n front rfront ≤ hits n (front ++ back) (rfront ++ rback)
-  hits_front n [] back [] rback all = omega arith
-  hits_front n [] back (r ∷ rfront) rback all = absurd all
-  hits_front n (m ∷ front) back [] rback all = absurd all
-  hits_front n (m ∷ front) back (r ∷ rfront) rback all =
-      let rest = hits_front n front back rfront rback all.1 in omega (arith, rest)
+  -- a node's entries in the round are those that its reply names
+  pub replied_made : IsTrue (is_rising nodes) → (made : Made) →
+      AllZip (IsReplied meaning listed limit site h bound (length before)) (take most nodes) replies
+  replied_made rising made =
+      replied_from meaning listed limit site h bound (length before) (λ _. 0) (λ _. 0) (take most nodes) replies
+      made.tells
+      (λ n. let is = made.hit n in
+      let there : published n (drop (length before) h) ≡ published n made.more = ap (published n) (last_ones made) in
+      omega (arith, is, there))
+      (λ n. omega arith)
+      (λ n. let less = stands_taken n most nodes in let one = stands_once nodes n rising in
+      let few = bit_few (has_text nodes n) in omega (arith, less, one, few))
 
-  met_more : (m : List ℕ) (r : ReplyOf C F) (front : List (List ℕ)) (rfront : List (ReplyOf C F)) →
-      Each (λ n. (1 ≤ hits n front rfront) ⊎ (length h ≡ limit)) front →
-      Each (λ n. (1 ≤ hits n (m ∷ front) (r ∷ rfront)) ⊎ (length h ≡ limit)) front
-  met_more m r front rfront each =
-      each_map (λ n. (1 ≤ hits n front rfront) ⊎ (length h ≡ limit))
-      (λ n. (1 ≤ hits n (m ∷ front) (r ∷ rfront)) ⊎ (length h ≡ limit))
-      (λ n either. ⊎_elim (λ some. inl (omega (arith, some))) (λ full. inr full) either) front each
+module _ {S C F : Type 0} (meaning : Meaning S C F) (listed : Listed S) (limit : ℕ) (site : S) (h : List (Event S))
+    (bound low : ℕ) where
+  -- who met a full history
+  met_full : (node : List ℕ) (n : ℕ) → IsReplied meaning listed limit site h bound low node (a.HistoryFull n) →
+      (n ≡ limit) × HasMetFull meaning listed limit site h low node
+  met_full node n replied = full replied.tells where
+    full : Tells meaning listed limit site h bound low node (a.HistoryFull n) →
+        (n ≡ limit) × HasMetFull meaning listed limit site h low node
+    full (is, whole, (k, made, meant)) =
+        (is, record { full = whole; without = replied.count; k = k; made = made; meant = meant })
 
   -- whoever was served or met a full history
-  met_all : (front : List (List ℕ)) (rfront : List (ReplyOf C F)) →
-      AllZip (Tells meaning listed limit site h bound (length before)) front rfront →
-      Each (λ r. IsTrue (is_meant r)) rfront → Each (λ n. (1 ≤ hits n front rfront) ⊎ (length h ≡ limit)) front
+  met_all : (nodes : List (List ℕ)) (replies : List (ReplyOf C F)) →
+      AllZip (IsReplied meaning listed limit site h bound low) nodes replies →
+      Each (λ r. IsTrue (is_meant r)) replies → Each (IsNotRefused meaning listed limit site h low) nodes
   met_all [] [] all meant = tt
-  met_all [] (r ∷ rfront) all meant = absurd all
-  met_all (m ∷ front) [] all meant = absurd all
-  met_all (m ∷ front) (a.Served entry k catalog ∷ rfront) all meant = (
-    inl (let one : bit (bytes_eq m m) ≡ 1 = ap bit (text_itself m) in omega (arith, one)),
-    met_more m (a.Served entry k catalog) front rfront (met_all front rfront all.1 meant.1),
-  )
-  met_all (m ∷ front) (a.Refused k fault ∷ rfront) all meant = absurd (true≢false (sym meant.0))
-  met_all (m ∷ front) (a.HistoryFull n ∷ rfront) all meant =
-      (inr all.0.1, met_more m (a.HistoryFull n) front rfront (met_all front rfront all.1 meant.1))
-  met_all (m ∷ front) (a.SeenAhead n ∷ rfront) all meant = absurd (true≢false (sym meant.0))
-  met_all (m ∷ front) (a.UnknownNode k ∷ rfront) all meant = absurd (true≢false (sym meant.0))
-  met_all (m ∷ front) (a.Deactivated entry ∷ rfront) all meant = absurd (true≢false (sym meant.0))
-  met_all (m ∷ front) (a.Deployed entry ∷ rfront) all meant = absurd (true≢false (sym meant.0))
-  met_all (m ∷ front) (a.Reported entry ∷ rfront) all meant = absurd (true≢false (sym meant.0))
-  met_all (m ∷ front) (a.Memory ∷ rfront) all meant = absurd (true≢false (sym meant.0))
-
-pub bit_few : (b : Bool) → bit b ≤ 1
-bit_few true = omega arith
-bit_few false = omega arith
+  met_all [] (r ∷ replies) all meant = absurd all
+  met_all (m ∷ nodes) [] all meant = absurd all
+  met_all (m ∷ nodes) (a.Served entry k catalog ∷ replies) all meant =
+      (inl all.0.count, met_all nodes replies all.1 meant.1)
+  met_all (m ∷ nodes) (a.HistoryFull n ∷ replies) all meant =
+      (inr (met_full m n all.0).1, met_all nodes replies all.1 meant.1)
+  met_all (m ∷ nodes) (a.Refused k fault ∷ replies) all meant = absurd (true≢false (sym meant.0))
+  met_all (m ∷ nodes) (a.SeenAhead n ∷ replies) all meant = absurd (true≢false (sym meant.0))
+  met_all (m ∷ nodes) (a.UnknownNode k ∷ replies) all meant = absurd (true≢false (sym meant.0))
+  met_all (m ∷ nodes) (a.Deactivated entry ∷ replies) all meant = absurd (true≢false (sym meant.0))
+  met_all (m ∷ nodes) (a.Deployed entry ∷ replies) all meant = absurd (true≢false (sym meant.0))
+  met_all (m ∷ nodes) (a.Reported entry ∷ replies) all meant = absurd (true≢false (sym meant.0))
+  met_all (m ∷ nodes) (a.Memory ∷ replies) all meant = absurd (true≢false (sym meant.0))
 
 module _ {A B : Type 0} where
   -- a place in a list that goes with another one
@@ -179,55 +182,82 @@ module _ {A : Type 0} where
 
 module _ {S C F : Type 0} (meaning : Meaning S C F) (listed : Listed S) (limit : ℕ) (site : S) (bound most : ℕ)
     (nodes : List (List ℕ)) (before h : List (Event S)) (replies : List (ReplyOf C F)) where
-  -- the first refusal is of the node in its place
-  pub refused_made : (place k : ℕ) (fault : F) (node : List ℕ) → IsTrue (is_rising nodes) →
-      (made : IsRound meaning listed limit site bound (take most nodes) before h replies) →
-      ComesTo replies (o.Refused place k fault) → slice_get nodes place ≡ Some node →
-      IsRefused meaning listed limit site nodes h (length before) node k fault
-  refused_made place k fault node rising made came at = record {
-    fresh = parts.6.0;
-    inside = parts.6.1;
-    facts = parts.6.2.0;
-    facts_are = subst (λ n. listed site n ≡ Some parts.6.2.0) same parts.6.2.1;
-    meant = subst (λ n. meaning_at meaning h k n parts.6.2.0 ≡ Some (Err fault)) same parts.6.2.2;
-    front = parts.0;
+  -- the node of a reply, among all that were asked for
+  record IsPlaced (front : List (ReplyOf C F)) (reply : ReplyOf C F) : Type 0 where
+    ahead : List (List ℕ)
+    node : List ℕ
+    back : List (List ℕ)
+    split : nodes ≡ ahead ++ node ∷ back
+    size : length ahead ≡ length front
+    earlier : AllZip (IsReplied meaning listed limit site h bound (length before)) ahead front
+    here : IsReplied meaning listed limit site h bound (length before) node reply
+
+  placed : (front : List (ReplyOf C F)) (reply : ReplyOf C F) (back : List (ReplyOf C F)) → IsTrue (is_rising nodes) →
+      IsRound meaning listed limit site bound (take most nodes) before h replies → replies ≡ front ++ reply ∷ back →
+      IsPlaced front reply
+  placed front reply back rising made is = record {
+    ahead = parts.0;
+    node = parts.1;
     back = parts.2 ++ drop most nodes;
-    split = split_all ∙ ap (λ n. parts.0 ++ n ∷ (parts.2 ++ drop most nodes)) same;
-    earlier = each_map (λ n. (1 ≤ hits n parts.0 came.0) ⊎ (length h ≡ limit))
-        (λ n. (published n (drop (length before) h) ≡ 1) ⊎ (length h ≡ limit))
-        (λ n either. ⊎_elim (λ some. inl (one n some)) (λ full. inr full) either) parts.0
-        (met_all meaning listed limit site bound most nodes before h replies parts.0 came.0 parts.5 came.4);
+    split = sym (take-append-drop most nodes) ∙ ap (λ l. l ++ drop most nodes) parts.3
+        ∙ append_assoc parts.0 (parts.1 ∷ parts.2) (drop most nodes);
+    size = parts.4;
+    earlier = parts.5;
+    here = parts.6;
   }
     where
       parts : (xfront : List (List ℕ)) × (x : List ℕ) × (xback : List (List ℕ)) × (take most nodes ≡
           xfront ++ x ∷ xback)
-          × (length xfront ≡ length came.0)
-          × AllZip (Tells meaning listed limit site h bound (length before)) xfront came.0
-          × Tells meaning listed limit site h bound (length before) x (a.Refused k fault)
-      parts = zip_parts (Tells meaning listed limit site h bound (length before)) (take most nodes) came.0
-          (a.Refused k fault) came.1
-          (subst (AllZip (Tells meaning listed limit site h bound (length before)) (take most nodes)) came.2 made.tells)
+          × (length xfront ≡ length front)
+          × AllZip (IsReplied meaning listed limit site h bound (length before)) xfront front
+          × IsReplied meaning listed limit site h bound (length before) x reply
+      parts = zip_parts (IsReplied meaning listed limit site h bound (length before)) (take most nodes) front reply back
+          (subst (AllZip (IsReplied meaning listed limit site h bound (length before)) (take most nodes)) is
+          (replied_made meaning listed limit site bound most nodes before h replies rising made))
 
-      split_all : nodes ≡ parts.0 ++ parts.1 ∷ (parts.2 ++ drop most nodes)
-      split_all = sym (take-append-drop most nodes) ∙ ap (λ l. l ++ drop most nodes) parts.3
-          ∙ append_assoc parts.0 (parts.1 ∷ parts.2) (drop most nodes)
+  -- the first refusal is of the node in its place
+  pub refused_made : (place k : ℕ) (fault : F) (node : List ℕ) → IsTrue (is_rising nodes) →
+      IsRound meaning listed limit site bound (take most nodes) before h replies →
+      ComesTo replies (o.Refused place k fault) → slice_get nodes place ≡ Some node →
+      IsRefused meaning listed limit site h (length before) nodes node k fault
+  refused_made place k fault node rising made came at = record {
+    without = subst (λ n. published n (drop (length before) h) ≡ 0) same at_place.here.count;
+    meant = subst (λ n. IsMeantFrom meaning listed site h (length before) n k (Err fault)) same at_place.here.tells;
+    front = at_place.ahead;
+    back = at_place.back;
+    split = at_place.split ∙ ap (λ n. at_place.ahead ++ n ∷ at_place.back) same;
+    earlier = met_all meaning listed limit site h bound (length before) at_place.ahead came.0 at_place.earlier came.4;
+  }
+    where
+      at_place : IsPlaced came.0 (a.Refused k fault)
+      at_place = placed came.0 (a.Refused k fault) came.1 rising made came.2
 
-      same : parts.1 ≡ node
-      same = let found = get_middle parts.0 parts.1 (parts.2 ++ drop most nodes) place (parts.4 ∙ came.3) in
-          let there : slice_get nodes place ≡ Some parts.1 = ap (λ l. slice_get l place) split_all ∙ found in
+      same : at_place.node ≡ node
+      same =
+          let found = get_middle at_place.ahead at_place.node at_place.back place (at_place.size ∙ came.3) in
+          let there : slice_get nodes place ≡ Some at_place.node =
+          ap (λ l. slice_get l place) at_place.split ∙ found in
           cc (there, at)
 
-      one : (n : List ℕ) → 1 ≤ hits n parts.0 came.0 → published n (drop (length before) h) ≡ 1
-      one n some =
-          let more = hits_front meaning listed limit site bound most nodes before h replies n parts.0 (parts.1 ∷
-          parts.2)
-          came.0 (a.Refused k fault ∷ came.1) parts.5 in
-          let whole : hits n (parts.0 ++ parts.1 ∷ parts.2) (came.0 ++ a.Refused k fault ∷ came.1) ≡
-          hits n (take most nodes) replies =
-          sym (ap (λ l. hits n l replies) parts.3 ∙ ap (hits n (parts.0 ++ parts.1 ∷ parts.2)) came.2) in
-          let is = made.hit n in
-          let few = (some_made meaning listed limit site bound most nodes before h replies rising made).once n in
-          let least = bit_few (has_text nodes n) in
-          let there : published n (drop (length before) h) ≡ published n made.more =
-          ap (published n) (last_ones meaning listed limit site bound most nodes before h replies made) in
-          omega (arith, some, more, whole, is, few, least, there)
+-- no node is refused, and some node met a full history
+pub full_made : {S C F : Type 0} (meaning : Meaning S C F) (listed : Listed S) (limit : ℕ) (site : S) (bound : ℕ)
+    (nodes : List (List ℕ)) (before h : List (Event S)) (replies : List (ReplyOf C F)) (n : ℕ) →
+    IsTrue (is_rising nodes) → IsRound meaning listed limit site bound (take limit nodes) before h replies →
+    ComesTo replies (o.Full n) → (n ≡ limit) × IsFull meaning listed limit site h (length before) nodes
+full_made {S} {C} {F} meaning listed limit site bound nodes before h replies n rising made came = (
+  met.0,
+  record {
+    each = met_all meaning listed limit site h bound (length before) (take limit nodes) replies
+        (replied_made meaning listed limit site bound limit nodes before h replies rising made) came.0;
+    node = at_place.node;
+    has = ap (λ l. has_text l at_place.node) at_place.split ∙ has_here at_place.ahead at_place.back at_place.node;
+    met = met.1;
+  },
+)
+  where
+    at_place : IsPlaced meaning listed limit site bound limit nodes before h replies came.1.0 (a.HistoryFull n)
+    at_place = placed meaning listed limit site bound limit nodes before h replies came.1.0 (a.HistoryFull n) came.1.1
+        rising made came.1.2
+
+    met : (n ≡ limit) × HasMetFull meaning listed limit site h (length before) at_place.node
+    met = met_full meaning listed limit site h bound (length before) at_place.node n at_place.here

@@ -1,5 +1,5 @@
 -- What a round made: its entries, and what its replies tell of them.
-use Rattle.std.proofs.Common.{◌≡◌, ℕ, ◌+◌, ◌<◌, ◌≤◌, Bool, List, [], ◌∷◌, ◌++◌, length, slice_get, None, refl, sym, ap, ◌∙◌, subst, arith, length-append, true≢false}
+use Rattle.std.proofs.Common.{◌≡◌, ℕ, ◌+◌, ◌<◌, ◌≤◌, Bool, List, [], ◌∷◌, ◌++◌, length, drop, slice_get, None, refl, sym, ap, ◌∙◌, subst, arith, length-append, true≢false}
 use Rattle.std.specs.List.{AllZip}
 use Rattle.std.specs.Prelude.{IsTrue}
 use Rattle.std.specs.Str.{bytes_eq}
@@ -21,7 +21,7 @@ use Rattle.site_core.specs.declared.reply.ReplyOf.TheVariants as a
 use Rattle.history_tools.specs.Settles.{is_for, published, IsCompiled}
 use Rattle.history_tools.specs.Rounds.{asked_of, is_served, IsTold, IsPublication}
 use Rattle.history_tools.proofs.Dealt.{IsDealt, dealt_all}
-use Rattle.history_tools.proofs.Names.{stands}
+use Rattle.history_tools.proofs.Names.{stands, text_itself}
 use Rattle.history_tools.proofs.Sums.{same_totals, range, times_range, length_range, total_ones, weigh, total_places, get_behind}
 use Rattle.history_tools.proofs.Told.{each_at, each_both, site_stays, TellsSaid, Tells, published_at, tells_all, entry_at}
 
@@ -142,6 +142,39 @@ module _ {S C F : Type 0} (meaning : Meaning S C F) (listed : Listed S) (limit :
   named_all (m ∷ nodes) (a.Deployed entry ∷ replies) all served = absurd (true≢false (sym served.0))
   named_all (m ∷ nodes) (a.Reported entry ∷ replies) all served = absurd (true≢false (sym served.0))
   named_all (m ∷ nodes) (a.Memory ∷ replies) all served = absurd (true≢false (sym served.0))
+
+  -- what a node is told, and how many of the round's entries are its
+  pub record IsReplied (node : List ℕ) (reply : ReplyOf C F) : Type 0 where
+    pub tells : Tells meaning listed limit site h bound low node reply
+    pub count : published node (drop low h) ≡ length (named reply)
+
+  -- where each name stands there once at most, a node's entries are those that its own reply names
+  pub replied_from : (had stood : List ℕ → ℕ) (nodes : List (List ℕ)) (replies : List (ReplyOf C F)) →
+      AllZip (Tells meaning listed limit site h bound low) nodes replies →
+      ((n : List ℕ) → published n (drop low h) ≡ had n + hits n nodes replies) →
+      ((n : List ℕ) → had n ≤ stood n) → ((n : List ℕ) → stood n + stands n nodes ≤ 1) →
+      AllZip IsReplied nodes replies
+  replied_from had stood [] [] all is few once = tt
+  replied_from had stood [] (r ∷ replies) all is few once = absurd all
+  replied_from had stood (m ∷ nodes) [] all is few once = absurd all
+  replied_from had stood (m ∷ nodes) (r ∷ replies) all is few once = (
+    record {
+      tells = all.0;
+      count =
+          let is_here = is m in let few_here = few m in let once_here = once m in
+          let rest = hits_few m nodes replies all.1 in
+          let one : bit (bytes_eq m m) ≡ 1 = ap bit (text_itself m) in
+          let own : total (λ _. bit (bytes_eq m m)) (named r) ≡ length (named r) =
+          ap (λ b. total (λ _. b) (named r)) one ∙ total_ones (named r) in
+          omega (arith, is_here, few_here, once_here, rest, one, own);
+    },
+    replied_from (λ n. had n + total (λ _. bit (bytes_eq n m)) (named r)) (λ n. stood n + bit (bytes_eq n m)) nodes
+        replies all.1
+        (λ n. let is_there = is n in omega (arith, is_there))
+        (λ n. let few_there = few n in let here = few_said (bytes_eq n m) m (said r) all.0 in
+        omega (arith, few_there, here))
+        (λ n. let once_there = once n in omega (arith, once_there)),
+  )
 
   told_one : (node : List ℕ) (reply : ReplyOf C F) → Tells meaning listed limit site h bound low node reply →
       IsTold reply

@@ -1,10 +1,10 @@
 -- The definitions on a site that lists one node, in a language whose every catalog is 0 and exports nothing.
-use Rattle.std.proofs.Common.{◌≡◌, ℕ, ◌+◌, Bool, true, false, List, [], ◌∷◌, ◌++◌, Option, None, Some, refl, sym, ap, subst, arith}
-use Rattle.std.specs.Prelude.{Ok, cond, ◌||◌, is_some}
+use Rattle.std.proofs.Common.{◌≡◌, inl, inr, ⊎_elim, ℕ, ◌+◌, Bool, true, false, List, [], ◌∷◌, ◌++◌, drop, Option, None, Some, refl, sym, ap, ◌∙◌, subst, arith}
+use Rattle.std.specs.Prelude.{Ok, Err, cond, ◌||◌, is_some, option_map}
 use Rattle.std.specs.FinMap as fin
 use Rattle.std.specs.Str.{bytes_eq}
 use Rattle.list_sums.specs.Counts.{bit}
-use Rattle.pp_values.specs.Datum.{hash, no_entries}
+use Rattle.pp_values.specs.Datum.{Datum, hash, no_entries}
 use Rattle.res_core.specs.declared.export_set.ExportSet.{ExportSet}
 use Rattle.export_store.specs.Sets.{Sets}
 use Rattle.export_store.proofs.SetLemmas.{get-with, get-none}
@@ -12,8 +12,8 @@ use Rattle.site_core.specs.Each.{Each}
 use Rattle.site_core.specs.Events.{Event, opens, publishes}
 use Rattle.site_core.specs.Fits.{Listed}
 use Rattle.site_core.specs.Meaning.{Meaning}
-use Rattle.site_core.specs.Sets.{sets_at}
-use Rattle.history_tools.specs.Settles.{AreListed, Changes, published, start, IsFirstChanged, Settles}
+use Rattle.site_core.specs.Sets.{sets_at, site_at}
+use Rattle.history_tools.specs.Settles.{AreListed, Changes, published, start, IsFirstChanged, HasMetFull, IsRefused, IsFull, Settles}
 use Rattle.history_tools.proofs.Settled.{put_again}
 use Rattle.history_tools.specs.declared.settle_end.SettleEnd.TheVariants as e
 
@@ -102,6 +102,83 @@ not_after_one : Settles meaning listed 10 7 ((97 ∷ []) ∷ []) 2 1 e.Settled o
 not_after_one s =
     let is : s.last ≡ 0 = let run = s.run_is in omega (arith, run) in
     first_apart (subst (λ n. sets_at once (start ((97 ∷ []) ∷ []) n) ≡ sets_at once 2) is s.ends.2)
+
+-- the nodes `a` and `b`
+abbrev two : List (List ℕ)
+two = (97 ∷ []) ∷ (98 ∷ []) ∷ []
+
+abbrev lists_two : Listed ℕ
+lists_two site node = cond (bytes_eq node (97 ∷ []) || bytes_eq node (98 ∷ [])) (Some (hash no_entries)) None
+
+-- a language in which `b` is refused by the fault 5
+abbrev refuses : Meaning ℕ ℕ ℕ
+refuses site node facts sets = cond (bytes_eq node (98 ∷ [])) (Err 5) (Ok (0, record { items = [] }))
+
+-- `a` was published, and then `b` refused
+second_is_refused : IsRefused refuses lists_two 10 7 once 1 two (98 ∷ []) 1 5
+second_is_refused = record {
+  without = refl;
+  meant =
+      record {
+        fresh = omega arith;
+        inside = omega arith;
+        facts = hash no_entries;
+        facts_are = refl;
+        meant = refl;
+      };
+  front = (97 ∷ []) ∷ [];
+  back = [];
+  split = refl;
+  earlier = (inl refl, tt);
+}
+
+-- a node that was published may not be told as refused
+not_refused_where_published : (k fault : ℕ) → IsRefused refuses lists_two 10 7 once 1 two (97 ∷ []) k fault → ⊥
+not_refused_where_published k fault told = let none : 1 ≡ 0 = told.without in omega (arith, none)
+
+-- `a` was published, and for `b` there was no room
+second_met_full : HasMetFull meaning lists_two 2 7 once 1 (98 ∷ [])
+second_met_full = record {
+  full = refl;
+  without = refl;
+  k = 1;
+  made = (0, record { items = [] });
+  meant =
+      record {
+        fresh = omega arith;
+        inside = omega arith;
+        facts = hash no_entries;
+        facts_are = refl;
+        meant = refl;
+      };
+}
+
+full_for_the_second : IsFull meaning lists_two 2 7 once 1 two
+full_for_the_second = record {
+  each = (inl refl, (inr second_met_full, tt));
+  node = 98 ∷ [];
+  has = refl;
+  met = second_met_full;
+}
+
+-- where each node was published, the history may not be told as full
+not_full_where_all_published : IsFull meaning listed 2 7 once 1 ((97 ∷ []) ∷ []) → ⊥
+not_full_where_all_published told =
+    let one : published told.node (drop 1 once) ≡ 1 = same_bit (bytes_eq told.node (97 ∷ [])) ∙ ap bit told.has in
+    let none = told.met.without in omega (arith, one, none)
+
+has_no_catalog : (site : Option ℕ) (facts : Datum) (sets : Sets) (made : ℕ × ExportSet) →
+    option_map (λ s. refuses s (98 ∷ []) facts sets) site ≡ Some (Ok made) → ⊥
+has_no_catalog None facts sets made is = absurd (cc is)
+has_no_catalog (Some site) facts sets made is = absurd (cc is)
+
+-- where a node is refused whatever it was made from, the history may not be told as full
+not_full_for_a_refusal : IsFull refuses lists_two 2 7 once 1 two → ⊥
+not_full_for_a_refusal told =
+    ⊎_elim
+    (λ one. let is : 0 ≡ 1 = one in omega (arith, is))
+    (λ met. has_no_catalog (site_at once met.k) met.meant.facts (sets_at once met.k) met.made met.meant.meant)
+    told.each.1.0
 
 cons_first : (x y : List ℕ) (xs ys : List (List ℕ)) → x ∷ xs ≡ y ∷ ys → x ≡ y
 cons_first x y xs ys is = cc is

@@ -19,7 +19,7 @@ use Rattle.site_core.specs.Resuming.{base_of}
 use Rattle.site_core.specs.Sets.{sets_from, sets_at}
 use Rattle.site_core.specs.declared.reply.ReplyOf.{ReplyOf}
 use Rattle.site_core.specs.declared.reply.ReplyOf.TheVariants as a
-use Rattle.history_tools.specs.Settles.{AreListed, AreAll, AreSome, Changes, IsFirstChanged, IsRefused, EndsAs, Settles, published, start}
+use Rattle.history_tools.specs.Settles.{AreListed, AreAll, AreSome, Changes, IsFirstChanged, IsRefused, IsFull, EndsAs, Settles, published, start}
 use Rattle.history_tools.specs.Rounds.{asked_of, is_served, IsTold, ComesTo, FirstApart, IsReady, EndsRound, IsPublication, Stands}
 use Rattle.history_tools.specs.SameWorkers.{GoesOn}
 use Rattle.history_tools.specs.declared.outcome.Outcome.{Outcome}
@@ -27,7 +27,7 @@ use Rattle.history_tools.specs.declared.outcome.Outcome.TheVariants as o
 use Rattle.history_tools.specs.declared.settle_end.SettleEnd.{SettleEnd}
 use Rattle.history_tools.specs.declared.settle_end.SettleEnd.TheVariants as e
 use Rattle.history_tools.proofs.ByWorkers.{round_by}
-use Rattle.history_tools.proofs.Ended.{take_whole, each_taken, known_all, each_has, all_made, some_made, last_ones, refused_made}
+use Rattle.history_tools.proofs.Ended.{take_whole, each_taken, known_all, each_has, all_made, some_made, last_ones, refused_made, full_made}
 use Rattle.history_tools.proofs.Rounded.{IsRound, told_all, round_of}
 use Rattle.history_tools.proofs.SetSteps.{start_next, start_le, sets_behind, sets_before, none_changed, get_some, changes_before}
 use Rattle.history_tools.proofs.Told.{each_both, Tells}
@@ -224,9 +224,9 @@ module _ {S C F : Type 0} (meaning : Meaning S C F) (listed : Listed S) (limit :
   ended after (o.Refused place k fault) (e.Refused node j other) rounds left lt left_is are stood made came is ends =
       settles_by rounds (e.Refused node j other) lt stood made (
         some_round are stood made,
-        subst (λ n. IsRefused meaning listed limit site nodes h n node j other) stood.size
-            (subst (λ m. IsRefused meaning listed limit site nodes h (length before) node m other) (sym ends.1)
-            (subst (λ f. IsRefused meaning listed limit site nodes h (length before) node k f) (sym ends.2)
+        subst (λ n. IsRefused meaning listed limit site h n nodes node j other) stood.size
+            (subst (λ m. IsRefused meaning listed limit site h (length before) nodes node m other) (sym ends.1)
+            (subst (λ f. IsRefused meaning listed limit site h (length before) nodes node k f) (sym ends.2)
             (refused_made meaning listed limit site workers limit nodes before h replies place k
             fault
             node are.by_name made came ends.0))),
@@ -236,20 +236,15 @@ module _ {S C F : Type 0} (meaning : Meaning S C F) (listed : Listed S) (limit :
       absurd ends
   ended after (o.Refused place k fault) (e.Full n) rounds left lt left_is are stood made came is ends = absurd ends
   ended after (o.Full n) (e.Full m) rounds left lt left_is are stood made came is ends =
-      let full = full_said (take limit nodes) came.1.0 came.1.1
-      (subst (AllZip (Tells meaning listed limit site h workers (length before)) (take limit nodes))
-      came.1.2 made.tells) in
+      let full = full_made meaning listed limit site workers nodes before h replies n are.by_name made came in
       let le = front_made made in let size = stood.size in
-      settles_by rounds (e.Full m) lt stood made
-      (omega (arith, le, size), some_round are stood made, ends ∙ full.0, full.1)
-    where
-      full_said : (ns : List (List ℕ)) (front back : List (ReplyOf C F)) →
-          AllZip (Tells meaning listed limit site h workers (length before)) ns
-          (front ++ a.HistoryFull n ∷ back) → (n ≡ limit) × (length h ≡ limit)
-      full_said [] [] back all = absurd all
-      full_said [] (r ∷ front) back all = absurd all
-      full_said (m ∷ ns) [] back all = all.0
-      full_said (m ∷ ns) (r ∷ front) back all = full_said ns front back all.1
+      settles_by rounds (e.Full m) lt stood made (
+        omega (arith, le, size),
+        some_round are stood made,
+        ends ∙ full.0,
+        full.1.met.full,
+        subst (λ low. IsFull meaning listed limit site h low nodes) stood.size full.1,
+      )
   ended after (o.Full n) e.Settled rounds left lt left_is are stood made came is ends = absurd ends
   ended after (o.Full n) (e.NotSettled node had has) rounds left lt left_is are stood made came is ends = absurd ends
   ended after (o.Full n) (e.Refused node k fault) rounds left lt left_is are stood made came is ends = absurd ends

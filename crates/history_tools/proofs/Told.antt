@@ -1,7 +1,7 @@
 -- What the replies of a round say, by its nodes in order.
 use Rattle.std.proofs.Common.{◌≡◌, ℕ, zero, suc, ◌+◌, ◌<◌, ◌≤◌, ◌⊎◌, inl, inr, ⊎_elim, List, [], ◌∷◌, ◌++◌, length, take, slice_get, Some, None, refl, sym, ap, ◌∙◌, subst, arith}
 use Rattle.std.specs.List.{AllZip}
-use Rattle.std.specs.Prelude.{Result, Err, option_map, reverse}
+use Rattle.std.specs.Prelude.{Result, Ok, Err, option_map, reverse}
 use Rattle.std.proofs.lemmas.List.{reverse-append}
 use Rattle.list_sums.specs.Counts.{same, times}
 use Rattle.list_sums.proofs.Totals.{total-append}
@@ -10,7 +10,7 @@ use Rattle.res_core.specs.declared.export_set.ExportSet.{ExportSet}
 use Rattle.site_core.specs.Asked.{compile, all_asks}
 use Rattle.site_core.specs.Each.{Each}
 use Rattle.site_core.specs.Events.{Event, Publication, opens, publishes, adds}
-use Rattle.site_core.specs.Fits.{Listed, FitsSaid, Means, named, named_said}
+use Rattle.site_core.specs.Fits.{Listed, FitsSaid, IsFresh, Means, named, named_said}
 use Rattle.site_core.specs.Legal.{meaning_at}
 use Rattle.site_core.specs.Meaning.{Meaning}
 use Rattle.site_core.specs.Runs.{all_named}
@@ -18,6 +18,7 @@ use Rattle.site_core.specs.Said as t
 use Rattle.site_core.specs.Said.{Said, said}
 use Rattle.site_core.specs.Sets.{sets_at, site_at, latest_site}
 use Rattle.site_core.specs.declared.reply.ReplyOf.{ReplyOf}
+use Rattle.history_tools.specs.Settles.{IsMeantFrom}
 use Rattle.history_tools.specs.Rounds.{wanted_of, asked_of, IsPublication}
 use Rattle.history_tools.proofs.Dealt.{IsDealt}
 use Rattle.history_tools.proofs.Sums.{same_is}
@@ -84,10 +85,10 @@ module _ {S C F : Type 0} (meaning : Meaning S C F) (listed : Listed S) (limit :
   -- what a node is told in a round
   abbrev pub TellsSaid : List ℕ → Said C F → Type 0
   TellsSaid node (t.served entry k catalog) = IsEntry node entry
-  TellsSaid node (t.refused k fault) =
-      (low ≤ k) × (k ≤ length h) × ((facts : Datum) × (listed site node ≡ Some facts)
-      × (meaning_at meaning h k node facts ≡ Some (Err fault)))
-  TellsSaid node (t.full n) = (n ≡ limit) × (length h ≡ limit)
+  TellsSaid node (t.refused k fault) = IsMeantFrom meaning listed site h low node k (Err fault)
+  TellsSaid node (t.full n) =
+      (n ≡ limit) × (length h ≡ limit)
+      × ((k : ℕ) × (made : C × ExportSet) × IsMeantFrom meaning listed site h low node k (Ok made))
   TellsSaid node (t.ahead n) = ⊥
   TellsSaid node (t.unknown k) = ⊥
   TellsSaid node (t.added kind entry) = ⊥
@@ -111,6 +112,19 @@ module _ {S C F : Type 0} (meaning : Meaning S C F) (listed : Listed S) (limit :
         ap (option_map (λ s. meaning s node facts (sets_at h k))) m.site_is ∙ ap Some m.meant,
       )
 
+  meant_from : (node : List ℕ) (k : ℕ) (facts : Datum) (answer : Result (C × ExportSet) F) → IsFresh h low 0 k →
+      Sited → Means meaning listed h k (wanted_of node) facts answer →
+      IsMeantFrom meaning listed site h low node k answer
+  meant_from node k facts answer fresh sited m =
+      let meant = meant_of node k facts answer fresh.low sited m in
+      record {
+        fresh = fresh.had;
+        inside = fresh.high;
+        facts = facts;
+        facts_are = meant.0;
+        meant = meant.1;
+      }
+
   tells_of : (author : ℕ) (node : List ℕ) (told : Said C F) → author < bound → Sited →
       ((s : S) → s ≡ site → listed s node ≡ None → ⊥) →
       FitsSaid meaning listed h limit author low (compile (wanted_of node)) told → TellsSaid node told
@@ -132,12 +146,12 @@ module _ {S C F : Type 0} (meaning : Meaning S C F) (listed : Listed S) (limit :
         fresh = fits.0.had;
       }
   tells_of author node (t.refused k fault) few sited known fits =
-      let meant = meant_of node k fits.1.0 _ fits.0.low sited fits.1.1 in
-      (fits.0.had, fits.0.high, (fits.1.0, meant.0, meant.1))
+      meant_from node k fits.1.0 (Err fault) fits.0 sited fits.1.1
   tells_of author node (t.unknown k) few sited known fits =
       known fits.1.site (same_site k fits.1.site fits.0.low sited fits.1.site_is) fits.1.none
   tells_of author node (t.ahead n) few sited known fits = absurd (omega (arith, fits.2))
-  tells_of author node (t.full n) few sited known fits = (fits.0, fits.1)
+  tells_of author node (t.full n) few sited known (is, full, (k, facts, made, fresh, means)) =
+      (is, full, (k, made, meant_from node k facts (Ok made) fresh sited means))
   tells_of author node (t.added which entry) few sited known fits = absurd fits
   tells_of author node t.short few sited known fits = tt
 

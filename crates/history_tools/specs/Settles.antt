@@ -1,6 +1,6 @@
 -- What a search for a fixed point of a site comes to: the rounds in which each node was compiled, and how they ended.
-use Rattle.std.specs.Prelude.{◌≡◌, ◌≢◌, ◌⊎◌, ℕ, ◌+◌, ◌*◌, ◌≤◌, ◌<◌, Bool, false, List, [], ◌∷◌, ◌++◌, length, take}
-use Rattle.std.specs.Prelude.{drop, Option, Some, IsSomeAnd, Err, IsTrue, is_some, option_map}
+use Rattle.std.specs.Prelude.{◌≡◌, ◌≢◌, ◌⊎◌, ℕ, ◌+◌, ◌*◌, ◌≤◌, ◌<◌, Bool, true, false, List, [], ◌∷◌, ◌++◌, length}
+use Rattle.std.specs.Prelude.{take, drop, Option, Some, IsSomeAnd, Result, Ok, Err, IsTrue, is_some, option_map}
 use Rattle.std.specs.Arc.{arc_value}
 use Rattle.std.specs.FinMap as fin
 use Rattle.std.specs.Str.{bytes_eq}
@@ -72,19 +72,46 @@ pub record IsFirstChanged (nodes : List (List ℕ)) (old new : Sets) (node : Lis
   pub has : fin.get new node ≡ Some after
   pub apart : before ≢ Some after
 
--- The first k entries, all that stood before the round among them, mean this fault for the node by the facts that the
--- site lists for it. Each node before it, by name, was published in the round, unless the history is full.
-pub record IsRefused {S C F : Type 0} (meaning : Meaning S C F) (listed : Listed S) (limit : ℕ) (site : S)
-    (nodes : List (List ℕ)) (h : List (Event S)) (low : ℕ) (node : List ℕ) (k : ℕ) (fault : F) : Type 0 where
+-- The first k entries, the `low` among them that stood before the round, mean this for the node by the facts that the
+-- site lists for it.
+pub record IsMeantFrom {S C F : Type 0} (meaning : Meaning S C F) (listed : Listed S) (site : S) (h : List (Event S))
+    (low : ℕ) (node : List ℕ) (k : ℕ) (answer : Result (C × ExportSet) F) : Type 0 where
   pub fresh : low ≤ k
   pub inside : k ≤ length h
   pub facts : Datum
   pub facts_are : listed site node ≡ Some facts
-  pub meant : meaning_at meaning h k node facts ≡ Some (Err fault)
-  pub front : List (List ℕ)
-  pub back : List (List ℕ)
-  pub split : nodes ≡ front ++ node ∷ back
-  pub earlier : Each (λ other. (published other (drop low h) ≡ 1) ⊎ (length h ≡ limit)) front
+  pub meant : meaning_at meaning h k node facts ≡ Some answer
+
+module _ {S C F : Type 0} (meaning : Meaning S C F) (listed : Listed S) (limit : ℕ) (site : S) (h : List (Event S))
+    (low : ℕ) where
+  -- the node has a catalog, but in the round no entry: the history is full
+  pub record HasMetFull (node : List ℕ) : Type 0 where
+    pub full : length h ≡ limit
+    pub without : published node (drop low h) ≡ 0
+    pub k : ℕ
+    pub made : C × ExportSet
+    pub meant : IsMeantFrom meaning listed site h low node k (Ok made)
+
+  -- the node was published in the round, or would have been but for a full history
+  abbrev pub IsNotRefused : List ℕ → Type 0
+  IsNotRefused node = (published node (drop low h) ≡ 1) ⊎ HasMetFull node
+
+  -- The node has no entry in the round: the first k entries mean this fault for it. No node before it, by name, was
+  -- refused.
+  pub record IsRefused (nodes : List (List ℕ)) (node : List ℕ) (k : ℕ) (fault : F) : Type 0 where
+    pub without : published node (drop low h) ≡ 0
+    pub meant : IsMeantFrom meaning listed site h low node k (Err fault)
+    pub front : List (List ℕ)
+    pub back : List (List ℕ)
+    pub split : nodes ≡ front ++ node ∷ back
+    pub earlier : Each IsNotRefused front
+
+  -- No node was refused, and some node met a full history. No more nodes are asked for than a history may have entries.
+  pub record IsFull (nodes : List (List ℕ)) : Type 0 where
+    pub each : Each IsNotRefused (take limit nodes)
+    pub node : List ℕ
+    pub has : has_text nodes node ≡ true
+    pub met : HasMetFull node
 
 module _ {S C F : Type 0} (meaning : Meaning S C F) (listed : Listed S) (limit : ℕ) (site : S)
     (nodes : List (List ℕ)) (rounds : ℕ) where
@@ -102,11 +129,11 @@ module _ {S C F : Type 0} (meaning : Meaning S C F) (listed : Listed S) (limit :
       (arc_value after)
   EndsAs last (e.Refused node k fault) h =
       AreSome listed site nodes (start nodes last) (drop (start nodes last) h)
-      × IsRefused meaning listed limit site nodes h (start nodes last) node k fault
+      × IsRefused meaning listed limit site h (start nodes last) nodes node k fault
   EndsAs last (e.Full length_) h =
       (start nodes last ≤ length h)
       × AreSome listed site nodes (start nodes last) (drop (start nodes last) h)
-      × (length_ ≡ limit) × (length h ≡ limit)
+      × (length_ ≡ limit) × (length h ≡ limit) × IsFull meaning listed limit site h (start nodes last) nodes
 
   -- So many rounds were run, and ended so. The history is legal and opens the site, each round before the last changed
   -- a set, and there are no entries but those that are told of.

@@ -22,7 +22,7 @@ use Rattle.eval_calls.specs.Templating.{named_by, epp_by, epp_rule, text_rule, i
 use Rattle.class_eval.specs.Statements.{block_rule}
 use Rattle.class_eval.specs.Templates.{pairs_given, given_for, are_taken, value_or_default, param_rule, params_from}
 use Rattle.class_eval.specs.Templates.{params_or_wrong, set_where, name_by, names_from, given_by, finish}
-use Rattle.class_eval.specs.Templates.{rendered_rule, template_rule}
+use Rattle.class_eval.specs.Templates.{rendered_rule, template_rule, written_rule}
 use Rattle.class_eval.specs.TopNames.{is_variable}
 use Rattle.world_laws.specs.Extends.{Extends}
 use Rattle.world_laws.specs.Growing.{Reaches, Grows, GrowsInner}

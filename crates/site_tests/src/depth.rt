@@ -33,6 +33,7 @@ fn stop_told(alloc: Global, stop: &Stop) -> Result<String, Memory> {
 }
 
 /// What is asked of an evaluator.
+#[derive(Clone, Copy)]
 enum Asked<'t> {
     /// The value of the main manifest's first expression.
     Expression,

@@ -95,6 +95,13 @@ bound : (w : World) → given_by inner (Some both) (given (codes "x") ∷ []) ca
 unfolding are_params are_given has_param params_from param_rule bind_rule
 bound w = refl
 
+-- of Undef that is given the default counts, and where there is none it is the value
+undef_given : (w : World) →
+    given_by inner (Some both) ((d.text (codes "x"), d.undef) ∷ (d.text (codes "y"), d.undef) ∷ []) call top w
+    ≡ (assign top (codes "x") d.undef 1 >> (assign top (codes "y") (d.text (codes "v")) 1 >> pure tt)) w
+unfolding are_params are_given has_param params_from param_rule bind_rule
+undef_given w = refl
+
 abbrev nothing_set : Step (Unit {0})
 nothing_set = pure tt
 

@@ -60,10 +60,15 @@ are_taken ps gs = are_params ps gs && are_given gs ps
 
 -- ---- parameters
 
--- what is given, whatever that is, and else the default
+-- Undef that is given counts as not given
+abbrev pub unless_undef : Inner → Datum → Option Expr → Here → Step Datum
+unless_undef inner d.undef default own = default_value inner default own
+unless_undef inner v default own = pure v
+
+-- what is given, and else the default; Undef where there is neither
 abbrev pub value_or_default : Inner → Option Datum → Option Expr → Here → Step Datum
 value_or_default inner None default own = default_value inner default own
-value_or_default inner (Some v) default own = pure v
+value_or_default inner (Some v) default own = unless_undef inner v default own
 
 unfoldable pub param_rule : Inner → Param Expr → List Pair → Place → Here → Step (Unit {0})
 param_rule inner p gs at own = do

@@ -294,8 +294,26 @@ fn value_or_default<
         default.now own world.old) result world.new }
 {
     match given {
-        Some(value) => Ok(Evaluated::copy_of(world.heap.alloc(), value)?),
+        Some(value) => unless_undef(forms, world, value, default, own),
         None => default_value(forms, world, default, own),
+    }
+}
+
+/// The value, but where it is Undef the default.
+fn unless_undef<F: Fn(&mut World<'_>, Goal<'_>, Here, u32) -> Result<Evaluated, Stop>, M: Meaning>(
+    forms: &Forms<F, M>,
+    world: &mut World<'_>,
+    value: &Value,
+    default: &Option<Expr>,
+    own: Here,
+) -> Result<Evaluated, Stop>
+    requires { Nests (M.within forms.now.left) forms.now.left (F.pre forms.now.inner) (F.post forms.now.inner) }
+    ensures { Gives same (spec.unless_undef (M.within forms.now.left) (view value.now) default.now own world.old) result
+        world.new }
+{
+    match value {
+        Value::Undef => default_value(forms, world, default, own),
+        _ => Ok(Evaluated::copy_of(world.heap.alloc(), value)?),
     }
 }
 

@@ -20,8 +20,8 @@ use Rattle.eval_world.specs.declared.world.World.{World}
 use Rattle.eval_calls.specs.Templating.{Asked, asked_of, template_path, rendering, rendered_in, file_rule, file_by}
 use Rattle.eval_calls.specs.Templating.{named_by, epp_by, epp_rule, text_rule, inline_by, inline_rule}
 use Rattle.class_eval.specs.Statements.{block_rule}
-use Rattle.class_eval.specs.Templates.{pairs_given, given_for, are_taken, value_or_default, param_rule, params_from}
-use Rattle.class_eval.specs.Templates.{params_or_wrong, set_where, name_by, names_from, given_by, finish}
+use Rattle.class_eval.specs.Templates.{pairs_given, given_for, are_taken, unless_undef, value_or_default, param_rule}
+use Rattle.class_eval.specs.Templates.{params_from, params_or_wrong, set_where, name_by, names_from, given_by, finish}
 use Rattle.class_eval.specs.Templates.{rendered_rule, template_rule, written_rule}
 use Rattle.class_eval.specs.TopNames.{is_variable}
 use Rattle.world_laws.specs.Extends.{Extends}
@@ -86,10 +86,21 @@ within_extends here w = extends_on w (owned_within here w) (entered_within here 
 module _ (inner : Inner) (g : GrowsInner inner) where
   -- ---- parameters
 
+  unless_undef_grows : (v : Datum) (default : Option Expr) (own : Here) → Grows (unless_undef inner v default own)
+  unless_undef_grows datum.undef default own = value_grows inner g default own
+  unless_undef_grows (datum.flag b) default own = pure_grows
+  unless_undef_grows (datum.int z) default own = pure_grows
+  unless_undef_grows (datum.text t) default own = pure_grows
+  unless_undef_grows (datum.list ds) default own = pure_grows
+  unless_undef_grows (datum.hash es) default own = pure_grows
+  unless_undef_grows (datum.reference r) default own = pure_grows
+  unless_undef_grows (datum.kind s) default own = pure_grows
+  unless_undef_grows datum.default default own = pure_grows
+
   given_value_grows : (given : Option Datum) (default : Option Expr) (own : Here) →
       Grows (value_or_default inner given default own)
   given_value_grows None default own = value_grows inner g default own
-  given_value_grows (Some d) default own = pure_grows
+  given_value_grows (Some v) default own = unless_undef_grows v default own
 
   param_grows : (p : Param Expr) (gs : List Pair) (at : Place) (own : Here) → Grows (param_rule inner p gs at own)
   unfolding param_rule

@@ -12,6 +12,7 @@ use Rattle.pp_values.specs.Sort.{Sort, of, none, kind, bound, text, same_type}
 use Rattle.pp_values.specs.PTypes.{sort}
 use Rattle.pp_values.specs.SortText.{type_text}
 use Rattle.pp_values.specs.Words.{kind_text, reference_text}
+use Rattle.pp_values.specs.Depth.{depth, sort_depth}
 use Rattle.pp_values.specs.Keys.{are_distinct, value_at, with_pair, without_key}
 use Rattle.pp_values.specs.Equal.{equal}
 use Rattle.pp_values.specs.Order.{order}
@@ -80,6 +81,31 @@ segments_text = refl
 
 bare_kind_text : kind_text (codes "file") ≡ codes "File"
 bare_kind_text = refl
+
+-- how deep values nest
+text_depth : depth a ≡ 0
+text_depth = refl
+
+empty_list_depth : depth (list []) ≡ 1
+empty_list_depth = refl
+
+list_depth : depth (list (one ∷ list (list [] ∷ []) ∷ list (a ∷ []) ∷ [])) ≡ 3
+list_depth = refl
+
+hash_depth : depth (hash ((a, one) ∷ (b, list (hash [] ∷ [])) ∷ [])) ≡ 3
+hash_depth = refl
+
+abbrev integer_or_array : Sort
+integer_or_array = sort (v.Variant (integer_from_one ∷ sort (v.Array (Some (record { of = integer_from_one; count = bounds.Omitted }))) ∷ []))
+
+integer_depth : sort_depth integer_from_one ≡ 1
+integer_depth = refl
+
+variant_depth : sort_depth integer_or_array ≡ 3
+variant_depth = refl
+
+type_in_list_depth : depth (list (d.kind integer_or_array ∷ [])) ≡ 4
+type_in_list_depth = refl
 
 -- texts of types: the arguments as given
 integer_text : type_text (sort (v.Integer bounds.Omitted)) ≡ codes "Integer"

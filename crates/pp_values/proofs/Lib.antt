@@ -1,3 +1,4 @@
+pub mod Depths
 pub mod Distinct
 mod Examples
 pub mod Inner

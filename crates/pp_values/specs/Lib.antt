@@ -1,7 +1,7 @@
 -- What the clauses of `site_main` rest on, and a reader has to believe: References, Kinds, Sort, SortText, PTypes,
 -- Words, Datum, Keys, Rising, Facts, Settings, Faults, Answers, Plain, Equal, Order, TextOf, Members
 -- What functions promise one another, what types keep, and what proofs read: TextForms, SortCodes, SortFalls, Codes,
--- Sizes, Places, Views, Falls, PairLists
+-- Depth, Sizes, Places, Views, Falls, PairLists
 pub mod TextForms
 pub mod References
 pub mod Kinds
@@ -13,6 +13,7 @@ pub mod PTypes
 pub mod Words
 pub mod Datum
 pub mod Codes
+pub mod Depth
 pub mod Sizes
 pub mod Keys
 pub mod Rising

@@ -43,7 +43,7 @@ pub use kept::Kept;
 pub use keys::{is_key, same_key};
 pub use kind::{Kind, is_kind};
 pub use memory::Memory;
-pub use nesting::MAX_NESTING;
+pub use nesting::{MAX_NESTING, depth_of};
 pub use ordering::order;
 pub use pairs::Pairs;
 pub use place::{MAIN_MANIFEST, Place};

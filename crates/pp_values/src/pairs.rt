@@ -1,11 +1,12 @@
-ghost use Rattle.std.specs.Prelude.{◌≡◌, ◌<◌, [], ◌↔◌, length, is_ok, if◌then◌else◌, IsTrue, IfOk, IfSome, option_map, vec_len};
+ghost use Rattle.std.specs.Prelude.{◌≡◌, ◌+◌, ◌<◌, ◌≤◌, [], ◌↔◌, length, is_ok, if◌then◌else◌, IsTrue, IfOk, IfSome, option_map, vec_len};
+ghost use Rattle.pp_values.specs.Depth.{IsDepth, deepest_value, max_nesting};
 ghost use Rattle.pp_values.specs.Keys.{is_key, are_distinct, value_at, with_pair};
 ghost use Rattle.pp_values.specs.Places.{place_of, with_value};
 ghost use Rattle.pp_values.specs.Views.{view, pair_views};
 
 use crate::keys::same_key;
 use crate::memory::Memory;
-use crate::nesting::{level_above, levels_of, levels_of_pairs};
+use crate::nesting::{depth_around, depth_of, depth_within_pairs};
 use crate::value::Value;
 use std::alloc::Global;
 use std::marker::Model;
@@ -17,8 +18,8 @@ use std::mem;
 #[cycle(value)]
 pub struct Pairs {
     items: Vec<(Value, Value)>,
-    /// At least how many levels the hash has, itself included.
-    levels: u32,
+    /// How deep the hash nests, itself included.
+    depth: u32,
 }
 
 impl Drop for Pairs {
@@ -26,7 +27,7 @@ impl Drop for Pairs {
     fn drop(self) {
         let Pairs {
             items: _items,
-            levels: _levels,
+            depth: _depth,
         } = self;
     }
 }
@@ -41,13 +42,15 @@ impl Model for Pairs {
 
     ghost coded = { coded_pairs };
 
-    ghost use Rattle.std.specs.Prelude.{IsTrue};
+    ghost use Rattle.std.specs.Prelude.{IsTrue, ◌+◌};
+    ghost use Rattle.pp_values.specs.Depth.{IsDepth, deepest_value};
     ghost use Rattle.pp_values.specs.Keys.{are_distinct};
     ghost use Rattle.pp_values.specs.Views.{pair_views};
 
     ghost view = { λ l. pair_views l.items.items };
 
-    ghost invariant = { λ l. IsTrue (are_distinct (pair_views l.items.items)) };
+    ghost invariant = { λ l. IsTrue (are_distinct (pair_views l.items.items))
+        × IsDepth l.depth (deepest_value (pair_views l.items.items) + 1) };
 
     ghost size = { pairs_size };
 
@@ -62,7 +65,7 @@ impl Pairs {
     {
         Pairs {
             items: Vec::new(alloc),
-            levels: 1,
+            depth: 1,
         }
     }
 
@@ -71,8 +74,8 @@ impl Pairs {
         requires { IsTrue (are_distinct (pair_views items.items)) }
         ensures { IfOk result (λ l. l ≡ pair_views items.items) }
     {
-        let levels = level_above(levels_of_pairs(items.as_slice()))?;
-        Ok(Pairs { items, levels })
+        let depth = depth_around(depth_within_pairs(items.as_slice()))?;
+        Ok(Pairs { items, depth })
     }
 
     pub fn into_vec(self) -> Vec<(Value, Value)>
@@ -81,7 +84,7 @@ impl Pairs {
     {
         let Pairs {
             items,
-            levels: _levels,
+            depth: _depth,
         } = self;
         items
     }
@@ -125,24 +128,27 @@ impl Pairs {
         requires { IsTrue (is_key (view key)) }
         ensures { self.new ≡ (if is_ok result then with_pair (view key) (view value) self.old else self.old) }
     {
-        // An upper bound stays one where the pair finds no room.
-        self.levels = self.levels.max(level_above(levels_of(&value))?);
+        let depth = depth_around(depth_of(&value))?;
         match place_of(&self.items, &key) {
             Some(place) => {
                 drop(key);
                 replace_value(&mut self.items, place, value);
+                self.depth = depth_once_set(&self.items, self.depth, depth);
                 Ok(())
             }
             None => {
                 self.items.push((key, value))?;
+                self.depth = self.depth.max(depth);
                 Ok(())
             }
         }
     }
 
-    /// At least how many levels the hash has, itself included.
-    pub(crate) fn levels(&self) -> u32 {
-        self.levels
+    /// How deep the hash nests, itself included.
+    pub(crate) fn depth(&self) -> u32
+        ensures { IsDepth result (deepest_value self.now + 1) }
+    {
+        self.depth
     }
 }
 
@@ -180,6 +186,19 @@ fn place_of(items: &[(Value, Value)], key: &Value) -> Option<usize>
         }
     }
     None
+}
+
+/// The depth of a hash once a pair was set in its place: how deep it was before, and would be with that pair alone.
+fn depth_once_set(items: &[(Value, Value)], before: u32, alone: u32) -> u32
+    requires limit { deepest_value (pair_views items.now) < max_nesting }
+    requires deepest { before ≤ alone → deepest_value (pair_views items.now) + 1 ≡ alone }
+    ensures { result ≡ deepest_value (pair_views items.now) + 1 }
+{
+    if before <= alone {
+        return alone;
+    }
+    // The value that was there may have been the deepest.
+    depth_within_pairs(items) + 1
 }
 
 fn replace_value(items: &mut Vec<(Value, Value)>, place: usize, value: Value)

@@ -3,7 +3,7 @@ ghost use Rattle.std.specs.Prelude.{◌≡◌, IfOk};
 use crate::bounds::Bounds;
 use crate::kind::Kind;
 use crate::memory::Memory;
-use crate::nesting::{level_above, levels_of_type};
+use crate::nesting::{depth_around, depth_of_arguments};
 use crate::text::Text;
 use crate::texts::Texts;
 use crate::types::Types;
@@ -66,8 +66,8 @@ pub struct EntryType {
 #[derive(Drop)]
 pub struct TypeBox {
     inner: Box<PType>,
-    /// At least how many levels the type has, the box included.
-    levels: u32,
+    /// How deep the type nests, itself included.
+    depth: u32,
 }
 
 impl Model for TypeBox {
@@ -78,9 +78,12 @@ impl Model for TypeBox {
 
     ghost coded = { coded_sort };
 
+    ghost use Rattle.pp_values.specs.Depth.{IsDepth, sort_depth};
     ghost use Rattle.pp_values.specs.PTypes.{sort};
 
     ghost view = { λ b. sort b.inner.value };
+
+    ghost invariant = { λ b. IsDepth b.depth (sort_depth (sort b.inner.value)) };
 
     ghost size = { sort_size };
 
@@ -91,6 +94,7 @@ impl Model for TypeBox {
 }
 
 impl TypeBox {
+    ghost use Rattle.pp_values.specs.Depth.{IsDepth, sort_depth};
     ghost use Rattle.pp_values.specs.PTypes.{sort};
 
     /// A data type behind a pointer. Where it would nest deeper than [`MAX_NESTING`](crate::MAX_NESTING), that is want of
@@ -98,16 +102,18 @@ impl TypeBox {
     pub fn new(alloc: Global, inner: PType) -> Result<TypeBox, Memory>
         ensures { IfOk result (λ b. b ≡ sort inner) }
     {
-        let levels = level_above(levels_of_type(&inner))?;
+        let depth = depth_around(depth_of_arguments(&inner))?;
         Ok(TypeBox {
             inner: Box::new(alloc, inner)?,
-            levels,
+            depth,
         })
     }
 
-    /// At least how many levels the type has, the box included.
-    pub(crate) fn levels(&self) -> u32 {
-        self.levels
+    /// How deep the type nests, itself included.
+    pub(crate) fn depth(&self) -> u32
+        ensures { IsDepth result (sort_depth self.now) }
+    {
+        self.depth
     }
 
     pub fn as_type(&self) -> &PType

@@ -1,8 +1,9 @@
 ghost use Rattle.std.specs.Prelude.{◌≡◌, [], ◌∷◌, ◌++◌, ◌↔◌, length, is_ok, if◌then◌else◌, IsTrue, IfOk};
+ghost use Rattle.pp_values.specs.Depth.{IsDepth, deepest_type};
 ghost use Rattle.pp_values.specs.PTypes.{sort, sorts};
 
 use crate::memory::Memory;
-use crate::nesting::{level_above, levels_of_type, levels_of_types};
+use crate::nesting::{depth_around, depth_of_arguments, depth_within_types};
 use crate::ptype::PType;
 use std::alloc::Global;
 use std::marker::Model;
@@ -12,8 +13,8 @@ use std::marker::Model;
 #[derive(Drop)]
 pub struct Types {
     items: Vec<PType>,
-    /// At least how many levels the list has, itself included.
-    levels: u32,
+    /// How deep the deepest of them nests.
+    depth: u32,
 }
 
 impl Model for Types {
@@ -25,9 +26,12 @@ impl Model for Types {
 
     ghost coded = { coded_sorts };
 
+    ghost use Rattle.pp_values.specs.Depth.{IsDepth, deepest_type};
     ghost use Rattle.pp_values.specs.PTypes.{sorts};
 
     ghost view = { λ l. sorts l.items.items };
+
+    ghost invariant = { λ l. IsDepth l.depth (deepest_type (sorts l.items.items)) };
 
     ghost size = { sorts_size };
 
@@ -42,7 +46,7 @@ impl Types {
     {
         Types {
             items: Vec::new(alloc),
-            levels: 1,
+            depth: 0,
         }
     }
 
@@ -50,8 +54,8 @@ impl Types {
     pub fn from_vec(items: Vec<PType>) -> Result<Types, Memory>
         ensures { IfOk result (λ l. l ≡ sorts items.items) }
     {
-        let levels = level_above(levels_of_types(items.as_slice()))?;
-        Ok(Types { items, levels })
+        let depth = depth_within_types(items.as_slice())?;
+        Ok(Types { items, depth })
     }
 
     pub fn len(&self) -> usize
@@ -77,14 +81,16 @@ impl Types {
     pub fn push(&mut self, item: PType) -> Result<(), Memory>
         ensures { self.new ≡ (if is_ok result then self.old ++ sort item ∷ [] else self.old) }
     {
-        let levels = level_above(levels_of_type(&item))?;
+        let depth = depth_around(depth_of_arguments(&item))?;
         self.items.push(item)?;
-        self.levels = self.levels.max(levels);
+        self.depth = self.depth.max(depth);
         Ok(())
     }
 
-    /// At least how many levels the list has, itself included.
-    pub(crate) fn levels(&self) -> u32 {
-        self.levels
+    /// How deep the deepest of them nests.
+    pub(crate) fn depth(&self) -> u32
+        ensures { IsDepth result (deepest_type self.now) }
+    {
+        self.depth
     }
 }

@@ -1,8 +1,9 @@
-ghost use Rattle.std.specs.Prelude.{◌≡◌, [], ◌∷◌, ◌++◌, ◌↔◌, length, is_ok, if◌then◌else◌, IsTrue, IfOk, option_map, slice_get};
+ghost use Rattle.std.specs.Prelude.{◌≡◌, ◌+◌, [], ◌∷◌, ◌++◌, ◌↔◌, length, is_ok, if◌then◌else◌, IsTrue, IfOk, option_map, slice_get};
+ghost use Rattle.pp_values.specs.Depth.{IsDepth, deepest};
 ghost use Rattle.pp_values.specs.Views.{view, views};
 
 use crate::memory::Memory;
-use crate::nesting::{level_above, levels_of, levels_within};
+use crate::nesting::{depth_around, depth_of, depth_within};
 use crate::value::Value;
 use std::alloc::Global;
 use std::marker::Model;
@@ -11,8 +12,8 @@ use std::marker::Model;
 #[cycle(value)]
 pub struct Values {
     items: Vec<Value>,
-    /// At least how many levels the list has, itself included.
-    levels: u32,
+    /// How deep the list nests, itself included.
+    depth: u32,
 }
 
 impl Drop for Values {
@@ -20,7 +21,7 @@ impl Drop for Values {
     fn drop(self) {
         let Values {
             items: _items,
-            levels: _levels,
+            depth: _depth,
         } = self;
     }
 }
@@ -35,9 +36,13 @@ impl Model for Values {
 
     ghost coded = { coded_data };
 
+    ghost use Rattle.std.specs.Prelude.{◌+◌};
+    ghost use Rattle.pp_values.specs.Depth.{IsDepth, deepest};
     ghost use Rattle.pp_values.specs.Views.{views};
 
     ghost view = { λ l. views l.items.items };
+
+    ghost invariant = { λ l. IsDepth l.depth (deepest (views l.items.items) + 1) };
 
     ghost size = { data_size };
 
@@ -52,7 +57,7 @@ impl Values {
     {
         Values {
             items: Vec::new(alloc),
-            levels: 1,
+            depth: 1,
         }
     }
 
@@ -60,8 +65,8 @@ impl Values {
     pub fn from_vec(items: Vec<Value>) -> Result<Values, Memory>
         ensures { IfOk result (λ l. l ≡ views items.items) }
     {
-        let levels = level_above(levels_within(items.as_slice()))?;
-        Ok(Values { items, levels })
+        let depth = depth_around(depth_within(items.as_slice()))?;
+        Ok(Values { items, depth })
     }
 
     pub fn into_vec(self) -> Vec<Value>
@@ -69,7 +74,7 @@ impl Values {
     {
         let Values {
             items,
-            levels: _levels,
+            depth: _depth,
         } = self;
         items
     }
@@ -103,14 +108,16 @@ impl Values {
     pub fn push(&mut self, item: Value) -> Result<(), Memory>
         ensures { self.new ≡ (if is_ok result then self.old ++ view item ∷ [] else self.old) }
     {
-        let levels = level_above(levels_of(&item))?;
+        let depth = depth_around(depth_of(&item))?;
         self.items.push(item)?;
-        self.levels = self.levels.max(levels);
+        self.depth = self.depth.max(depth);
         Ok(())
     }
 
-    /// At least how many levels the list has, itself included.
-    pub(crate) fn levels(&self) -> u32 {
-        self.levels
+    /// How deep the list nests, itself included.
+    pub(crate) fn depth(&self) -> u32
+        ensures { IsDepth result (deepest self.now + 1) }
+    {
+        self.depth
     }
 }

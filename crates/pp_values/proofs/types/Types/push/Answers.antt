@@ -1,0 +1,7 @@
+use Rattle.pp_values.proofs.Depths.{kept-push_type}
+use Rattle.pp_values.proofs.types.Types.push.Goals as goal
+
+pub invariant_of-self-2 : goal.invariant_of-self-2
+invariant_of-self-2 c =
+    rw (c.max-self-inside.ensures, c.in_ok-push.ensures.items)
+    (kept-push_type _ _ _ _ _ c.self.invariant c.in_ok-depth.ensures.deeper c.depth_of_arguments.ensures)

@@ -11,4 +11,5 @@ pub mod Among
 pub mod Alone
 pub mod Ranges
 pub mod Opening
+pub mod WaysOut
 pub mod Examples

@@ -1,7 +1,7 @@
 -- What the clauses of `site_main` rest on, and a reader has to believe: Lines, Changes, Fold, Keys, Defaults, Rights,
 -- SetLines, Meaning, Names
 -- What functions promise one another, what types keep, and what proofs read: Targets, Numbers, Counts, Codes, Inside,
--- Ways
+-- Ways, Bounds
 pub mod Targets
 pub mod Lines
 pub mod Numbers
@@ -17,3 +17,4 @@ pub mod Names
 pub mod Codes
 pub mod Inside
 pub mod Ways
+pub mod Bounds

@@ -1,6 +1,7 @@
 //! The dynamic parents of scopes stay.
 
 ghost use Rattle.std.specs.Prelude.{◌≡◌, [], ℕ, List, Option, IsSome};
+ghost use Rattle.override_rules.specs.Bounds.{DefaultsSuffice, NamesSuffice};
 ghost use Rattle.override_rules.specs.Defaults.{Scope, parent_of, with_scope};
 ghost use Rattle.override_rules.specs.Ways.{AreNested, IsWithin, ParentsStay, way_out};
 
@@ -13,4 +14,11 @@ pub fn parents_stay()
         → AreNested (with_scope scopes s p) }
     ensures way { (old new : List Scope) (s : ℕ) → AreNested old → ParentsStay old new → IsSome (parent_of old s)
         → way_out new s ≡ way_out old s }
+{}
+
+/// Where each scope is opened after its parent, as `parents_stay` says that it goes on to be, as many scopes as there are
+/// are enough: neither a default nor a name of one comes from further out.
+pub fn scopes_suffice()
+    ensures defaults { DefaultsSuffice }
+    ensures names { NamesSuffice }
 {}

@@ -1,5 +1,5 @@
 -- The rules hold of `includes` itself, since each pair that they ask of weighs less than the one before it.
-use Rattle.std.proofs.Common.{◌≡◌, ℕ, zero, suc, ◌<◌, ◌≤◌, Bool, true, false, ◌&&◌, ◌||◌, not, length, refl, ap, sym, subst, inl, inr, ◌⊎◌, arith, pos}
+use Rattle.std.proofs.Common.{◌≡◌, ℕ, zero, suc, ◌<◌, ◌≤◌, Bool, true, false, ◌&&◌, ◌||◌, not, length, refl, ap, sym, subst, ◌∙◌, inl, inr, ◌⊎◌, arith, pos}
 use Rattle.std.specs.Cmp.Lexicographic.{pointwise}
 use Rattle.std.specs.List.{list_all, list_any}
 use Rattle.pp_types.specs.Forms.{Form, undef, boolean, integer, string, data_, array, hash, variant, not_undef, tuple, type_, Forms, no_forms, and_form, list_of, optional, data_types, array_of_data, hash_of_data, form_size, forms_size}
@@ -108,7 +108,7 @@ rules_agree f g data_ n h =
     ]
 rules_agree f g w n h = past_first_agree (same w n || is_any w) f g w n (narrow_agree f g w n (λ e. cc) h)
 
-enough : (j k : ℕ) (w n : Form) → weight w n < j → weight w n < k → includes_within j w n ≡ includes_within k w n
+pub enough : (j k : ℕ) (w n : Form) → weight w n < j → weight w n < k → includes_within j w n ≡ includes_within k w n
 unfolding includes_within
 enough zero k w n lt lu = absurd (omega arith)
 enough (suc j) zero w n lt lu = absurd (omega arith)
@@ -120,3 +120,14 @@ pub includes-rules : (w n : Form) → includes w n ≡ by_rules includes w n
 unfolding includes includes_within
 includes-rules w n =
     rules_agree (includes_within (weight w n)) includes w n (λ v m less. enough (weight w n) (suc (weight v m)) v m less (omega arith))
+
+-- Whatever keeps the rules is `includes`. The number is above the weight of the pair.
+only_within : (inc : Test) → ((w n : Form) → inc w n ≡ by_rules inc w n) → (k : ℕ) (w n : Form) → weight w n < k
+    → inc w n ≡ includes w n
+only_within inc keeps zero w n lt = absurd (omega arith)
+only_within inc keeps (suc k) w n lt =
+    keeps w n
+    ∙ (rules_agree inc includes w n (λ v m less. only_within inc keeps k v m (omega arith)) ∙ sym (includes-rules w n))
+
+pub only_includes : (inc : Test) → ((w n : Form) → inc w n ≡ by_rules inc w n) → (w n : Form) → inc w n ≡ includes w n
+only_includes inc keeps w n = only_within inc keeps (suc (weight w n)) w n (omega arith)

@@ -8,6 +8,7 @@ pub mod data;
 pub mod data_type;
 pub mod data_values;
 pub mod inclusion;
+pub mod laws;
 pub mod layer;
 pub mod lengths;
 pub mod making;

@@ -1,4 +1,5 @@
 mod Turns
+mod Enough
 mod Keys
 mod Puts
 mod Cuts

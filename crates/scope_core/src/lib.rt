@@ -4,6 +4,7 @@
 mod binding;
 mod cutting;
 mod faults;
+pub mod laws;
 mod named;
 mod owner;
 mod scope;

@@ -233,6 +233,14 @@ impl Scopes {
         self.class_scope(before)
     }
 
+    /// The scope of the class of this name, in which `$c::x` is read. A class has it from when it is entered on.
+    pub fn of_class(&self, name: &Text) -> Option<ScopeId>
+        ensures { option_map (λ s. s.number) result ≡ value_of_class name.now self.now.classes }
+    {
+        let number = self.class_scope(name.as_str().as_bytes())?;
+        Some(ScopeId { number })
+    }
+
     fn class_scope(&self, name: &[u8]) -> Option<u32>
         ensures { result ≡ value_of_class name.now self.now.classes }
     {

@@ -1,6 +1,7 @@
 -- What is prepared of a catalog, and what its run comes to.
 use Rattle.std.proofs.Common.{◌≡◌, ℕ, List, length, map, inl, inr, refl, sym, subst}
 use Rattle.rel_graph.specs.Before.{Before, Direct}
+use Rattle.rel_graph.specs.CatalogPairs.{containment, relations}
 use Rattle.rel_graph.specs.Chains.{Paired}
 use Rattle.rel_graph.specs.Cycles.{IsCycle, HasNoCycle}
 use Rattle.rel_graph.specs.Graphs.{Relations, IsBuilt}
@@ -17,7 +18,7 @@ use Rattle.agent_transaction.proofs.CatalogLemmas.{containment_below, relations_
 use Rattle.agent_transaction.specs.Catalogs.{IsCycleTold, IsOrdered, IsRun, IsCutRun, IsRunStop, references_at}
 use Rattle.agent_transaction.specs.Marking.{planned_pair, AreBelow}
 use Rattle.agent_transaction.specs.Preparing.{IsStop, StopTells, IsPrepared}
-use Rattle.agent_transaction.specs.Runs.{containment, relations, signalling, tasks_at, IsRunOf, IsBrokenRun}
+use Rattle.agent_transaction.specs.Runs.{signalling, tasks_at, IsRunOf, IsBrokenRun}
 use Rattle.agent_transaction.specs.declared.planned.Planned.{Planned}
 use Rattle.agent_transaction.specs.declared.run_stop.RunStop.{RunStop}
 use Rattle.agent_transaction.specs.declared.run_stop.RunStop.TheVariants as stop

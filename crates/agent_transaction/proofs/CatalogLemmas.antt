@@ -5,12 +5,13 @@ use Rattle.std.proofs.lemmas.List.Elements.{All-append, All-map, All-nil, All-co
 use Rattle.std.proofs.lemmas.Bool.{ltb-true}
 use Rattle.std.specs.List.{list_all}
 use Rattle.std.specs.Prelude.{nat_lt}
+use Rattle.rel_graph.specs.CatalogPairs.{pairs_from, containment, relations}
 use Rattle.rel_graph.specs.Graphs.{edge_pair}
 use Rattle.rel_graph.specs.Pairs.{AllBelow}
 use Rattle.res_core.specs.Catalogs.{are_containers, is_between, IsCatalog}
 use Rattle.res_core.specs.declared.edge.Edge.{Edge}
 use Rattle.res_core.specs.declared.held.Held.{Held}
-use Rattle.agent_transaction.specs.Runs.{pairs_from, containment, relations, signalling}
+use Rattle.agent_transaction.specs.Runs.{signalling}
 
 first : (a b : Bool) → (a && b) ≡ true → a ≡ true
 first true b e = refl

@@ -3,6 +3,7 @@ use Rattle.std.specs.Prelude.{◌≡◌, ◌⊎◌, ℕ, List, [], ◌∷◌, �
 use Rattle.std.specs.Prelude.{MatchResult}
 use Rattle.pp_values.specs.declared.reference.Reference.{Reference}
 use Rattle.rel_graph.specs.Before.{Before, Direct}
+use Rattle.rel_graph.specs.CatalogPairs.{containment, relations}
 use Rattle.rel_graph.specs.Chains.{Paired}
 use Rattle.rel_graph.specs.Cycles.{IsCycle, HasNoCycle}
 use Rattle.rel_graph.specs.Orders.{IsOrder}
@@ -11,7 +12,7 @@ use Rattle.res_core.specs.declared.edge.Edge.{Edge}
 use Rattle.res_core.specs.declared.held.Held.{Held}
 use Rattle.agent_machine.specs.Machines.{Told}
 use Rattle.agent_machine.specs.declared.report.Report.{Report}
-use Rattle.agent_transaction.specs.Runs.{containment, relations, signalling, tasks_at, IsRunOf, IsBrokenRun}
+use Rattle.agent_transaction.specs.Runs.{signalling, tasks_at, IsRunOf, IsBrokenRun}
 use Rattle.agent_transaction.specs.declared.run_stop.RunStop.{RunStop}
 use Rattle.agent_transaction.specs.declared.run_stop.RunStop.TheVariants as stop
 

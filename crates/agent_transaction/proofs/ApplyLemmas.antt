@@ -61,8 +61,11 @@ module _ (hs : List Held) (es : List Edge) (pairs : List (ℕ × ℕ)) (count : 
   cycle_by g cycle told built is tells = stopped cycle told tells (λ refs same. record {
     cycle = cycle;
     is = same;
-    closes = inr (subst (λ l. IsCycle (Direct l (relations es)) cycle) are
-        (subst (λ (r : Relations). IsCycle (Direct r.containers r.edges) cycle) built.0 is));
+    closes = inr (
+      subst (λ l. HasNoCycle (Paired l)) are built.1,
+      subst (λ l. IsCycle (Direct l (relations es)) cycle) are
+          (subst (λ (r : Relations). IsCycle (Direct r.containers r.edges) cycle) built.0 is),
+    );
   })
 
   pub contained_by : (cycle : List ℕ) (told : RunStop) → IsCycle (Paired pairs) cycle → StopTells hs cycle told → IsStop hs es told

@@ -29,12 +29,14 @@ abbrev pub references_at : List Held → List ℕ → List Reference
 references_at resources [] = []
 references_at resources (at ∷ ats) = reference_at resources at ++ references_at resources ats
 
--- a resource stands inside itself, or comes before itself: the cycle that `rel_graph` tells
+-- A resource stands inside itself, or else one comes before itself: the cycle that `rel_graph` tells.
 pub record IsCycleTold (resources : List Held) (edges : List Edge) (told : List Reference) : Type 0 where
   pub cycle : List ℕ
   pub is : told ≡ references_at resources cycle
   pub closes :
-      IsCycle (Paired (containment resources)) cycle ⊎ IsCycle (Direct (containment resources) (relations edges)) cycle
+      IsCycle (Paired (containment resources)) cycle
+      ⊎ (HasNoCycle (Paired (containment resources))
+      × IsCycle (Direct (containment resources) (relations edges)) cycle)
 
 -- The report has the catalog's node, and a line for each resource that has a turn, in the order of the catalog.
 pub record IsRun (c : Catalog) (report : Report) (before after : Told) : Type 0 where

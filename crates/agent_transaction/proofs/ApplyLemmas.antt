@@ -1,6 +1,7 @@
 -- What is prepared of a catalog, and what its run comes to.
 use Rattle.std.proofs.Common.{◌≡◌, ℕ, List, length, map, inl, inr, refl, sym, subst}
 use Rattle.rel_graph.specs.Before.{Before, Direct}
+use Rattle.rel_graph.specs.CatalogPairs.{containment, relations}
 use Rattle.rel_graph.specs.Chains.{Paired}
 use Rattle.rel_graph.specs.Cycles.{IsCycle, HasNoCycle}
 use Rattle.rel_graph.specs.Graphs.{Relations, IsBuilt}
@@ -17,7 +18,7 @@ use Rattle.agent_transaction.proofs.CatalogLemmas.{containment_below, relations_
 use Rattle.agent_transaction.specs.Catalogs.{IsCycleTold, IsOrdered, IsRun, IsCutRun, IsRunStop, references_at}
 use Rattle.agent_transaction.specs.Marking.{planned_pair, AreBelow}
 use Rattle.agent_transaction.specs.Preparing.{IsStop, StopTells, IsPrepared}
-use Rattle.agent_transaction.specs.Runs.{containment, relations, signalling, tasks_at, IsRunOf, IsBrokenRun}
+use Rattle.agent_transaction.specs.Runs.{signalling, tasks_at, IsRunOf, IsBrokenRun}
 use Rattle.agent_transaction.specs.declared.planned.Planned.{Planned}
 use Rattle.agent_transaction.specs.declared.run_stop.RunStop.{RunStop}
 use Rattle.agent_transaction.specs.declared.run_stop.RunStop.TheVariants as stop
@@ -60,8 +61,11 @@ module _ (hs : List Held) (es : List Edge) (pairs : List (ℕ × ℕ)) (count : 
   cycle_by g cycle told built is tells = stopped cycle told tells (λ refs same. record {
     cycle = cycle;
     is = same;
-    closes = inr (subst (λ l. IsCycle (Direct l (relations es)) cycle) are
-        (subst (λ (r : Relations). IsCycle (Direct r.containers r.edges) cycle) built.0 is));
+    closes = inr (
+      subst (λ l. HasNoCycle (Paired l)) are built.1,
+      subst (λ l. IsCycle (Direct l (relations es)) cycle) are
+          (subst (λ (r : Relations). IsCycle (Direct r.containers r.edges) cycle) built.0 is),
+    );
   })
 
   pub contained_by : (cycle : List ℕ) (told : RunStop) → IsCycle (Paired pairs) cycle → StopTells hs cycle told → IsStop hs es told

@@ -1,16 +1,18 @@
--- All indexes in a catalog are those of its resources; and turns of loops.
-use Rattle.std.proofs.Common.{◌≡◌, ℕ, suc, ◌+◌, ◌<◌, ◌≤◌, Bool, true, false, ◌&&◌, if◌then◌else◌, List, [], ◌∷◌, ◌++◌, length, map, All, drop, get_or, refl, sym, ap, ap₂, ◌∙◌, arith, add-one, append_assoc}
-use Rattle.std.proofs.Math.Seq.{drop-cons}
+-- All indexes in a catalog are those of its resources.
+use Rattle.std.proofs.Common.{◌≡◌, ℕ, suc, ◌+◌, ◌<◌, ◌≤◌, Bool, true, false, ◌&&◌, if◌then◌else◌, List, [], ◌∷◌, ◌++◌}
+use Rattle.std.proofs.Common.{length, map, All, refl, arith}
 use Rattle.std.proofs.lemmas.List.Elements.{All-append, All-map, All-nil, All-cons}
 use Rattle.std.proofs.lemmas.Bool.{ltb-true}
 use Rattle.std.specs.List.{list_all}
 use Rattle.std.specs.Prelude.{nat_lt}
+use Rattle.rel_graph.proofs.CatalogLemmas.{between_below, related_below}
+use Rattle.rel_graph.specs.CatalogPairs.{pairs_from, containment, relations}
 use Rattle.rel_graph.specs.Graphs.{edge_pair}
 use Rattle.rel_graph.specs.Pairs.{AllBelow}
 use Rattle.res_core.specs.Catalogs.{are_containers, is_between, IsCatalog}
 use Rattle.res_core.specs.declared.edge.Edge.{Edge}
 use Rattle.res_core.specs.declared.held.Held.{Held}
-use Rattle.agent_transaction.specs.Runs.{pairs_from, containment, relations, signalling}
+use Rattle.agent_transaction.specs.Runs.{signalling}
 
 first : (a b : Bool) → (a && b) ≡ true → a ≡ true
 first true b e = refl
@@ -42,23 +44,10 @@ module _ (hs : List Held) (es : List Edge) (kept : IsCatalog hs es) where
   pub containment_below : AllBelow (containment hs) (length hs)
   containment_below = pairs_below (length hs) 0 hs kept.contained (omega arith)
 
-between : (count : ℕ) (e : Edge) → is_between count e ≡ true → (e.from < count) × (e.to < count)
-between count e is = (
-  ltb-true e.from count (first (nat_lt e.from count) (nat_lt e.to count) is),
-  ltb-true e.to count (second (nat_lt e.from count) (nat_lt e.to count) is),
-)
-
-related_below : (count : ℕ) (es : List Edge) → list_all (is_between count) es ≡ true → AllBelow (relations es) count
-related_below count [] e = All-nil (λ p. (p.0 < count) × (p.1 < count))
-related_below count (x ∷ es) e =
-    All-cons (λ p. (p.0 < count) × (p.1 < count)) (edge_pair x) (relations es)
-    (between count x (first (is_between count x) (list_all (is_between count) es) e))
-    (related_below count es (second (is_between count x) (list_all (is_between count) es) e))
-
 signals_below : (count : ℕ) (es : List Edge) → list_all (is_between count) es ≡ true → AllBelow (signalling es) count
 signals_below count [] e = All-nil (λ p. (p.0 < count) × (p.1 < count))
 signals_below count (x ∷ es) e =
-    let here = between count x (first (is_between count x) (list_all (is_between count) es) e) in
+    let here = between_below count x (first (is_between count x) (list_all (is_between count) es) e) in
     let rest = signals_below count es (second (is_between count x) (list_all (is_between count) es) e) in
     elim x.signal as (λ b. AllBelow ((if b then edge_pair x ∷ [] else []) ++ signalling es) count) [
       | true ↦ All-cons (λ p. (p.0 < count) × (p.1 < count)) (edge_pair x) (signalling es) here rest
@@ -71,15 +60,3 @@ module _ (hs : List Held) (es : List Edge) (kept : IsCatalog hs es) where
 
   pub signalling_below : AllBelow (signalling es) (length hs)
   signalling_below = signals_below (length hs) es kept.between
-
-pub pairs_turn : (hs : List Held) (i : ℕ) (h : Held) (is : List ℕ) (old new whole : List (ℕ × ℕ)) → i < length hs →
-    h ≡ get_or hs i h → is ≡ h.inside → new ≡ old ++ map (λ c. (c, i)) is →
-    old ++ pairs_from i (drop i hs) ≡ whole → new ++ pairs_from (i + 1) (drop (i + 1) hs) ≡ whole
-pairs_turn hs i h is old new whole less here same put all =
-    let next : drop i hs ≡ h ∷ drop (i + 1) hs =
-    drop-cons hs i h less ∙ ap₂ (λ x j. x ∷ drop j hs) (sym here) (sym (add-one i)) in
-    ap (λ xs. xs ++ pairs_from (i + 1) (drop (i + 1) hs)) put
-    ∙ append_assoc old (map (λ c. (c, i)) is) (pairs_from (i + 1) (drop (i + 1) hs))
-    ∙ ap₂ (λ us j. old ++ (map (λ c. (c, i)) us ++ pairs_from j (drop (i + 1) hs))) same (add-one i)
-    ∙ sym (ap (λ xs. old ++ pairs_from i xs) next)
-    ∙ all

@@ -12,9 +12,13 @@ pub mod RunLemmas
 pub mod SameLemmas
 pub mod SecondRunLemmas
 pub mod Sent
+pub mod SentenceLemmas
+pub mod SerialSentence
+pub mod SomeRunLemmas
 pub mod StepLemmas
 pub mod TaskFits
 pub mod TaskLemmas
+pub mod TaskOrders
 pub mod ToldLemmas
 pub mod TurnLemmas
 pub mod WantLemmas

@@ -3,12 +3,13 @@ use Rattle.std.proofs.Common.{◌≡◌, ℕ, zero, suc, Bool, List, [], ◌∷�
 use Rattle.std.specs.Cmp.{both_ways}
 use Rattle.std.proofs.lemmas.List.{map-append}
 use Rattle.rel_graph.proofs.Uniqueness.{one_order_law}
+use Rattle.rel_graph.specs.CatalogPairs.{containment, relations}
 use Rattle.agent_machine.specs.Contents.{Content}
 use Rattle.agent_machine.specs.Machines.{Told}
 use Rattle.agent_machine.specs.declared.report_line.ReportLine.{ReportLine}
 use Rattle.agent_transaction.proofs.SecondRunLemmas.{pair_of, same_content, comes_in, signals_in}
 use Rattle.agent_transaction.proofs.ToldLemmas.{Tells, same_told, turn_told}
-use Rattle.agent_transaction.specs.Runs.{containment, relations, tasks_at, Turned, Reaches, has_failed, signals, IsTurned, AreTurned}
+use Rattle.agent_transaction.specs.Runs.{tasks_at, Turned, Reaches, has_failed, signals, IsTurned, AreTurned}
 use Rattle.agent_transaction.specs.SecondRuns.{OneToldRun}
 use Rattle.agent_transaction.specs.ToldTurns.{turn}
 use Rattle.agent_transaction.specs.Turns.{skipped_line}

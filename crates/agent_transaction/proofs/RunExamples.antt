@@ -7,6 +7,7 @@ use Rattle.pp_values.specs.Datum.{flag, text}
 use Rattle.pp_values.specs.Settings.{Setting}
 use Rattle.pp_values.specs.declared.reference.Reference.{Reference}
 use Rattle.rel_graph.specs.Before.{Before, Direct}
+use Rattle.rel_graph.specs.CatalogPairs.{containment, relations}
 use Rattle.rel_graph.specs.Orders.{IsOrder}
 use Rattle.res_core.specs.Catalogs.{Catalog, IsCatalog}
 use Rattle.res_core.specs.NativeTypes.{native_of}
@@ -23,7 +24,7 @@ use Rattle.agent_transaction.proofs.FlatOrders.{first, second, not_true, holds_o
 use Rattle.agent_transaction.proofs.MadeTurns.{told, turn_made}
 use Rattle.agent_transaction.proofs.SecondRunLemmas.{second_run_changes_nothing}
 use Rattle.agent_transaction.specs.Catalogs.{IsOrdered, IsRun}
-use Rattle.agent_transaction.specs.Runs.{containment, relations, signalling, Turned, Reaches, has_failed, signals, IsTurned}
+use Rattle.agent_transaction.specs.Runs.{signalling, Turned, Reaches, has_failed, signals, IsTurned}
 use Rattle.agent_transaction.specs.SecondRuns.{IsToldRun, unchanged_line}
 use Rattle.agent_transaction.specs.Tasks.{ensure, task_of}
 use Rattle.agent_transaction.specs.ToldTurns.{turn}

@@ -6,6 +6,7 @@ use Rattle.pp_values.specs.Settings.{Setting}
 use Rattle.pp_values.specs.Words.{reference_text}
 use Rattle.rel_graph.specs.Before.{Before, Direct}
 use Rattle.rel_graph.proofs.Uniqueness.{one_order_law}
+use Rattle.rel_graph.specs.CatalogPairs.{containment, relations}
 use Rattle.res_core.specs.Catalogs.{Catalog}
 use Rattle.res_core.specs.declared.held.Held.{Held}
 use Rattle.agent_machine.specs.Contents.{Content}
@@ -15,7 +16,7 @@ use Rattle.agent_transaction.proofs.RecordLemmas.{Differ, Rises}
 use Rattle.agent_transaction.proofs.StepLemmas.{AllHold, Fits, Holding, TurnSettles, turn_settles, turn_calm}
 use Rattle.agent_transaction.proofs.TaskFits.{Known, known_fits, known_apart}
 use Rattle.agent_transaction.proofs.ToldLemmas.{Tells, same_told, turn_told}
-use Rattle.agent_transaction.specs.Runs.{containment, relations, signalling, task_at, tasks_at, Turned, Reaches, has_failed, signals, IsTurned, AreTurned}
+use Rattle.agent_transaction.specs.Runs.{signalling, task_at, tasks_at, Turned, Reaches, has_failed, signals, IsTurned, AreTurned}
 use Rattle.agent_transaction.specs.SecondRuns.{SecondRunChangesNothing, is_settled, unchanged_line}
 use Rattle.agent_transaction.specs.ToldTurns.{turn}
 use Rattle.agent_transaction.specs.Turns.{IsTurn}

@@ -116,7 +116,7 @@ fits_of native.Cron r h a b = in_order (row native.Cron).properties r.attributes
 fits_of native.Exec r h a b = absurd (true≢false (sym h ∙ a))
 fits_of native.Notify r h a b = absurd (true≢false (sym h ∙ b))
 
-same_task : (t u : Task) → Some t ≡ Some u → t ≡ u
+pub same_task : (t u : Task) → Some t ≡ Some u → t ≡ u
 same_task t u e = cc e
 
 pub some_task : (r : Resource) (o : Option NativeType) (q : Task) → option_map (λ n. task_of n r) o ≡ Some q →
@@ -171,7 +171,7 @@ one_at (k ∷ hs) (suc i) zero h g apart a b same =
     absurd (true≢false (sym (any_at hs i h (reference_of k) a here) ∙ not_true _ (first _ _ apart)))
 one_at (k ∷ hs) (suc i) (suc j) h g apart a b same = one_at hs i j h g (second _ _ apart) a b same
 
-place_at : (hs : List Held) (i j : ℕ) (h g : Held) → are_apart (map reference_of hs) ≡ true → slice_get hs i ≡ Some h →
+pub place_at : (hs : List Held) (i j : ℕ) (h g : Held) → are_apart (map reference_of hs) ≡ true → slice_get hs i ≡ Some h →
     slice_get hs j ≡ Some g → reference_of h ≡ reference_of g → i ≡ j
 place_at [] i j h g apart a b same = absurd (cc a)
 place_at (k ∷ hs) zero zero h g apart a b same = refl
@@ -183,7 +183,7 @@ place_at (k ∷ hs) (suc i) zero h g apart a b same =
     absurd (true≢false (sym (any_at hs i h (reference_of k) a here) ∙ not_true _ (first _ _ apart)))
 place_at (k ∷ hs) (suc i) (suc j) h g apart a b same = ap suc (place_at hs i j h g (second _ _ apart) a b same)
 
-what_of : (h : Held) (q : Task) → task_in h.item ≡ Some q → q.what ≡ reference_of h
+pub what_of : (h : Held) (q : Task) → task_in h.item ≡ Some q → q.what ≡ reference_of h
 what_of h q e = let is = some_task h.item (native_of h.item.kind) q e in ap (λ (t : Task). t.what) is.2
 
 -- ---- the tasks of a catalog

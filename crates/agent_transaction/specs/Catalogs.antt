@@ -3,6 +3,7 @@ use Rattle.std.specs.Prelude.{◌≡◌, ◌⊎◌, ℕ, List, [], ◌∷◌, �
 use Rattle.std.specs.Prelude.{MatchResult}
 use Rattle.pp_values.specs.declared.reference.Reference.{Reference}
 use Rattle.rel_graph.specs.Before.{Before, Direct}
+use Rattle.rel_graph.specs.CatalogPairs.{containment, relations}
 use Rattle.rel_graph.specs.Chains.{Paired}
 use Rattle.rel_graph.specs.Cycles.{IsCycle, HasNoCycle}
 use Rattle.rel_graph.specs.Orders.{IsOrder}
@@ -11,7 +12,7 @@ use Rattle.res_core.specs.declared.edge.Edge.{Edge}
 use Rattle.res_core.specs.declared.held.Held.{Held}
 use Rattle.agent_machine.specs.Machines.{Told}
 use Rattle.agent_machine.specs.declared.report.Report.{Report}
-use Rattle.agent_transaction.specs.Runs.{containment, relations, signalling, tasks_at, IsRunOf, IsBrokenRun}
+use Rattle.agent_transaction.specs.Runs.{signalling, tasks_at, IsRunOf, IsBrokenRun}
 use Rattle.agent_transaction.specs.declared.run_stop.RunStop.{RunStop}
 use Rattle.agent_transaction.specs.declared.run_stop.RunStop.TheVariants as stop
 
@@ -28,12 +29,14 @@ abbrev pub references_at : List Held → List ℕ → List Reference
 references_at resources [] = []
 references_at resources (at ∷ ats) = reference_at resources at ++ references_at resources ats
 
--- a resource stands inside itself, or comes before itself: the cycle that `rel_graph` tells
+-- A resource stands inside itself, or else one comes before itself: the cycle that `rel_graph` tells.
 pub record IsCycleTold (resources : List Held) (edges : List Edge) (told : List Reference) : Type 0 where
   pub cycle : List ℕ
   pub is : told ≡ references_at resources cycle
   pub closes :
-      IsCycle (Paired (containment resources)) cycle ⊎ IsCycle (Direct (containment resources) (relations edges)) cycle
+      IsCycle (Paired (containment resources)) cycle
+      ⊎ (HasNoCycle (Paired (containment resources))
+      × IsCycle (Direct (containment resources) (relations edges)) cycle)
 
 -- The report has the catalog's node, and a line for each resource that has a turn, in the order of the catalog.
 pub record IsRun (c : Catalog) (report : Report) (before after : Told) : Type 0 where

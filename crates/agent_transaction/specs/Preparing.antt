@@ -1,12 +1,13 @@
 -- What is there before the first call on the machine.
 use Rattle.std.specs.Prelude.{◌≡◌, ℕ, List, map, length, Result, MatchResult}
 use Rattle.rel_graph.specs.Before.{Before, Direct}
+use Rattle.rel_graph.specs.CatalogPairs.{containment, relations}
 use Rattle.res_core.specs.declared.edge.Edge.{Edge}
 use Rattle.res_core.specs.declared.held.Held.{Held}
 use Rattle.agent_marks.specs.Spreads.{Marking, IsNew}
 use Rattle.agent_transaction.specs.Catalogs.{IsCycleTold, IsOrdered, references_at}
 use Rattle.agent_transaction.specs.Marking.{planned_pair, AreBelow}
-use Rattle.agent_transaction.specs.Runs.{containment, relations, signalling, tasks_at}
+use Rattle.agent_transaction.specs.Runs.{signalling, tasks_at}
 use Rattle.agent_transaction.specs.declared.planned.Planned.{Planned}
 use Rattle.agent_transaction.specs.declared.run_stop.RunStop.{RunStop}
 use Rattle.agent_transaction.specs.declared.run_stop.RunStop.TheVariants as stop

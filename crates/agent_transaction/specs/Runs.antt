@@ -1,5 +1,5 @@
 -- A run over a catalog: each resource's turn, in order.
-use Rattle.std.specs.Prelude.{◌≡◌, ◌⊎◌, ◌↔◌, ℕ, suc, Bool, true, false, ◌||◌, List, [], ◌∷◌, ◌++◌, map, if◌then◌else◌}
+use Rattle.std.specs.Prelude.{◌≡◌, ◌⊎◌, ◌↔◌, ℕ, Bool, true, false, ◌||◌, List, [], ◌∷◌, ◌++◌, map, if◌then◌else◌}
 use Rattle.std.specs.Prelude.{Option, option_map, option_and_then, option_to_list, slice_get, Result, MatchResult}
 use Rattle.std.specs.List.{Contains}
 use Rattle.pp_values.specs.declared.memory.Memory.{Memory}
@@ -15,17 +15,6 @@ use Rattle.agent_transaction.specs.Turns.{IsTurn, IsBroken, skipped_line}
 use Rattle.agent_transaction.specs.declared.task.Task.{Task}
 
 -- ---- what the catalog says
-
--- which resource contains which, each of these from this index on
-abbrev pub pairs_from : ℕ → List Held → List (ℕ × ℕ)
-pairs_from i [] = []
-pairs_from i (h ∷ hs) = map (λ c. (c, i)) h.inside ++ pairs_from (suc i) hs
-
-abbrev pub containment : List Held → List (ℕ × ℕ)
-containment hs = pairs_from 0 hs
-
-abbrev pub relations : List Edge → List (ℕ × ℕ)
-relations = map edge_pair
 
 abbrev pub signal_of : Edge → List (ℕ × ℕ)
 signal_of e = if e.signal then edge_pair e ∷ [] else []

@@ -5,6 +5,7 @@ use Rattle.std.specs.List.{All, list_all}
 use Rattle.std.specs.Str.{bytes_eq}
 use Rattle.pp_values.specs.Rising.{text_cmp}
 use Rattle.pp_values.specs.declared.reference.Reference.{Reference}
+use Rattle.rel_graph.specs.CatalogPairs.{IsAcyclic}
 use Rattle.res_core.specs.Catalogs.{Catalog, IsCatalog}
 use Rattle.res_core.specs.declared.held.Held.{Held}
 use Rattle.agent_machine.specs.Contents.{Content}
@@ -29,6 +30,11 @@ pub record IsToldRun (c : Catalog) (report : Report) (found left : Content) : Ty
 abbrev pub OneToldRun : Type 0
 OneToldRun = (c : Catalog) (one two : Report) (found left left_too : Content) →
     IsToldRun c one found left → IsToldRun c two found left_too → (one ≡ two) × (left ≡ left_too)
+
+-- And there is one, from any content, where nothing stands inside itself and nothing comes before itself.
+abbrev pub SomeToldRun : Type 0
+SomeToldRun = (c : Catalog) (found : Content) → IsCatalog c.resources c.edges → IsAcyclic c.resources c.edges →
+    (report : Report) × (left : Content) × IsToldRun c report found left
 
 -- an `exec` or a `notify`: it is run, in each run again
 abbrev pub is_run : Held → Bool

@@ -25,8 +25,8 @@ mod work;
 
 pub use applying::run_catalog;
 pub use laws::{
-    a_second_run_changes_nothing, a_told_run_is_one, a_told_turn_is_one, records_rise,
-    there_is_a_told_turn,
+    a_refresh_is_one, a_report_says_what_was_done, a_second_run_changes_nothing, a_told_run_is_one,
+    a_told_turn_is_one, records_rise, there_is_a_told_run, there_is_a_told_turn,
 };
 pub use plan::Plan;
 pub use planned::Planned;

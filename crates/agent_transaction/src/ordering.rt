@@ -1,11 +1,11 @@
 //! The order of the turns.
 ghost use Rattle.std.specs.Prelude.{◌≡◌, ℕ, List, length, map, ◌++◌, IfOk, OnOk, option_copied, slice_get};
+ghost use Rattle.rel_graph.specs.CatalogPairs.{containment, relations};
 ghost use Rattle.rel_graph.specs.Graphs.{containment_pair};
 ghost use Rattle.rel_graph.specs.Pairs.{AllBelow};
 ghost use Rattle.res_core.specs.Catalogs.{reference_of as reference_meant};
 ghost use Rattle.agent_transaction.specs.Catalogs.{reference_at as reference_meant_at, references_at as references_meant};
 ghost use Rattle.agent_transaction.specs.Preparing.{StopTells, OrderGives};
-ghost use Rattle.agent_transaction.specs.Runs.{containment, relations};
 
 use crate::run_stop::RunStop;
 use pp_values::{Memory, Reference, Refs};

@@ -1,7 +1,8 @@
 //! Which resources of a catalog contain which, and which come before which.
 ghost use Rattle.std.specs.Prelude.{◌≡◌, ◌<◌, ◌^◌, ◌++◌, length, map, IfOk, OnOk};
+ghost use Rattle.rel_graph.specs.CatalogPairs.{containment as contained, relations as related};
 ghost use Rattle.rel_graph.specs.Graphs.{containment_pair};
-ghost use Rattle.agent_transaction.specs.Runs.{containment as contained, relations as related, signal_of, signalling as signalling_meant};
+ghost use Rattle.agent_transaction.specs.Runs.{signal_of, signalling as signalling_meant};
 
 use pp_values::Memory;
 use rel_graph::{Containers, Containment};

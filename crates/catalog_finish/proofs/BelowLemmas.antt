@@ -1,11 +1,10 @@
 -- All indexes in a catalog are those of its resources.
-use Rattle.std.proofs.Common.{◌≡◌, ◌⊎◌, ℕ, zero, suc, ◌+◌, ◌<◌, ◌≤◌, true, false, if◌then◌else◌, List, [], ◌∷◌, ◌++◌, length, map, All, Option, None, Some, inl, inr, Err, drop, get_or, Bor, refl, sym, ap, ap₂, subst, ◌∙◌, arith, add-one, append_assoc}
-use Rattle.std.proofs.Math.Seq.{drop-cons}
+use Rattle.std.proofs.Common.{◌≡◌, ◌⊎◌, ℕ, zero, suc, ◌+◌, ◌<◌, ◌≤◌, true, false, if◌then◌else◌, List, [], ◌∷◌, ◌++◌, length, map, All, Option, None, Some, inl, inr, Err, get_or, Bor, refl, sym, ap, ap₂, subst, ◌∙◌, arith}
 use Rattle.std.proofs.lemmas.List.Elements.{All-append, All-map}
 use Rattle.std.proofs.lemmas.Map.Views.{All-insert_key}
 use Rattle.std.specs.BTreeSet.{insert_key}
 use Rattle.std.specs.Ordering.{nat_cmp}
-use Rattle.std.specs.Prelude.{option_to_list}
+use Rattle.std.specs.Prelude.{option_to_list, slice_get}
 use Rattle.pp_values.specs.Faults.{fault}
 use Rattle.pp_values.specs.declared.fault.Fault.{Fault}
 use Rattle.pp_values.specs.declared.fault.What.TheVariants.{Cycle}
@@ -16,7 +15,8 @@ use Rattle.res_book.specs.Rows.{is_live, reference_of}
 use Rattle.res_book.specs.declared.containment.Containment.{Containment}
 use Rattle.res_book.specs.declared.row.Row.{Row}
 use Rattle.res_core.specs.declared.held.Held.{Held}
-use Rattle.catalog_finish.specs.Containing.{pairs_from, containment, cycle_told}
+use Rattle.rel_graph.specs.CatalogPairs.{pairs_from, containment}
+use Rattle.catalog_finish.specs.Containing.{cycle_told}
 use Rattle.catalog_finish.specs.Layouts.{of_live, indexes_from, indexes, index_at, indexes_at, with_numbers, layout_of, containers, inside}
 
 pub live_count : List Row → ℕ
@@ -138,18 +138,6 @@ module _ (each : ℕ → Row → Held) where
 
 -- ---- turns of loops
 
-pub pairs_turn : (hs : List Held) (i : ℕ) (h : Held) (is : List ℕ) (old new whole : List (ℕ × ℕ)) → i < length hs →
-    h ≡ get_or hs i h → is ≡ h.inside → new ≡ old ++ map (λ c. (c, i)) is →
-    old ++ pairs_from i (drop i hs) ≡ whole → new ++ pairs_from (i + 1) (drop (i + 1) hs) ≡ whole
-pairs_turn hs i h is old new whole less here same put all =
-    let next : drop i hs ≡ h ∷ drop (i + 1) hs =
-    drop-cons hs i h less ∙ ap₂ (λ x j. x ∷ drop j hs) (sym here) (sym (add-one i)) in
-    ap (λ xs. xs ++ pairs_from (i + 1) (drop (i + 1) hs)) put
-    ∙ append_assoc old (map (λ c. (c, i)) is) (pairs_from (i + 1) (drop (i + 1) hs))
-    ∙ ap₂ (λ us j. old ++ (map (λ c. (c, i)) us ++ pairs_from j (drop (i + 1) hs))) same (add-one i)
-    ∙ sym (ap (λ xs. old ++ pairs_from i xs) next)
-    ∙ all
-
 references : (rows : List (Bor Row)) →
     map (λ x. reference_of x.now.declared) rows ≡ map (λ x. reference_of x.declared) (map (λ r. r.now) rows)
 references [] = refl
@@ -163,3 +151,39 @@ told_first [] r at refs f some here place list is = absurd (omega arith)
 told_first (x ∷ rows) r at refs f some here place list is =
     sym (ap Err (is ∙ ap₂ (λ p xs. fault p (Cycle xs)) (place ∙ ap (λ y. y.now.declared.at) here)
     (list ∙ references (x ∷ rows))))
+
+-- ---- each index below the count has a declaration
+
+pub record IsThere (rows : List Row) (numbers : List ℕ) (n i : ℕ) : Type 0 where
+  pub at : ℕ
+  pub numbered : slice_get numbers i ≡ Some (n + at)
+  pub row : Row
+  pub has : slice_get rows at ≡ Some row
+
+one_on : (n m : ℕ) → suc n + m ≡ n + suc m
+one_on n m = omega arith
+
+head_there : (r : Row) (rows : List Row) (numbers : List ℕ) (n i count : ℕ) → i < suc count →
+    ((j : ℕ) → j < count → IsThere rows numbers (suc n) j) → IsThere (r ∷ rows) (n ∷ numbers) n i
+head_there r rows numbers n zero count h on = record {
+  at = 0;
+  numbered = ap Some (let e : n ≡ n + 0 = omega arith in e);
+  row = r;
+  has = refl;
+}
+head_there r rows numbers n (suc j) count h on =
+    let t = on j (omega (arith, h)) in
+    record { at = suc t.at; numbered = t.numbered ∙ ap Some (one_on n t.at); row = t.row; has = t.has }
+
+pub live_there : (rows : List Row) (n i : ℕ) → i < live_count rows → IsThere rows (of_live (λ m r. m ∷ []) n rows) n i
+unfolding live_count
+live_there [] n i h = absurd (omega (arith, h))
+live_there (r ∷ rows) n i h =
+    elim (is_live r) as (λ b. i < (if b then suc (live_count rows) else live_count rows) →
+    IsThere (r ∷ rows) ((if b then n ∷ [] else []) ++ of_live (λ m x. m ∷ []) (suc n) rows) n i) [
+      | true ↦ λ f. head_there r rows (of_live (λ m x. m ∷ []) (suc n) rows) n i (live_count rows) f
+          (λ j g. live_there rows (suc n) j g)
+      | false ↦ λ f.
+          let t = live_there rows (suc n) i f in
+          record { at = suc t.at; numbered = t.numbered ∙ ap Some (one_on n t.at); row = t.row; has = t.has }
+    ] h

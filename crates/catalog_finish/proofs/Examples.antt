@@ -4,6 +4,7 @@ use Rattle.pp_values.specs.Answers.{in_turn}
 use Rattle.pp_values.specs.Datum as d
 use Rattle.pp_values.specs.Faults.{fault}
 use Rattle.pp_values.specs.declared.fault.What.TheVariants as what
+use Rattle.rel_graph.specs.FirstCycles.{first_below, least_way, way_to, first_cycle}
 use Rattle.res_book.specs.declared.mode.Mode.TheVariants as mode
 use Rattle.res_book.specs.declared.row.Row.{Row}
 use Rattle.res_core.specs.Criteria.{by_attribute}
@@ -20,10 +21,9 @@ use Rattle.override_rules.specs.Fold.{after_lines}
 use Rattle.override_rules.specs.Names.{attributes_of, names_within}
 use Rattle.catalog_finish.specs.Attributes.{catalog_attributes, exported_attributes}
 use Rattle.catalog_finish.specs.Catalogs.{resources, resource_with}
-use Rattle.catalog_finish.specs.Containing.{is_direct, order_checked}
+use Rattle.catalog_finish.specs.Containing.{order_checked}
 use Rattle.catalog_finish.specs.Exporting.{exports, export_with}
 use Rattle.catalog_finish.specs.Finishing.{finished, lines_checked, realized_checked, sources}
-use Rattle.catalog_finish.specs.FirstCycles.{is_paired, first_below, least_way, way_to, first_cycle}
 use Rattle.catalog_finish.specs.EdgeTables.{edges_from, joined}
 use Rattle.catalog_finish.specs.Relating.{target, taken, lines_related, related_pairs}
 use Rattle.catalog_finish.specs.Sources.{Sources}
@@ -86,29 +86,6 @@ in_nothing : inside (layout_of mixed []) 2 (class (codes "web") 2) ≡ []
 in_nothing = refl
 
 -- ---- cycles
-
-no_cycle : first_cycle (is_paired ((0, 1) ∷ (0, 2) ∷ (1, 2) ∷ [])) 3 ≡ None
-unfolding first_below least_way way_to first_cycle
-no_cycle = refl
-
-in_itself : first_cycle (is_paired ((0, 1) ∷ (1, 1) ∷ [])) 2 ≡ Some (1 ∷ [])
-unfolding first_below least_way way_to first_cycle
-in_itself = refl
-
--- the shortest from the least index
-shortest : first_cycle (is_paired ((0, 1) ∷ (1, 2) ∷ (2, 0) ∷ (0, 2) ∷ [])) 3 ≡ Some (0 ∷ 2 ∷ [])
-unfolding first_below least_way way_to first_cycle
-shortest = refl
-
--- of two of one length the least
-least : first_cycle (is_paired ((0, 2) ∷ (2, 0) ∷ (0, 1) ∷ (1, 0) ∷ [])) 3 ≡ Some (0 ∷ 1 ∷ [])
-unfolding first_below least_way way_to first_cycle
-least = refl
-
--- from the least index, also where another cycle is shorter
-from_the_least : first_cycle (is_paired ((0, 1) ∷ (1, 0) ∷ (2, 2) ∷ [])) 3 ≡ Some (0 ∷ 1 ∷ [])
-unfolding first_below least_way way_to first_cycle
-from_the_least = refl
 
 abbrev two_classes : List Row
 two_classes =
@@ -376,15 +353,6 @@ dead_metaparameter : related_pairs (sources untouched (notify (codes "a") 1 ((co
     mode.Virtual ∷ []) (related [] [])) [] ≡ Ok []
 unfolding in_turn edges_from joined attributes_of names_within nearest_within after_lines
 dead_metaparameter = refl
-
--- a relationship holds for all that its sides contain: 1 is in 0, so 1 comes before 2
-within : is_direct ((0, 1) ∷ []) ((0, 2) ∷ []) 3 1 2 ≡ true
-unfolding first_below least_way way_to
-within = refl
-
-not_within : is_direct ((0, 1) ∷ []) ((1, 2) ∷ []) 3 0 2 ≡ false
-unfolding first_below least_way way_to
-not_within = refl
 
 -- ---- names
 

@@ -171,7 +171,7 @@ edges_rise count (e ∷ es) h =
       | false ↦ edges_rise count es h.1
     ]
 
-all_left : (p : Edge → Bool) (es : List Edge) → list_all p (filter p es) ≡ true
+pub all_left : (p : Edge → Bool) (es : List Edge) → list_all p (filter p es) ≡ true
 all_left p [] = refl
 all_left p (e ∷ es) =
     elim (p e) as (λ b. p e ≡ b → list_all p (cond b (e ∷ filter p es) (filter p es)) ≡ true) [

@@ -1,9 +1,9 @@
 pub mod PlainLemmas
 pub mod AttributeLemmas
-pub mod CycleLemmas
 pub mod LayoutLemmas
 pub mod BelowLemmas
 pub mod KeptLemmas
+pub mod NoCycleLemmas
 pub mod ExportLemmas
 pub mod RelatingLemmas
 pub mod UnrelatedLemmas

@@ -3,11 +3,11 @@ ghost use Rattle.std.specs.Prelude.{◌≡◌, ◌<◌, ◌^◌, ℕ, [], ◌++�
 ghost use Rattle.std.specs.Prelude.{option_copied, slice_get};
 ghost use Rattle.pp_values.specs.Answers.{Answers};
 ghost use Rattle.res_book.specs.Rows.{reference_of as reference_meant};
+ghost use Rattle.rel_graph.specs.CatalogPairs.{containment};
+ghost use Rattle.rel_graph.specs.FirstCycles.{first_cycle, is_direct, cycle_in as cycle_meant};
 ghost use Rattle.rel_graph.specs.Graphs.{containment_pair, edge_pair};
 ghost use Rattle.rel_graph.specs.Pairs.{AllBelow};
-ghost use Rattle.catalog_finish.specs.Containing.{containment, rows_at as rows_at_meant, cycle_told as told_meant};
-ghost use Rattle.catalog_finish.specs.Containing.{order_checked, is_direct, cycle_in as cycle_meant};
-ghost use Rattle.catalog_finish.specs.FirstCycles.{first_cycle};
+ghost use Rattle.catalog_finish.specs.Containing.{rows_at as rows_at_meant, cycle_told as told_meant, order_checked};
 ghost use Rattle.catalog_finish.specs.Layouts.{live_numbers};
 
 use pp_values::{Fault, Memory, Refs, Stop, What};

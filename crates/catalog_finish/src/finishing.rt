@@ -1,8 +1,8 @@
 ghost use Rattle.std.specs.Prelude.{◌≡◌, ◌<◌, ◌^◌, IfOk, length, map};
 ghost use Rattle.pp_values.specs.Answers.{Answers};
 ghost use Rattle.catalog_finish.specs.Finishing.{finished, put_together as together_meant, catalog_with};
-ghost use Rattle.catalog_finish.specs.Containing.{containment};
 ghost use Rattle.res_core.specs.Catalogs.{IsCatalog};
+ghost use Rattle.rel_graph.specs.CatalogPairs.{containment};
 ghost use Rattle.rel_graph.specs.Graphs.{edge_pair};
 ghost use Rattle.rel_graph.specs.Pairs.{AllBelow};
 

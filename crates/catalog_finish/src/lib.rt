@@ -8,6 +8,7 @@ mod containment;
 mod edge_table;
 mod exporting;
 mod finishing;
+mod laws;
 mod layout;
 mod name_places;
 mod named;
@@ -21,3 +22,4 @@ mod targets;
 mod titles;
 
 pub use finishing::finish;
+pub use laws::no_cycle_is_left;

@@ -1,8 +1,9 @@
 -- Who comes directly before whom, at worked examples. Each fact is shown by the pair that makes it, which is found by
 -- computing.
-use Rattle.std.proofs.Common.{ℕ, List, [], ◌∷◌, inl, inr, refl, arith}
+use Rattle.std.proofs.Common.{◌≡◌, ℕ, true, false, List, [], ◌∷◌, None, Some, inl, inr, refl, arith}
 use Rattle.rel_graph.specs.Before.{Inside, Direct, Before}
 use Rattle.rel_graph.specs.Cycles.{NoLater}
+use Rattle.rel_graph.specs.FirstCycles.{is_paired, is_direct, first_below, least_way, way_to, first_cycle, cycle_in}
 
 abbrev zero_one : List (ℕ × ℕ)
 zero_one = (0, 1) ∷ []
@@ -75,3 +76,46 @@ by_first = inl (omega arith)
 
 by_second : NoLater (1 ∷ 3 ∷ []) (1 ∷ 4 ∷ [])
 by_second = inr (refl, inl (omega arith))
+
+-- ---- the cycle that is told, as it is computed
+
+no_cycle : first_cycle (is_paired ((0, 1) ∷ (0, 2) ∷ (1, 2) ∷ [])) 3 ≡ None
+unfolding first_below least_way way_to first_cycle
+no_cycle = refl
+
+in_itself : first_cycle (is_paired ((0, 1) ∷ (1, 1) ∷ [])) 2 ≡ Some (1 ∷ [])
+unfolding first_below least_way way_to first_cycle
+in_itself = refl
+
+-- the shortest from the least index
+shortest : first_cycle (is_paired ((0, 1) ∷ (1, 2) ∷ (2, 0) ∷ (0, 2) ∷ [])) 3 ≡ Some (0 ∷ 2 ∷ [])
+unfolding first_below least_way way_to first_cycle
+shortest = refl
+
+-- of two of one length the least
+least : first_cycle (is_paired ((0, 2) ∷ (2, 0) ∷ (0, 1) ∷ (1, 0) ∷ [])) 3 ≡ Some (0 ∷ 1 ∷ [])
+unfolding first_below least_way way_to first_cycle
+least = refl
+
+-- from the least index, also where another cycle is shorter
+from_the_least : first_cycle (is_paired ((0, 1) ∷ (1, 0) ∷ (2, 2) ∷ [])) 3 ≡ Some (0 ∷ 1 ∷ [])
+unfolding first_below least_way way_to first_cycle
+from_the_least = refl
+
+-- a relationship holds for all that its sides contain: 1 is in 0, so 1 comes before 2
+within : is_direct ((0, 1) ∷ []) ((0, 2) ∷ []) 3 1 2 ≡ true
+unfolding first_below least_way way_to
+within = refl
+
+not_within : is_direct ((0, 1) ∷ []) ((1, 2) ∷ []) 3 0 2 ≡ false
+unfolding first_below least_way way_to
+not_within = refl
+
+-- of containment first, where there are both: 0 and 1 contain each other, and 2 comes before itself
+contained_first : cycle_in ((0, 1) ∷ (1, 0) ∷ []) ((2, 2) ∷ []) 3 ≡ Some (0 ∷ 1 ∷ [])
+unfolding first_below least_way way_to first_cycle
+contained_first = refl
+
+before_itself : cycle_in ((0, 1) ∷ []) ((2, 2) ∷ []) 3 ≡ Some (2 ∷ [])
+unfolding first_below least_way way_to first_cycle
+before_itself = refl

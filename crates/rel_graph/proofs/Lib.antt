@@ -18,3 +18,6 @@ pub mod StepLemmas
 pub mod StepOrders
 pub mod VisitLemmas
 pub mod TraceLemmas
+pub mod CycleLemmas
+pub mod OrderLemmas
+pub mod CatalogLemmas

@@ -1,4 +1,5 @@
--- What the clauses of `site_main` rest on, and a reader has to believe: Chains, Before, Orders, Cycles, Graphs
+-- What the clauses of `site_main` rest on, and a reader has to believe: Chains, Before, Orders, Cycles, Graphs,
+-- CatalogPairs, FirstCycles
 -- What functions promise one another, what types keep, and what proofs read: Pairs, Marks, Releases, Steps, Visits,
 -- Ways, Distances, Listing, Stops, Spans, Laws
 pub mod Chains
@@ -15,5 +16,7 @@ pub mod Distances
 pub mod Listing
 pub mod Stops
 pub mod Graphs
+pub mod CatalogPairs
+pub mod FirstCycles
 pub mod Spans
 pub mod Laws

@@ -20,6 +20,10 @@ mod ways;
 
 pub use containment::{Containers, Containment};
 pub use graph::{Edges, Graph, Order, build};
-pub use laws::{an_order_has_no_cycle, there_is_one_cycle, there_is_one_order};
+pub use laws::{
+    a_greater_count_finds_the_same, a_greater_count_finds_the_same_way, an_order_has_no_cycle,
+    the_cycle_is_computed, the_way_is_the_shortest, there_is_an_order, there_is_one_cycle,
+    there_is_one_order,
+};
 pub use ranges::are_below;
 pub use stops::{GraphStop, OrderStop};

@@ -1,6 +1,7 @@
 -- The run over a catalog.
 use Rattle.std.proofs.Common.{◌≡◌, ℕ, List, length, inl, refl, sym, subst, ap, ◌∙◌}
 use Rattle.rel_graph.specs.Before.{Before}
+use Rattle.rel_graph.specs.CatalogPairs.{containment, relations}
 use Rattle.res_core.specs.Catalogs.{Catalog}
 use Rattle.res_core.specs.declared.edge.Edge.{Edge}
 use Rattle.res_core.specs.declared.held.Held.{Held}
@@ -9,7 +10,7 @@ use Rattle.agent_machine.specs.declared.report.Report.{Report}
 use Rattle.agent_marks.specs.Spreads.{Marking, IsNew}
 use Rattle.agent_machine.specs.declared.report_line.ReportLine.{ReportLine}
 use Rattle.agent_transaction.specs.Preparing.{IsStop, IsPrepared}
-use Rattle.agent_transaction.specs.Runs.{containment, relations, signalling, tasks_at}
+use Rattle.agent_transaction.specs.Runs.{signalling, tasks_at}
 use Rattle.agent_transaction.specs.declared.planned.Planned.{Planned}
 use Rattle.agent_transaction.specs.declared.run_stop.RunStop.{RunStop}
 use Rattle.agent_transaction.specs.declared.run_stop.RunStop.TheVariants as stop

@@ -18,6 +18,7 @@ use Rattle.pp_values.specs.Settings.{Setting}
 use Rattle.pp_values.specs.Words.{reference_text}
 use Rattle.rel_graph.proofs.Uniqueness.{one_order_law}
 use Rattle.rel_graph.specs.Before.{Direct}
+use Rattle.rel_graph.specs.CatalogPairs.{containment, relations}
 use Rattle.rel_graph.specs.Chains.{Paired}
 use Rattle.rel_graph.specs.Graphs.{edge_pair}
 use Rattle.rel_graph.specs.Orders.{IsOrder}
@@ -35,7 +36,7 @@ use Rattle.agent_transaction.proofs.RecordLemmas.{Differ, Rises, one_key}
 use Rattle.agent_transaction.proofs.SecondRunLemmas.{pair_of, same_content, comes_in, signals_in}
 use Rattle.agent_transaction.proofs.TaskFits.{known_apart, same_index, some_task, taken}
 use Rattle.agent_machine.specs.Machines.{Told}
-use Rattle.agent_transaction.specs.Runs.{containment, relations, signal_of, signalling, task_at, tasks_at, Turned}
+use Rattle.agent_transaction.specs.Runs.{signal_of, signalling, task_at, tasks_at, Turned}
 use Rattle.agent_transaction.specs.Runs.{AreTurned}
 use Rattle.agent_transaction.specs.Tasks.{creates_of, run_unless, exec_work, work_of}
 use Rattle.agent_transaction.specs.declared.task.Task.{Task}

@@ -1,6 +1,7 @@
 -- The run over a catalog by waves, and what is told where there is none.
 use Rattle.std.specs.Prelude.{◌≡◌, ◌⊎◌, ℕ, List, length, Result, MatchResult}
 use Rattle.rel_graph.specs.Before.{Before, Direct}
+use Rattle.rel_graph.specs.CatalogPairs.{containment, relations}
 use Rattle.res_core.specs.Catalogs.{Catalog}
 use Rattle.res_core.specs.declared.edge.Edge.{Edge}
 use Rattle.res_core.specs.declared.held.Held.{Held}
@@ -8,7 +9,7 @@ use Rattle.agent_machine.specs.Machines.{Told}
 use Rattle.agent_machine.specs.declared.report.Report.{Report}
 use Rattle.agent_machine.specs.declared.report_line.ReportLine.{ReportLine}
 use Rattle.agent_transaction.specs.Catalogs.{IsOrdered, IsCycleTold}
-use Rattle.agent_transaction.specs.Runs.{containment, relations, signalling, tasks_at}
+use Rattle.agent_transaction.specs.Runs.{signalling, tasks_at}
 use Rattle.agent_transaction.specs.declared.run_stop.RunStop.{RunStop}
 use Rattle.agent_transaction.specs.declared.run_stop.RunStop.TheVariants as stop
 use Rattle.wide_apply.specs.WideRuns.{IsWideRunOf, IsCutWideRun}

@@ -4,13 +4,14 @@ use Rattle.std.specs.Prelude.{◌≡◌, ◌⊎◌, ◌↔◌, ℕ, IsTrue, [], 
 use Rattle.std.specs.List.{Contains}
 use Rattle.pp_values.specs.Words.{reference_text}
 use Rattle.rel_graph.specs.Before.{Before}
+use Rattle.rel_graph.specs.CatalogPairs.{containment, relations}
 use Rattle.res_core.specs.Catalogs.{Catalog, IsCatalog}
 use Rattle.agent_machine.specs.Contents.{Content}
 use Rattle.agent_machine.specs.Machines.{Told}
 use Rattle.agent_machine.specs.Parts.{file_of}
 use Rattle.agent_machine.specs.declared.report.Report.{Report}
 use Rattle.agent_machine.specs.declared.report_line.ReportLine.{ReportLine}
-use Rattle.agent_transaction.specs.Runs.{containment, relations, task_at}
+use Rattle.agent_transaction.specs.Runs.{task_at}
 use Rattle.agent_transaction.specs.SecondRuns.{IsToldRun, is_state}
 use Rattle.agent_transaction.specs.Tasks.{creates_of}
 use Rattle.agent_transaction.specs.declared.task.Task.{Task}

@@ -1,8 +1,8 @@
 ghost use Rattle.std.specs.Prelude.{◌≡◌, ◌<◌, ◌≤◌, length, IfOk};
 ghost use Rattle.agent_marks.specs.Levels.{AreLevels};
 ghost use Rattle.agent_transaction.specs.Marking.{planned_pair, AreBelow};
-ghost use Rattle.agent_transaction.specs.Runs.{containment as contained, relations as related};
 ghost use Rattle.rel_graph.specs.Before.{Before};
+ghost use Rattle.rel_graph.specs.CatalogPairs.{containment as contained, relations as related};
 ghost use Rattle.res_core.specs.Catalogs.{IsCatalog};
 ghost use Rattle.wide_apply.specs.Going.{IsSorted};
 ghost use Rattle.wide_apply.specs.WideCatalogs.{LinesGive, RunsWide};

@@ -1,6 +1,7 @@
 use Rattle.std.proofs.Common.{refl, ap, ◌∙◌}
+use Rattle.rel_graph.specs.CatalogPairs.{containment, relations}
 use Rattle.agent_transaction.proofs.ApplyLemmas.{contained_under, related_under, signals_under}
-use Rattle.agent_transaction.specs.Runs.{containment, relations, signalling}
+use Rattle.agent_transaction.specs.Runs.{signalling}
 use Rattle.agent_transaction.proofs.prepared.prepare.Goals as goal
 
 pub order_of-requires-clause-below : goal.order_of-requires-clause-below

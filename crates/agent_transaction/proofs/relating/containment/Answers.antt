@@ -1,4 +1,4 @@
-use Rattle.agent_transaction.proofs.CatalogLemmas.{pairs_turn}
+use Rattle.rel_graph.proofs.CatalogLemmas.{pairs_turn}
 use Rattle.agent_transaction.proofs.relating.containment.Goals as goal
 
 pub loop-index-preserved : goal.loop-index-preserved

@@ -1,5 +1,5 @@
 use Rattle.std.proofs.Common.{◌≡◌, ◌++◌, drop}
-use Rattle.agent_transaction.specs.Runs.{pairs_from, containment}
+use Rattle.rel_graph.specs.CatalogPairs.{pairs_from, containment}
 use Rattle.agent_transaction.proofs.relating.containment.Given as goal
 
 abbrev pub invariant-loop-index : goal.invariant-loop-index

@@ -1,4 +1,4 @@
-use Rattle.catalog_finish.proofs.BelowLemmas.{pairs_turn}
+use Rattle.rel_graph.proofs.CatalogLemmas.{pairs_turn}
 use Rattle.catalog_finish.proofs.containment.containers.Goals as goal
 
 pub loop-index-preserved : goal.loop-index-preserved

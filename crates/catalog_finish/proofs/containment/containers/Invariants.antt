@@ -1,6 +1,6 @@
 use Rattle.std.proofs.Common.{◌≡◌, ◌++◌, map, drop}
 use Rattle.rel_graph.specs.Graphs.{containment_pair}
-use Rattle.catalog_finish.specs.Containing.{pairs_from, containment}
+use Rattle.rel_graph.specs.CatalogPairs.{pairs_from, containment}
 use Rattle.catalog_finish.proofs.containment.containers.Given as goal
 
 abbrev pub invariant-loop-index : goal.invariant-loop-index

@@ -1,6 +1,6 @@
 use Rattle.std.proofs.Common.{sym}
 use Rattle.rel_graph.proofs.Uniqueness.{order_law}
-use Rattle.catalog_finish.proofs.CycleLemmas.{before_is, before_isnt}
+use Rattle.rel_graph.proofs.CycleLemmas.{before_is, before_isnt}
 use Rattle.catalog_finish.proofs.containment.cycle_before.Goals as goal
 
 pub returns-then-not-has_cycle : goal.returns-then-not-has_cycle

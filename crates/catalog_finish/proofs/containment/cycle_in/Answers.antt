@@ -1,8 +1,8 @@
 use Rattle.std.proofs.Common.{◌≡◌, IfOk, Some, map, sym, ap, subst, ◌∙◌}
 use Rattle.rel_graph.specs.Graphs.{containment_pair, edge_pair}
 use Rattle.rel_graph.specs.Pairs.{AllBelow}
-use Rattle.catalog_finish.specs.Containing.{cycle_in}
-use Rattle.catalog_finish.proofs.CycleLemmas.{built_cycle, contained_cycle}
+use Rattle.rel_graph.specs.FirstCycles.{cycle_in}
+use Rattle.rel_graph.proofs.CycleLemmas.{built_cycle, contained_cycle}
 use Rattle.catalog_finish.proofs.containment.cycle_in.Goals as goal
 
 pub cycle_before-requires-clause-below : goal.cycle_before-requires-clause-below

@@ -1,9 +1,9 @@
 use Rattle.std.proofs.Common.{◌≡◌, List, length, refl, sym, ap, subst, ◌∙◌, arith}
+use Rattle.rel_graph.specs.CatalogPairs.{containment}
 use Rattle.rel_graph.specs.Pairs.{AllBelow}
 use Rattle.res_book.specs.Rows.{AreApart}
 use Rattle.res_core.specs.declared.held.Held.{Held}
 use Rattle.catalog_finish.specs.Catalogs.{held, resources}
-use Rattle.catalog_finish.specs.Containing.{containment}
 use Rattle.catalog_finish.specs.EdgeTables.{edges_of}
 use Rattle.catalog_finish.specs.Layouts.{layout_of, inside}
 use Rattle.catalog_finish.proofs.BelowLemmas.{resources_below, resources_few}

@@ -1,7 +1,7 @@
 use Rattle.std.proofs.Common.{◌<◌, All, map, sym, subst, ap, ◌∙◌}
 use Rattle.rel_graph.specs.Before.{Before}
+use Rattle.rel_graph.specs.CatalogPairs.{containment, relations}
 use Rattle.agent_transaction.proofs.ApplyLemmas.{contained_under, related_under}
-use Rattle.agent_transaction.specs.Runs.{containment, relations}
 use Rattle.agent_transaction.specs.declared.planned.Planned.{Planned}
 use Rattle.agent_marks.specs.Levels.{AreLevels, level_of}
 use Rattle.wide_apply.specs.Waves.{IsDivided}

@@ -1,5 +1,5 @@
 -- The cycle that is told, as it is computed, is the one that the order of resources knows.
-use Rattle.std.proofs.Common.{◌≡◌, ◌⊎◌, ℕ, zero, suc, ◌<◌, Bool, true, false, ◌&&◌, ◌||◌, if◌then◌else◌, List, [], ◌∷◌, length, eqb, Option, None, Some, option_map, inl, inr, refl, sym, ap, ap₂, subst, ◌∙◌, arith, le_antisymm, is_some, true≢false}
+use Rattle.std.proofs.Common.{◌≡◌, ◌⊎◌, ℕ, zero, suc, ◌<◌, ◌≤◌, Bool, true, false, ◌&&◌, ◌||◌, if◌then◌else◌, List, [], ◌∷◌, length, eqb, Option, None, Some, option_map, inl, inr, refl, sym, ap, ap₂, subst, ◌∙◌, arith, le_antisymm, is_some, true≢false}
 use Rattle.std.proofs.lemmas.Bool.{cases_lt, eq-eqb}
 use Rattle.std.proofs.lemmas.Bool.Decides.{eqb_tells}
 use Rattle.std.proofs.lemmas.Map.Steps.{length-le_from_distinct_below}
@@ -7,13 +7,16 @@ use Rattle.std.proofs.lemmas.Map.Views.{list_any-from_Contains}
 use Rattle.std.specs.Cmp.{nat_eq_equiv, and_equiv, on_equiv}
 use Rattle.std.specs.List.{list_any, AllByRecursion, IsDistinct}
 use Rattle.std.specs.Ordering.{on}
+use Rattle.std.specs.Prelude.{MatchOption}
 use Rattle.rel_graph.specs.Before.{Belongs, Direct}
 use Rattle.rel_graph.specs.Chains.{Paired, Chain}
 use Rattle.rel_graph.specs.Cycles.{IsCycle, HasNoCycle, NoLater}
 use Rattle.rel_graph.specs.Graphs.{IsBuilt, Relations}
+use Rattle.rel_graph.specs.Laws.{IsCycleIn, CycleInIsTheCycle, CycleOfAnyCount}
+use Rattle.rel_graph.specs.Laws.{IsWay, WayIsTheShortest, WayOfAnyCount}
 use Rattle.rel_graph.specs.Pairs.{AllBelow}
-use Rattle.catalog_finish.specs.Containing.{cycle_in, does_belong, is_direct}
-use Rattle.catalog_finish.specs.FirstCycles.{is_paired, or_next, first_below, least_way, way_to, first_cycle}
+use Rattle.rel_graph.specs.FirstCycles.{is_paired, or_next, first_below, least_way, way_to, first_cycle}
+use Rattle.rel_graph.specs.FirstCycles.{cycle_in, does_belong, is_direct}
 
 skip : (x y more : Bool) → (x ≡ false) ⊎ (y ≡ false) → ((x && y) || more) ≡ true → more ≡ true
 skip true true more (inl f) e = absurd cc
@@ -448,7 +451,7 @@ module _ (containers edges : List (ℕ × ℕ)) (count : ℕ) (below : AllBelow 
       (direct_complete es r s x y (k, omega (arith, h), is) p q)
       ∙ or_true (does_belong containers count r e.0 && does_belong containers count s e.1)
 
-  direct_told : IsToldBy (Direct containers edges) (is_direct containers edges count) count
+  pub direct_told : IsToldBy (Direct containers edges) (is_direct containers edges count) count
   direct_told = record {
     sound = direct_sound edges (λ x y h. h);
     complete = λ r s d. direct_complete edges r s d.earlier d.later d.edge d.source d.target;
@@ -480,3 +483,137 @@ pub contained_cycle : (containers edges : List (ℕ × ℕ)) (count : ℕ) (cycl
     IsCycle (Paired containers) cycle → cycle_in containers edges count ≡ Some cycle
 contained_cycle containers edges count cycle below c =
     ap (λ o. or_next o (first_cycle (is_direct containers edges count) count)) (contained_is containers count cycle below c)
+
+-- ---- where a cycle begins, and what it means that none is told
+
+module _ (R : ℕ → ℕ → Type 0) (leads : ℕ → ℕ → Bool) (count : ℕ) (told : IsToldBy R leads count) where
+  starts : (cycle : List ℕ) → IsCycle R cycle → (a : ℕ) × (rest : List ℕ) × (cycle ≡ a ∷ rest) × (a < count)
+  starts cycle c = (c.start, c.between, c.is, start_below R leads count told c.start c.start c.between c.closes)
+
+  cycle_cases : ((first_cycle leads count ≡ None) × HasNoCycle R)
+      ⊎ ((cycle : List ℕ) × (first_cycle leads count ≡ Some cycle) × IsCycle R cycle)
+  cycle_cases = elim (option_cases (first_cycle leads count)) [
+    | inl none ↦ inl (none, cycle_none R leads count told none)
+    | inr some ↦ inr (some.0, some.1, cycle_some R leads count told some.0 some.1)
+  ]
+
+-- the answer doesn't depend on which test tells the relation, nor below which count
+any_count : (R : ℕ → ℕ → Type 0) (leads others : ℕ → ℕ → Bool) (count more : ℕ) → IsToldBy R leads count →
+    IsToldBy R others more → first_cycle others more ≡ first_cycle leads count
+any_count R leads others count more told told_too = elim (cycle_cases R leads count told) [
+  | inl none ↦ cycle_isnt R others more told_too none.1 ∙ sym none.0
+  | inr some ↦ cycle_is R others more told_too some.0 some.2 ∙ sym some.1
+]
+
+module _ (R : ℕ → ℕ → Type 0) (leads : ℕ → ℕ → Bool) (count : ℕ) (told : IsToldBy R leads count) (goal a : ℕ) where
+  way_is : (way : List ℕ) → way_to leads count goal a ≡ Some way → IsWay R goal a way
+  unfolding way_to
+  way_is way e =
+      let nearest = first_some (λ n. least_way leads count goal n a) count way e in
+      let best = way_some R leads count told goal nearest.at a way nearest.gives in
+      record {
+        chain = best.chain;
+        shortest = λ other h. elim (cases_lt (length other) nearest.at) [
+          | inl less ↦ absurd (way_none R leads count told goal (length other) a (nearest.none (length other) less) other
+              refl h)
+          | inr more ↦ let l = best.long in omega (arith, l, more)
+        ];
+        least = λ other h long. best.least other h (long ∙ best.long);
+      }
+
+  pub way_cases : ((way_to leads count goal a ≡ None) × ((way : List ℕ) → ¬ (Chain R a way goal)))
+      ⊎ ((way : List ℕ) × (way_to leads count goal a ≡ Some way) × IsWay R goal a way)
+  way_cases = elim (option_cases (way_to leads count goal a)) [
+    | inl none ↦ inl (none, λ way h. no_way_to R leads count told goal a none way h)
+    | inr some ↦ inr (some.0, some.1, way_is some.0 some.1)
+  ]
+
+one_way : (R : ℕ → ℕ → Type 0) (goal a : ℕ) (xs ys : List ℕ) → IsWay R goal a xs → IsWay R goal a ys → xs ≡ ys
+one_way R goal a xs ys v w =
+    let long : length xs ≡ length ys = le_antisymm (v.shortest ys w.chain) (w.shortest xs v.chain) in
+    later_both xs ys long (v.least ys w.chain (sym long)) (w.least xs v.chain long)
+
+any_way : (R : ℕ → ℕ → Type 0) (leads : ℕ → ℕ → Bool) (count more : ℕ) → IsToldBy R leads count →
+    IsToldBy R leads more → (goal a : ℕ) → way_to leads more goal a ≡ way_to leads count goal a
+any_way R leads count more told told_too goal a = elim (way_cases R leads count told goal a) [
+  | inl none ↦ elim (way_cases R leads more told_too goal a) [
+    | inl none_too ↦ none_too.0 ∙ sym none.0
+    | inr some ↦ absurd (none.1 some.0 some.2.chain)
+  ]
+  | inr some ↦ elim (way_cases R leads more told_too goal a) [
+    | inl none ↦ absurd (none.1 some.0 some.2.chain)
+    | inr some_too ↦
+        some_too.1 ∙ ap Some (one_way R goal a some_too.0 some.0 some_too.2 some.2) ∙ sym some.1
+  ]
+]
+
+below_more : (pairs : List (ℕ × ℕ)) (count more : ℕ) → AllBelow pairs count → count ≤ more → AllBelow pairs more
+below_more pairs count more below less k d h =
+    let here = below k d h in
+    (let a = here.0 in omega (arith, less, a), let b = here.1 in omega (arith, less, b))
+
+module _ (containers edges : List (ℕ × ℕ)) (count : ℕ) (below : AllBelow containers count)
+    (edges_below : AllBelow edges count) where
+  abbrev contained_told : IsToldBy (Paired containers) (is_paired containers) count
+  contained_told = paired_told containers count below
+
+  abbrev before_told : IsToldBy (Direct containers edges) (is_direct containers edges count) count
+  before_told = direct_told containers edges count below edges_below
+
+  pub in_starts : (cycle : List ℕ) → cycle_in containers edges count ≡ Some cycle →
+      (a : ℕ) × (rest : List ℕ) × (cycle ≡ a ∷ rest) × (a < count)
+  in_starts cycle e = elim (or_some (first_cycle (is_paired containers) count)
+      (first_cycle (is_direct containers edges count) count) cycle e) [
+        | inl held ↦ starts (Paired containers) (is_paired containers) count contained_told cycle
+            (cycle_some (Paired containers) (is_paired containers) count contained_told cycle held)
+        | inr next ↦ starts (Direct containers edges) (is_direct containers edges count) count before_told cycle
+            (cycle_some (Direct containers edges) (is_direct containers edges count) count before_told cycle next.1)
+      ]
+
+  pub none_in : cycle_in containers edges count ≡ None →
+      HasNoCycle (Paired containers) × HasNoCycle (Direct containers edges)
+  none_in e =
+      let parts = or_none (first_cycle (is_paired containers) count)
+      (first_cycle (is_direct containers edges count) count) e in (
+        cycle_none (Paired containers) (is_paired containers) count contained_told parts.0,
+        cycle_none (Direct containers edges) (is_direct containers edges count) count before_told parts.1,
+      )
+
+pub told_in : CycleInIsTheCycle
+told_in containers edges count below edges_below =
+    elim (cycle_cases (Paired containers) (is_paired containers) count (paired_told containers count below)) [
+      | inr held ↦ subst (λ o. IsCycleIn containers edges o)
+          (sym (ap (λ o. or_next o (first_cycle (is_direct containers edges count) count)) held.1)) (inl held.2)
+      | inl none ↦ elim (cycle_cases (Direct containers edges) (is_direct containers edges count) count
+          (direct_told containers edges count below edges_below)) [
+            | inr before ↦ subst (λ o. IsCycleIn containers edges o)
+                (sym (ap₂ or_next none.0 before.1)) (inr (none.1, before.2))
+            | inl neither ↦ subst (λ o. IsCycleIn containers edges o) (sym (ap₂ or_next none.0 neither.0))
+                (none.1, neither.1)
+          ]
+    ]
+
+pub in_any_count : CycleOfAnyCount
+in_any_count containers edges count more below edges_below less =
+    let below_too = below_more containers count more below less in
+    let edges_below_too = below_more edges count more edges_below less in
+    ap₂ or_next
+    (any_count (Paired containers) (is_paired containers) (is_paired containers) count more
+    (paired_told containers count below) (paired_told containers more below_too))
+    (any_count (Direct containers edges) (is_direct containers edges count) (is_direct containers edges more) count more
+    (direct_told containers edges count below edges_below)
+    (direct_told containers edges more below_too edges_below_too))
+
+pub way_in_any_count : WayOfAnyCount
+way_in_any_count pairs count more goal a below less =
+    any_way (Paired pairs) (is_paired pairs) count more (paired_told pairs count below)
+    (paired_told pairs more (below_more pairs count more below less)) goal a
+
+pub way_is_told : WayIsTheShortest
+way_is_told pairs count goal a below =
+    elim (way_cases (Paired pairs) (is_paired pairs) count (paired_told pairs count below) goal a) [
+      | inl none ↦ subst (λ o. MatchOption o ((between : List ℕ) → ¬ (Chain (Paired pairs) a between goal))
+          (λ way. IsWay (Paired pairs) goal a way)) (sym none.0) none.1
+      | inr some ↦ subst (λ o. MatchOption o ((between : List ℕ) → ¬ (Chain (Paired pairs) a between goal))
+          (λ way. IsWay (Paired pairs) goal a way)) (sym some.1) some.2
+    ]

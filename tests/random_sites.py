@@ -313,7 +313,7 @@ class Maker:
                 parts.append(Part(f"<% if {self.value(scope, 'bool', 1)} {{ -%>\nyes\n<% }} -%>\nend\n"))
             else:
                 inner = Scope("template", {"e": "str"}, None, scope)
-                parts.append(Part(f"<% {self.value(scope, 'list', 1)}.each |$e| {{ -%>\n- <%= {self.value(inner, 'str', 2)} %>\n<% }} -%>\nend\n"))
+                parts.append(Part(f"<% flatten({self.value(scope, 'list', 1)}).each |$e| {{ -%>\n- <%= {self.value(inner, 'str', 2)} %>\n<% }} -%>\nend\n"))
         self.files[f"modules/{module}/templates/{name}"] = [Part("", parts, "", "")]
         self.templates.append((f"{module}/{name}", params))
 
@@ -760,12 +760,13 @@ class Maker:
         if self.any_nodes:
             declared = list(self.declared)
             inner = Scope("node", {}, None, None)
-            inner.titles = scope.titles
+            # what top scope has set is read by instances and children alike in Puppet, and here where the node hasn't set it
+            inner.titles, inner.taken = scope.titles, set(self.top)
             statements.append(block("node default", self.body(inner, 5, 2)))
             self.declared = declared
             if self.odds(40):
                 inner = Scope("node", {}, None, None)
-                inner.titles = list(scope.titles)
+                inner.titles, inner.taken = list(scope.titles), set(self.top)
                 statements.append(block("node 'db1'", self.body(inner, 4, 1)))
         if self.data or self.parameter_data:
             self.make_data()

@@ -1,2 +1,3 @@
+mod Deeper
 mod Examples
 mod Levels

@@ -2,6 +2,7 @@
 #![tactic(auto)]
 
 mod collecting;
+pub mod laws;
 mod queries;
 
 pub use collecting::{collector, realize};

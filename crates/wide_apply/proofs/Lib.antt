@@ -6,6 +6,7 @@ pub mod FairRuns
 pub mod FiledLemmas
 pub mod LocalTurns
 pub mod Sent
+pub mod Permuted
 pub mod SerialRuns
 pub mod ShareLemmas
 pub mod SortLemmas
@@ -13,3 +14,5 @@ pub mod TakingLemmas
 pub mod WaveLemmas
 pub mod WideFair
 pub mod WideLaw
+pub mod WidePermutation
+pub mod WideSentence

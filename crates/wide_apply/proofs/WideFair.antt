@@ -15,6 +15,7 @@ use Rattle.agent_machine.specs.States.{record_of}
 use Rattle.agent_machine.specs.declared.report_line.ReportLine.{ReportLine}
 use Rattle.agent_transaction.proofs.RecordLemmas.{Differ}
 use Rattle.agent_transaction.proofs.SecondRunLemmas.{pair_of}
+use Rattle.agent_transaction.proofs.TaskOrders.{none_in, in_front, in_rest, in_cases, pair_in, in_pairs, Once}
 use Rattle.agent_transaction.proofs.ToldLemmas.{Tells, same_told, turn_told}
 use Rattle.agent_transaction.specs.Runs.{Turned, IsTurned}
 use Rattle.agent_transaction.specs.Tasks.{creates_of}
@@ -27,12 +28,7 @@ use Rattle.wide_apply.proofs.ApartLemmas.{turn_not_skipped}
 use Rattle.wide_apply.proofs.BackLemmas.{part_rises, part_own, part_file, back_framed, back_own}
 use Rattle.wide_apply.proofs.FairRuns.{key, Inv, Fair}
 use Rattle.wide_apply.proofs.LocalTurns.{FileAlike, framed_same}
-use Rattle.wide_apply.proofs.SerialRuns.{none_in, in_front, in_rest, in_cases, pair_in, in_pairs, inv_more}
-
--- no index stands twice
-abbrev pub Once : List (ℕ × Task) → Type 0
-Once [] = Unit {0}
-Once (p ∷ ps) = ((q : ℕ × Task) → Contains ps q → ¬ (q.0 ≡ p.0)) × Once ps
+use Rattle.wide_apply.proofs.SerialRuns.{inv_more}
 
 module _ (wave : ℕ → ℕ) (w : ℕ) where
   pub in_wave_has : (ps : List (ℕ × Task)) (p : ℕ × Task) → Contains (in_wave wave w ps) p →

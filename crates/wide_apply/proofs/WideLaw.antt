@@ -2,7 +2,7 @@
 use Rattle.std.proofs.Common.{◌≡◌, ◌⊎◌, ◌↔◌, ℕ, zero, suc, ◌+◌, ◌<◌, ◌≤◌, Bool, true, false, if◌then◌else◌, List, []}
 use Rattle.std.proofs.Common.{◌∷◌, ◌++◌, map, length, Option, None, Some, T, Contains, inl, inr, refl, sym, subst, ap}
 use Rattle.std.proofs.Common.{◌∙◌, arith, append_assoc}
-use Rattle.std.specs.Prelude.{nat_eq, MatchOption}
+use Rattle.std.specs.Prelude.{nat_eq, IsTrue, MatchOption}
 use Rattle.std.specs.FinMap.{find}
 use Rattle.std.specs.FinMap.Entries.{same_entries}
 use Rattle.std.specs.Cmp.Lexicographic.{nat_list_cmp_total}
@@ -31,25 +31,28 @@ use Rattle.res_core.specs.declared.native_type.NativeType.TheVariants as native
 use Rattle.agent_machine.specs.Contents.{Content}
 use Rattle.agent_machine.specs.Parts.{file_of}
 use Rattle.agent_machine.specs.States.{State, record_of}
+use Rattle.agent_machine.specs.declared.report.Report.{Report}
 use Rattle.agent_machine.specs.declared.report_line.ReportLine.{ReportLine}
 use Rattle.agent_transaction.proofs.RecordLemmas.{Differ, Rises, one_key}
 use Rattle.agent_transaction.proofs.SecondRunLemmas.{pair_of, same_content, comes_in, signals_in}
 use Rattle.agent_transaction.proofs.TaskFits.{known_apart, same_index, some_task, taken}
+use Rattle.agent_transaction.proofs.TaskOrders.{none_in, in_front, in_rest, in_cases, pair_in, tasks_known}
+use Rattle.agent_transaction.proofs.TaskOrders.{order_below, Once, tasks_once, signals_come}
 use Rattle.agent_machine.specs.Machines.{Told}
-use Rattle.agent_transaction.specs.Runs.{signal_of, signalling, task_at, tasks_at, Turned}
+use Rattle.agent_transaction.specs.Runs.{task_at, tasks_at, Turned}
 use Rattle.agent_transaction.specs.Runs.{AreTurned}
+use Rattle.agent_transaction.specs.SecondRuns.{IsToldRun, is_state}
 use Rattle.agent_transaction.specs.Tasks.{creates_of, run_unless, exec_work, work_of}
 use Rattle.agent_transaction.specs.declared.task.Task.{Task}
 use Rattle.agent_transaction.specs.declared.work.Work.{Work}
 use Rattle.agent_transaction.specs.declared.work.Work.TheVariants as work
-use Rattle.wide_apply.specs.WideLaws.{AsksFor, CreatesAreOrdered, WavesAreTheRun}
+use Rattle.wide_apply.specs.WideLaws.{AsksFor, CreatesAreOrdered, IsToldWide}
 use Rattle.wide_apply.specs.Waves.{AreWaves}
 use Rattle.wide_apply.specs.WideRuns.{together, turns_of, lines_at, rising_lines, TakeWaves}
 use Rattle.wide_apply.proofs.FairRuns.{key, Asks, one_left, search_key}
 use Rattle.wide_apply.proofs.LocalTurns.{FileAlike}
-use Rattle.wide_apply.proofs.SerialRuns.{none_in, in_front, in_rest, in_cases, pair_in, tasks_known, taken_some}
-use Rattle.wide_apply.proofs.SerialRuns.{taken_none, inv_start, Ended, serial_same, not_yet, order_below}
-use Rattle.wide_apply.proofs.WideFair.{Once, AllDone, in_all, wide_fair}
+use Rattle.wide_apply.proofs.SerialRuns.{inv_start, Ended, serial_same}
+use Rattle.wide_apply.proofs.WideFair.{AllDone, in_all, wide_fair}
 
 -- ---- the file of `creates` is named by its path
 
@@ -108,37 +111,9 @@ asks_by_name (work.RunUnless file s) n task other is a =
     (a ∙ ap reference_text n)
 asks_by_name work.Idle n task other is a = absurd a
 
--- ---- what signals comes before
-
-signal_is_edge : (es : List Edge) (x y : ℕ) → Paired (signalling es) x y → Paired (relations es) x y
-signal_is_edge [] x y c = absurd (none_in (x, y) c)
-signal_is_edge (e ∷ es) x y c = elim (Contains-append_cases (signal_of e) (signalling es) (x, y) c) [
-  | inl here ↦ by_signal e.signal here
-  | inr there ↦ in_rest (edge_pair e) (x, y) (relations es) (signal_is_edge es x y there)
-] where
-  by_signal : (b : Bool) → Contains (if b then edge_pair e ∷ [] else []) (x, y) →
-      Contains (edge_pair e ∷ relations es) (x, y)
-  by_signal true k = elim (in_cases (edge_pair e) (x, y) [] k) [
-    | inl same ↦ subst (λ p. Contains (edge_pair e ∷ relations es) p) same (in_front (edge_pair e) (relations es))
-    | inr none ↦ absurd (none_in (x, y) none)
-  ]
-  by_signal false k = absurd (none_in (x, y) k)
-
-signals_come : (c : Catalog) (x y : ℕ) → signals_in c x y → comes_in c x y
-signals_come c x y s = (
-  [],
-  record {
-    earlier = s.earlier;
-    later = s.later;
-    edge = signal_is_edge c.edges s.earlier s.later s.edge;
-    source = s.source;
-    target = s.target;
-  },
-)
-
 -- ---- lines by rising indexes
 
-at_has : (at : ℕ) (ts : List Turned) (t : Turned) → Contains ts t → t.at ≡ at → Contains (lines_at at ts) t.line
+pub at_has : (at : ℕ) (ts : List Turned) (t : Turned) → Contains ts t → t.at ≡ at → Contains (lines_at at ts) t.line
 at_has at [] t c e = absurd (none_in t c)
 at_has at (u ∷ ts) t c e = elim (eqb_tells u.at at) [
   | inl is ↦ subst (λ b. Contains (if b then u.line ∷ lines_at at ts else lines_at at ts) t.line) (sym is.0)
@@ -225,25 +200,8 @@ module _ (c : Catalog) (kept : IsCatalog c.resources c.edges) (order : List ℕ)
         | inr far ↦ inr far
       ]
 
-  once_from : (rest done : List ℕ) → done ++ rest ≡ order → Once (tasks_at c.resources rest)
-  once_from [] done split = tt
-  once_from (x ∷ rest) done split = on (once_from rest (done ++ x ∷ []) (append_assoc done (x ∷ []) rest ∙ split))
-      (task_at c.resources x) refl where
-        on : Once (tasks_at c.resources rest) → (o : Option Task) → task_at c.resources x ≡ o →
-            Once (tasks_at c.resources (x ∷ rest))
-        on next None is = subst (λ l. Once (l ++ tasks_at c.resources rest)) (sym (taken_none c.resources x is)) next
-        on next (Some task) is = subst (λ l. Once (l ++ tasks_at c.resources rest))
-            (sym (taken_some c.resources x task is)) (
-              λ q k same.
-                  let there = (tasks_known c.resources rest q.0 q.1 k).0 in
-                  not_yet (Direct (containment c.resources) (relations c.edges)) (length c.resources) order io rest
-                  (done ++ x ∷ []) (append_assoc done (x ∷ []) rest ∙ split) x (subst (λ z. Contains rest z) same there)
-                  (Contains-push done x),
-              next,
-            )
-
   waves_once : Once (tasks_at c.resources order)
-  waves_once = once_from order [] refl
+  waves_once = tasks_once (Direct (containment c.resources) (relations c.edges)) c.resources (length c.resources) order io
 
 module _ (c : Catalog) (kept : IsCatalog c.resources c.edges) (ordered : CreatesAreOrdered c) (found : Content)
     (none : found.failing ≡ [])
@@ -350,8 +308,13 @@ module _ (c : Catalog) (kept : IsCatalog c.resources c.edges) (ordered : Creates
         Contains (map (λ (t : Turned). t.line) ts) l ↔ Contains (rising_lines 0 (length c.resources) (together waves)) l
     lines_same l = (to_wide l, to_serial l)
 
-pub waves_are_the_run : WavesAreTheRun
-waves_are_the_run c serial wide found left left_too kept ordered none rises r s =
+pub same_lines : (c : Catalog) (serial wide : Report) (found left left_too : Content) →
+    IsCatalog c.resources c.edges →
+    CreatesAreOrdered c → found.failing ≡ [] → IsTrue (is_state found.document.state) →
+    IsToldRun c serial found left → IsToldWide c wide found left_too →
+    (wide.node ≡ serial.node) × ((line : ReportLine) → Contains serial.lines line ↔ Contains wide.lines line)
+    × (left_too.document ≡ left.document)
+same_lines c serial wide found left left_too kept ordered none rises r s =
     let orders : s.run.lines.order ≡ r.run.order =
     one_order_law (containment c.resources) (relations c.edges) (length c.resources) s.run.lines.order r.run.order
     s.run.lines.ordered.in_order r.run.ordered.in_order in

@@ -1,7 +1,7 @@
 -- The law of runs by waves: on a machine that tells its content they come to what the run of one turn after another
 -- comes to.
-use Rattle.std.specs.Prelude.{◌≡◌, ◌⊎◌, ◌↔◌, ℕ, IsTrue, [], Some, MatchOption}
-use Rattle.std.specs.List.{Contains}
+use Rattle.std.specs.Prelude.{◌≡◌, ◌⊎◌, ℕ, ◌<◌, IsTrue, List, [], Some, MatchOption}
+use Rattle.std.specs.List.Sorted.{IsPermutation}
 use Rattle.pp_values.specs.Words.{reference_text}
 use Rattle.rel_graph.specs.Before.{Before}
 use Rattle.rel_graph.specs.CatalogPairs.{containment, relations}
@@ -13,6 +13,7 @@ use Rattle.agent_machine.specs.declared.report.Report.{Report}
 use Rattle.agent_machine.specs.declared.report_line.ReportLine.{ReportLine}
 use Rattle.agent_transaction.specs.Runs.{task_at}
 use Rattle.agent_transaction.specs.SecondRuns.{IsToldRun, is_state}
+use Rattle.agent_transaction.specs.Sentences.{HasLine, Says}
 use Rattle.agent_transaction.specs.Tasks.{creates_of}
 use Rattle.agent_transaction.specs.declared.task.Task.{Task}
 use Rattle.wide_apply.specs.WideCatalogs.{IsWideRun}
@@ -43,5 +44,15 @@ abbrev pub WavesAreTheRun : Type 0
 WavesAreTheRun = (c : Catalog) (serial wide : Report) (found left left_too : Content) → IsCatalog c.resources c.edges →
     CreatesAreOrdered c → found.failing ≡ [] → IsTrue (is_state found.document.state) →
     IsToldRun c serial found left → IsToldWide c wide found left_too →
-    (wide.node ≡ serial.node) × ((line : ReportLine) → Contains serial.lines line ↔ Contains wide.lines line)
-    × (left_too.document ≡ left.document)
+    (wide.node ≡ serial.node) × IsPermutation serial.lines wide.lines × (left_too.document ≡ left.document)
+
+-- the line of the resource with the lesser index stands first
+abbrev pub InRisingOrder : Catalog → List ReportLine → Type 0
+InRisingOrder c lines = (x y : ℕ) (line later : ReportLine) (a : HasLine c lines x line) (b : HasLine c lines y later) →
+    x < y → a.place < b.place
+
+-- The report says of each resource what the report of one turn after another says, whatever the machine and the files
+-- of `creates`.
+abbrev pub WideSays : Type 0
+WideSays = (c : Catalog) (report : Report) (before after : Told) → IsCatalog c.resources c.edges →
+    IsWideRun c report before after → Says c report.lines × InRisingOrder c report.lines

@@ -1,7 +1,12 @@
 //! What holds of every run by waves.
-ghost use Rattle.wide_apply.specs.WideLaws.{WavesAreTheRun};
+ghost use Rattle.wide_apply.specs.WideLaws.{WavesAreTheRun, WideSays};
 
 /// So turns that are taken at once come to what they come to one after another.
 pub fn waves_are_the_run()
     ensures { WavesAreTheRun }
+{}
+
+/// So a report of waves tells of each resource what became of it, as that of one turn after another does.
+pub fn a_wide_report_says_what_was_done()
+    ensures { WideSays }
 {}

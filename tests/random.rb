@@ -1,3 +1,5 @@
+# Puppet's own compiler for `tests/random`. A line of standard input is a site as JSON: `files`, `nodes` with their facts, and
+# `requests`, the nodes that are compiled one after another. A line of standard output has what each came to.
 require 'json'
 require 'puppet'
 require 'tmpdir'
@@ -10,7 +12,7 @@ Puppet[:strict] = :error
 Puppet[:storeconfigs] = true
 Puppet::Util::Log.close_all
 Puppet::Util::Log.level = :debug
-# `new` of a log message hands it to no destination here: this one keeps what the log functions of the language say
+# what the log functions of the language say; nothing is written
 LOGGED = []
 module Puppet::Util
   class Log
@@ -40,6 +42,7 @@ def parameters(one)
      .to_h { |key, param| [key.to_s, plain(param.respond_to?(:value) ? param.value : param)] }
 end
 
+# What each node has exported, which stands in the place of PuppetDB.
 Exported = Struct.new(:node, :type, :title, :tags, :parameters, :file, :line)
 $sets = {}
 
@@ -78,6 +81,7 @@ Puppet::Resource.indirection.singleton_class.define_method(:search) do |type, op
   end
 end
 
+# The relationships of what stands in the catalog: chains are parameters by then.
 def edges(catalog, kept)
   relations = []
   kept.each do |one|
@@ -86,7 +90,9 @@ def edges(catalog, kept)
       [value].flatten.compact.each do |ref|
         next if ref == :undef
         other = catalog.resource(ref.respond_to?(:ref) ? ref.ref : ref.to_s)
-        other = other ? other.ref : "?#{ref}"
+        # the compiler lets a relationship with what stays virtual pass, and the agent refuses it
+        raise ArgumentError, "Could not find resource '#{ref}' for relationship" if other.nil? || other.virtual
+        other = other.ref
         relations << (forward ? [one.ref, other, signal] : [other, one.ref, signal])
       end
     end

@@ -1,12 +1,30 @@
 //! The command line as `clap` is told of it. `specs/CommandLine.antt` has it as data.
 ghost use Rattle.std.specs.Prelude.{◌≡◌, IfOk, false};
-ghost use Rattle.clap.specs.Words.{app_of, rule_of};
+ghost use Rattle.clap.specs.Words.{app_of, new_app, rule_of};
 ghost use Rattle.clap.specs.declared.builder.command.Command.TheViews.{out-Command};
 ghost use Rattle.site_words.specs.CommandLine as spec;
 
 use crate::ids::{COUNT, DIR, KEY, MERGE, NODE, NODES, PORT, ROUNDS, WORKERS};
 use clap::{Arg, ArgAction, Command};
 use std::alloc::{AllocError, Global};
+
+const NODE_HELP: &str = "A node's name, as web1.example.com";
+
+const KEY_HELP: &str = "A key of the site's data, as ntp::servers";
+
+const NODES_HELP: &str = "How many nodes, 1 to 4096";
+
+const ROUNDS_HELP: &str = "How many rounds at most, 1 to 100";
+
+const PORT_HELP: &str = "The port on 127.0.0.1, 1 to 65535";
+
+const COUNT_HELP: &str = "How many connections are served before the service ends, 1 to 1024";
+
+const MERGE_HELP: &str = "first, unique, hash or deep, in the place of lookup_options";
+
+const DIR_HELP: &str = "The site's folder, in the place of a bundle on standard input";
+
+const WORKERS_HELP: &str = "How many workers, 1 to 64";
 
 /// All commands.
 #[tactic(auto, unfolding(crate::specs::CommandLine::command_line))]
@@ -69,124 +87,230 @@ fn manifest_line<'a>(alloc: Global) -> Result<Command<'a>, AllocError>
     ensures line { IfOk result (λ c. app_of c ≡ spec.manifest_line) }
     ensures local { IfOk result (λ c. (out-Command c).has_globals ≡ false) }
 {
-    Command::new(alloc, "manifest").arg(positional(alloc, NODE))
+    command(
+        alloc,
+        "manifest",
+        5,
+        "site manifest",
+        "Compiles a catalog from one manifest on standard input",
+    )?
+    .arg(positional(alloc, NODE, NODE_HELP))
 }
 
 fn check_line<'a>(alloc: Global) -> Result<Command<'a>, AllocError>
     ensures line { IfOk result (λ c. app_of c ≡ spec.check_line) }
     ensures local { IfOk result (λ c. (out-Command c).has_globals ≡ false) }
 {
-    Command::new(alloc, "check").arg(optional(alloc, DIR))
+    command(
+        alloc,
+        "check",
+        1,
+        "site check",
+        "Reads a site's manifests and tells which can't be read",
+    )?
+    .arg(optional(alloc, DIR, DIR_HELP))
 }
 
 fn compile_line<'a>(alloc: Global) -> Result<Command<'a>, AllocError>
     ensures line { IfOk result (λ c. app_of c ≡ spec.compile_line) }
     ensures local { IfOk result (λ c. (out-Command c).has_globals ≡ false) }
 {
-    Command::new(alloc, "compile")
-        .arg(positional(alloc, NODE))?
-        .arg(optional(alloc, DIR))
+    command(
+        alloc,
+        "compile",
+        2,
+        "site compile",
+        "Compiles a node's catalog",
+    )?
+    .arg(positional(alloc, NODE, NODE_HELP))?
+    .arg(optional(alloc, DIR, DIR_HELP))
 }
 
 fn sequence_line<'a>(alloc: Global) -> Result<Command<'a>, AllocError>
     ensures line { IfOk result (λ c. app_of c ≡ spec.sequence_line) }
     ensures local { IfOk result (λ c. (out-Command c).has_globals ≡ false) }
 {
-    Ok(Command::new(alloc, "sequence"))
+    command(
+        alloc,
+        "sequence",
+        10,
+        "site sequence",
+        "Answers a bundle's requests one after another",
+    )
 }
 
 fn lookup_line<'a>(alloc: Global) -> Result<Command<'a>, AllocError>
     ensures line { IfOk result (λ c. app_of c ≡ spec.lookup_line) }
     ensures local { IfOk result (λ c. (out-Command c).has_globals ≡ false) }
 {
-    Command::new(alloc, "lookup")
-        .arg(positional(alloc, NODE))?
-        .arg(positional(alloc, KEY))?
-        .arg(optional(alloc, MERGE))?
-        .arg(optional(alloc, DIR))
+    command(
+        alloc,
+        "lookup",
+        3,
+        "site lookup",
+        "Looks a key up in the site's data",
+    )?
+    .arg(positional(alloc, NODE, NODE_HELP))?
+    .arg(positional(alloc, KEY, KEY_HELP))?
+    .arg(optional(alloc, MERGE, MERGE_HELP))?
+    .arg(optional(alloc, DIR, DIR_HELP))
 }
 
 fn apply_line<'a>(alloc: Global) -> Result<Command<'a>, AllocError>
     ensures line { IfOk result (λ c. app_of c ≡ spec.apply_line) }
     ensures local { IfOk result (λ c. (out-Command c).has_globals ≡ false) }
 {
-    Command::new(alloc, "apply")
-        .arg(positional(alloc, NODE))?
-        .arg(optional(alloc, DIR))?
-        .arg(optional(alloc, WORKERS))
+    command(
+        alloc,
+        "apply",
+        4,
+        "site apply",
+        "Applies a node's catalog to a machine, and reports",
+    )?
+    .arg(positional(alloc, NODE, NODE_HELP))?
+    .arg(optional(alloc, DIR, DIR_HELP))?
+    .arg(optional(alloc, WORKERS, WORKERS_HELP))
 }
 
 fn demo_line<'a>(alloc: Global) -> Result<Command<'a>, AllocError>
     ensures line { IfOk result (λ c. app_of c ≡ spec.demo_line) }
     ensures local { IfOk result (λ c. (out-Command c).has_globals ≡ false) }
 {
-    Command::new(alloc, "demo").arg(positional(alloc, NODES))
+    command(
+        alloc,
+        "demo",
+        13,
+        "site demo",
+        "Runs a made-up site, and counts",
+    )?
+    .arg(positional(alloc, NODES, NODES_HELP))
 }
 
 fn batch_line<'a>(alloc: Global) -> Result<Command<'a>, AllocError>
     ensures line { IfOk result (λ c. app_of c ≡ spec.batch_line) }
     ensures local { IfOk result (λ c. (out-Command c).has_globals ≡ false) }
 {
-    Command::new(alloc, "batch").arg(optional(alloc, WORKERS))
+    command(
+        alloc,
+        "batch",
+        11,
+        "site batch",
+        "Answers a bundle's requests by several workers",
+    )?
+    .arg(optional(alloc, WORKERS, WORKERS_HELP))
 }
 
 fn serve_line<'a>(alloc: Global) -> Result<Command<'a>, AllocError>
     ensures line { IfOk result (λ c. app_of c ≡ spec.serve_line) }
     ensures local { IfOk result (λ c. (out-Command c).has_globals ≡ false) }
 {
-    Command::new(alloc, "serve")
-        .arg(positional(alloc, PORT))?
-        .arg(positional(alloc, COUNT))?
-        .arg(needed(alloc, DIR))
+    command(
+        alloc,
+        "serve",
+        6,
+        "site serve",
+        "Serves catalogs over HTTP on loopback, and writes the site's journal",
+    )?
+    .arg(positional(alloc, PORT, PORT_HELP))?
+    .arg(positional(alloc, COUNT, COUNT_HELP))?
+    .arg(needed(alloc, DIR, DIR_HELP))
 }
 
 fn audit_line<'a>(alloc: Global) -> Result<Command<'a>, AllocError>
     ensures line { IfOk result (λ c. app_of c ≡ spec.audit_line) }
     ensures local { IfOk result (λ c. (out-Command c).has_globals ≡ false) }
 {
-    Ok(Command::new(alloc, "audit"))
+    command(
+        alloc,
+        "audit",
+        7,
+        "site audit",
+        "Tells whether a journal's history is legal",
+    )
 }
 
 fn migrate_line<'a>(alloc: Global) -> Result<Command<'a>, AllocError>
     ensures line { IfOk result (λ c. app_of c ≡ spec.migrate_line) }
     ensures local { IfOk result (λ c. (out-Command c).has_globals ≡ false) }
 {
-    Ok(Command::new(alloc, "migrate"))
+    command(
+        alloc,
+        "migrate",
+        12,
+        "site migrate",
+        "Writes a journal anew, in the version that is written today",
+    )
 }
 
 fn resume_line<'a>(alloc: Global) -> Result<Command<'a>, AllocError>
     ensures line { IfOk result (λ c. app_of c ≡ spec.resume_line) }
     ensures local { IfOk result (λ c. (out-Command c).has_globals ≡ false) }
 {
-    Command::new(alloc, "resume").arg(optional(alloc, WORKERS))
+    command(
+        alloc,
+        "resume",
+        8,
+        "site resume",
+        "Goes on from a journal with the requests behind it",
+    )?
+    .arg(optional(alloc, WORKERS, WORKERS_HELP))
 }
 
 fn settle_line<'a>(alloc: Global) -> Result<Command<'a>, AllocError>
     ensures line { IfOk result (λ c. app_of c ≡ spec.settle_line) }
     ensures local { IfOk result (λ c. (out-Command c).has_globals ≡ false) }
 {
-    Command::new(alloc, "settle")
-        .arg(positional(alloc, ROUNDS))?
-        .arg(optional(alloc, WORKERS))
+    command(
+        alloc,
+        "settle",
+        9,
+        "site settle",
+        "Compiles all nodes again and again, until what they export stays",
+    )?
+    .arg(positional(alloc, ROUNDS, ROUNDS_HELP))?
+    .arg(optional(alloc, WORKERS, WORKERS_HELP))
 }
 
-fn positional<'a>(alloc: Global, id: &'a str) -> Arg<'a>
+/// A command: its name, its place in the list of commands, how its usage line begins, and what it does.
+fn command<'a>(
+    alloc: Global,
+    name: &'a str,
+    place: usize,
+    usage: &str,
+    about: &'a str,
+) -> Result<Command<'a>, AllocError>
+    ensures line { IfOk result (λ c. app_of c ≡ new_app name.entry.now) }
+    ensures local { IfOk result (λ c. (out-Command c).has_globals ≡ false) }
+{
+    Command::new(alloc, name)
+        .about(about)
+        .display_order(place)
+        .bin_name(usage)
+}
+
+fn positional<'a>(alloc: Global, id: &'a str, help: &'a str) -> Arg<'a>
     ensures rule { rule_of result ≡ spec.positional id.entry.now }
     ensures local { result.global ≡ false }
 {
-    Arg::new(alloc, id).required(true).action(ArgAction::Set)
+    Arg::new(alloc, id)
+        .required(true)
+        .action(ArgAction::Set)
+        .help(help)
 }
 
-fn optional<'a>(alloc: Global, id: &'a str) -> Arg<'a>
+fn optional<'a>(alloc: Global, id: &'a str, help: &'a str) -> Arg<'a>
     ensures rule { rule_of result ≡ spec.optional id.entry.now }
     ensures local { result.global ≡ false }
 {
-    Arg::new(alloc, id).long(id).action(ArgAction::Set)
+    Arg::new(alloc, id)
+        .long(id)
+        .action(ArgAction::Set)
+        .help(help)
 }
 
-fn needed<'a>(alloc: Global, id: &'a str) -> Arg<'a>
+fn needed<'a>(alloc: Global, id: &'a str, help: &'a str) -> Arg<'a>
     ensures rule { rule_of result ≡ spec.needed id.entry.now }
     ensures local { result.global ≡ false }
 {
-    optional(alloc, id).required(true)
+    optional(alloc, id, help).required(true)
 }

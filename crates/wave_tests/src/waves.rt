@@ -12,25 +12,28 @@ use std::alloc::Global;
 use std::sync::Arc;
 use std::sync::atomic::{AtomicU64, Ordering};
 use std::test::Fail;
+use std::thread;
 use std::thread::Threads;
 use wide_apply::run_wide;
 
 /// How far the refreshes have come.
 #[derive(Drop)]
 struct Begun {
+    /// How often the first refresh looks.
+    looks: u32,
     /// How many have begun.
     count: AtomicU64,
     /// 1 if the first one saw the second one begin.
     met: AtomicU64,
 }
 
-/// How often the first refresh looks.
+/// How often the first refresh looks, where there are processors for two turns at once.
 const LOOKS: u32 = 1_000_000_000;
 
 impl Begun {
     /// Looks until a second refresh has begun.
     fn look(&self) {
-        for _look in 0..LOOKS {
+        for _look in 0..self.looks {
             if self.count.load(Ordering::SeqCst) >= 2 {
                 self.met.store(1, Ordering::SeqCst);
                 return;
@@ -91,10 +94,10 @@ impl WideMachine for Meeting {
     }
 }
 
-fn none_begun(alloc: Global) -> Result<Arc<Begun>, Memory> {
+fn none_begun(alloc: Global, looks: u32) -> Result<Arc<Begun>, Memory> {
     let count = AtomicU64::new(0);
     let met = AtomicU64::new(0);
-    Ok(Arc::new(alloc, Begun { count, met })?)
+    Ok(Arc::new(alloc, Begun { looks, count, met })?)
 }
 
 /// A `notify`, which nothing contains.
@@ -137,15 +140,25 @@ fn catalog(alloc: Global) -> Result<Catalog, Memory> {
     Ok(Catalog::new(node, resources, edges, log))
 }
 
-/// Whether the refresh of one of two resources, whose turns two workers take, saw that of the other begin.
+/// There is one processor, so no thread is started for a wave, and its turns are taken one after another.
+fn has_one_processor<R: Threads>(rt: &R) -> bool {
+    match thread::available_parallelism(rt) {
+        Ok(count) => count.get() == 1,
+        Err(_) => false,
+    }
+}
+
+/// Whether the refresh of one of two resources, whose turns two workers take, saw that of the other begin, if there are
+/// processors for two.
 fn meet<R: Threads>(rt: &R, alloc: Global) -> Result<bool, Memory> {
-    let begun = none_begun(alloc)?;
+    let is_alone = has_one_processor(rt);
+    let begun = none_begun(alloc, if is_alone { 1 } else { LOOKS })?;
     let catalog = catalog(alloc)?;
     let mut machine = Meeting {
         begun: begun.clone()?,
     };
     match run_wide(rt, alloc, &catalog, &mut machine, 2) {
-        Ok(report) => Ok(report.lines.len() == 2 && begun.have_met()),
+        Ok(report) => Ok(report.lines.len() == 2 && (is_alone || begun.have_met())),
         Err(RunStop::Cycle(_cycle)) => Ok(false),
         Err(RunStop::Memory) => Err(Memory),
     }

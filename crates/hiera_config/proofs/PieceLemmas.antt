@@ -74,6 +74,9 @@ module _ (form : List ℕ → Form) where
       same_opened (pieces_from form n) (pieces_from form m) t (cut_at (codes "%{") t) refl
       (λ r s. same_turns n m r (omega arith) (omega arith))
 
+  pub turns_suffice : (n : ℕ) (t : List ℕ) → length t < n → pieces_from form n t ≡ pieces_by form t
+  turns_suffice n t h = same_turns n (suc (length t)) t h (omega arith)
+
   -- ---- a text without `%{`, and one with it
 
   pub pieces_whole : (t : List ℕ) → None ≡ cut_at (codes "%{") t → pieces_by form t ≡ piece.Letters t ∷ []

@@ -1,7 +1,7 @@
 -- What the clauses of `site_main` rest on, and a reader has to believe: Meant, Cuts, Pieces, Config, Variables,
 -- Documents, Sources
 -- What functions promise one another, what types keep, and what proofs read: FormView, Written, Seen, SoundData,
--- Keeping, Found, Flags, Planning, Sound, Literals, OptionTables
+-- Keeping, Found, Flags, Planning, Sound, Literals, OptionTables, Laws
 pub mod Meant
 pub mod Cuts
 pub mod Pieces
@@ -20,3 +20,4 @@ pub mod Planning
 pub mod Sound
 pub mod Literals
 pub mod OptionTables
+pub mod Laws

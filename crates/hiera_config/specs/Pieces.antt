@@ -81,7 +81,8 @@ abbrev pub opened_pieces : (List ℕ → Form) → (List ℕ → List Piece) →
 opened_pieces form go text None = piece.Letters text ∷ []
 opened_pieces form go text (Some c) = piece.Letters c.0 ∷ closed_pieces form go c.1 (cut_at (codes "}") c.1)
 
--- Each turn takes a `%{`, so as many turns as there are bytes are enough, and one to see the end.
+-- Each turn takes a `%{`, so as many turns as there are bytes are enough, and one to see the end
+-- (`turns_suffice` of src/laws.rt).
 unfoldable pub pieces_from : (List ℕ → Form) → ℕ → List ℕ → List Piece
 pieces_from form zero text = []
 pieces_from form (suc turns) text = opened_pieces form (pieces_from form turns) text (cut_at (codes "%{") text)

@@ -9,6 +9,7 @@ mod folders;
 mod forms;
 mod highest;
 pub mod interpolation;
+pub mod laws;
 mod level_reading;
 pub mod literals;
 mod mapping;

@@ -1,9 +1,9 @@
 -- Where a tag ends.
-use Rattle.std.proofs.Common.{◌≡◌, ◌⊎◌, ℕ, ◌+◌, suc, ◌==◌, Bool, true, false, ◌&&◌, if◌then◌else◌, List, [], ◌∷◌, ◌++◌}
-use Rattle.std.proofs.Common.{length, drop, append_assoc, Option, None, Some, inl, inr, refl, sym, ap, subst, ◌∙◌, arith}
+use Rattle.std.proofs.Common.{◌≡◌, ◌⊎◌, ℕ, ◌+◌, suc, ◌==◌, Bool, true, false, if◌then◌else◌, List, [], ◌∷◌, ◌++◌}
+use Rattle.std.proofs.Common.{length, drop, append_assoc, Option, None, Some, inl, inr, refl, sym, ap, ◌∙◌, arith}
 use Rattle.std.proofs.lemmas.Bool.{cases_Bool, eqb-true}
 use Rattle.epp_text.specs.Pieces.{closes, close_from}
-use Rattle.epp_grammar.specs.Texts.{EndsWith, HoldsCloser}
+use Rattle.epp_grammar.specs.Texts.{HoldsCloser}
 use Rattle.epp_grammar.proofs.Bytes.{both, clash, closes_shape, if_false, if_true, not_nothing, not_true}
 
 pub none_in_nothing : HoldsCloser [] → ⊥

@@ -1,21 +1,21 @@
 -- What stands at a place: what `front_at` tells of it, and that something does.
-use Rattle.std.proofs.Common.{◌≡◌, ◌⊎◌, ℕ, ◌+◌, ◌-◌, ◌<◌, suc, ◌==◌, Bool, true, false, ◌&&◌, ◌||◌, if◌then◌else◌, List, []}
+use Rattle.std.proofs.Common.{◌≡◌, ◌⊎◌, ℕ, ◌-◌, ◌<◌, ◌==◌, Bool, true, false, ◌&&◌, if◌then◌else◌, List, []}
 use Rattle.std.proofs.Common.{◌∷◌, ◌++◌, append_assoc, length, take, drop, Option, None, Some, inl, inr, refl, sym, ap}
 use Rattle.std.proofs.Common.{subst, ◌∙◌, arith}
 use Rattle.std.proofs.lemmas.Bool.{cases_Bool, eqb-true}
-use Rattle.std.proofs.lemmas.List.{append-nil, length-append}
+use Rattle.std.proofs.lemmas.List.{append-nil}
 use Rattle.std.proofs.Math.Seq.{drop-append_seam, take-append_seam}
-use Rattle.std.specs.Prelude.{slice_index, slice_range, codes}
+use Rattle.std.specs.Prelude.{slice_index, codes}
 use Rattle.epp_text.specs.Pieces.{front, front_at, run, run_len, run_to, opens, writes_opener, writes_closer}
-use Rattle.epp_text.specs.Pieces.{drops_indent, indent_from, close_from, tag}
+use Rattle.epp_text.specs.Pieces.{drops_indent, indent_from, close_from}
 use Rattle.epp_text.specs.declared.piece.PieceKind.{PieceKind}
 use Rattle.epp_text.specs.declared.piece.PieceKind.TheVariants as kinds
-use Rattle.epp_grammar.specs.Texts.{Begins, BeginsMark, Closes, EndsWith, HoldsCloser, IsIndented, IsKept}
+use Rattle.epp_grammar.specs.Texts.{Begins, BeginsMark, Closes, HoldsCloser, IsKept}
 use Rattle.epp_grammar.specs.Texts.{IsPart, IsRun, Opens}
-use Rattle.epp_grammar.proofs.Bytes.{both, both_true, clash, if_false, if_true, is_mark, last_of, last_same, mark_tells}
-use Rattle.epp_grammar.proofs.Bytes.{mark_told, no_mark_told, not_nothing, not_true, opens_shape, other_byte, same_byte}
+use Rattle.epp_grammar.proofs.Bytes.{both, clash, if_false, if_true, last_of, last_same}
+use Rattle.epp_grammar.proofs.Bytes.{not_nothing, not_true, opens_shape, same_byte}
 use Rattle.epp_grammar.proofs.Bytes.{writes_closer_shape, writes_opener_shape}
-use Rattle.epp_grammar.proofs.Closers.{IsClosed, close_some, holds-append, holds_none}
+use Rattle.epp_grammar.proofs.Closers.{close_some, holds-append, holds_none}
 use Rattle.epp_grammar.proofs.Drops.{drops_of}
 use Rattle.epp_grammar.proofs.Runs.{Run, indent_cases, indent_dropped_at, indent_stays, run_is, run_of}
 use Rattle.epp_grammar.proofs.Tags.{IsAt, tag_at, unclosed_at}

@@ -1,15 +1,14 @@
 -- A run of text: how far it goes, and what is kept of it.
-use Rattle.std.proofs.Common.{◌≡◌, ◌≢◌, ◌⊎◌, ℕ, ◌+◌, ◌-◌, suc, ◌==◌, Bool, true, false, ◌||◌, if◌then◌else◌, List, [], ◌∷◌}
-use Rattle.std.proofs.Common.{◌++◌, append_assoc, length, take, drop, get_or, inl, inr, refl, sym, ap, subst, ◌∙◌, arith}
+use Rattle.std.proofs.Common.{◌≡◌, ◌⊎◌, ℕ, ◌+◌, ◌-◌, suc, ◌==◌, Bool, true, false, ◌||◌, if◌then◌else◌, List, [], ◌∷◌}
+use Rattle.std.proofs.Common.{◌++◌, append_assoc, length, get_or, inl, inr, refl, sym, ap, subst, ◌∙◌, arith}
 use Rattle.std.proofs.lemmas.Bool.{cases_Bool, eqb-true}
 use Rattle.std.proofs.lemmas.List.{length-append}
 use Rattle.std.proofs.Math.Seq.{get_or-append_seam}
-use Rattle.std.specs.Prelude.{slice_index, codes}
+use Rattle.std.specs.Prelude.{slice_index}
 use Rattle.epp_text.specs.Pieces.{opens, writes_closer, is_blank, run_end, kept_from, indent_from}
-use Rattle.epp_grammar.specs.Texts.{AreBlank, Begins, BeginsLine, BeginsMark, EndsWith, IsBlank, IsIndented, IsRun}
+use Rattle.epp_grammar.specs.Texts.{AreBlank, BeginsLine, BeginsMark, IsIndented, IsRun}
 use Rattle.epp_grammar.proofs.Bytes.{are_blank-append, blank_tells, blank_told, clash, if_false, if_true, is_mark}
 use Rattle.epp_grammar.proofs.Bytes.{mark_tells, mark_told, no_mark_told, not_nothing, not_true, other_byte, same_byte}
-use Rattle.epp_grammar.proofs.Bytes.{last_same}
 
 -- ---- how far it goes
 

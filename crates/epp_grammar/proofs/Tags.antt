@@ -1,20 +1,19 @@
 -- How a tag begins and ends, as `front_at` tells it.
-use Rattle.std.proofs.Common.{◌≡◌, ◌⊎◌, ℕ, ◌+◌, ◌-◌, ◌<◌, suc, ◌==◌, Bool, true, false, ◌&&◌, if◌then◌else◌, List, [], ◌∷◌}
+use Rattle.std.proofs.Common.{◌≡◌, ◌⊎◌, ℕ, ◌+◌, ◌-◌, ◌<◌, ◌==◌, Bool, true, false, ◌&&◌, List, [], ◌∷◌}
 use Rattle.std.proofs.Common.{◌++◌, append_assoc, length, take, drop, get_or, Option, None, Some, inl, inr, refl, sym, ap}
 use Rattle.std.proofs.Common.{subst, ◌∙◌, arith}
-use Rattle.std.proofs.lemmas.Bool.{cases_Bool, eqb-true, ltb-true, lt-ltb}
+use Rattle.std.proofs.lemmas.Bool.{eqb-true, ltb-true, lt-ltb}
 use Rattle.std.proofs.lemmas.List.{append-nil, length-append}
 use Rattle.std.proofs.Math.Nat.{add-sub_cancel_left}
 use Rattle.std.proofs.Math.Seq.{drop-append_seam, get_or-append_seam, take-append_seam}
 use Rattle.std.specs.Prelude.{slice_index, slice_range, nat_lt, codes}
 use Rattle.epp_text.specs.Pieces.{front, front_at, tag, tag_by, ended, close_from, dropped_len, drops_break, opener_len}
 use Rattle.epp_text.specs.Pieces.{tag_kind}
-use Rattle.epp_text.specs.declared.front.Front.{Front}
 use Rattle.epp_text.specs.declared.piece.PieceKind.{PieceKind}
 use Rattle.epp_text.specs.declared.piece.PieceKind.TheVariants as kinds
-use Rattle.epp_grammar.specs.Texts.{AreDropped, Begins, Closes, EndsWith, HoldsCloser, Opens}
-use Rattle.epp_grammar.proofs.Bytes.{both, both_true, clash, if_false, last_of, last_same, not_true, other_byte, same_byte, same_front}
-use Rattle.epp_grammar.proofs.Closers.{IsClosed, before_dash, close_at, close_none}
+use Rattle.epp_grammar.specs.Texts.{Begins, Closes, EndsWith, HoldsCloser, Opens}
+use Rattle.epp_grammar.proofs.Bytes.{both, both_true, if_false, last_of, not_true, other_byte, same_byte}
+use Rattle.epp_grammar.proofs.Closers.{before_dash, close_at, close_none}
 use Rattle.epp_grammar.proofs.Drops.{IsDropped, dropped}
 
 -- ---- how it begins

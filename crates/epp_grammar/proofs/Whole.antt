@@ -1,5 +1,5 @@
 -- The pieces of a text are those of the relation.
-use Rattle.std.proofs.Common.{◌≡◌, ◌↔◌, ℕ, zero, suc, ◌+◌, ◌-◌, ◌<◌, Bool, true, List, [], ◌∷◌, ◌++◌, length, take, drop}
+use Rattle.std.proofs.Common.{◌≡◌, ℕ, zero, suc, ◌+◌, ◌-◌, ◌<◌, Bool, true, List, [], ◌∷◌, ◌++◌, length, take, drop}
 use Rattle.std.proofs.Common.{Option, refl, sym, ap, subst, ◌∙◌, arith}
 use Rattle.std.proofs.lemmas.List.{length-append}
 use Rattle.std.proofs.Math.Seq.{drop-append_seam, take-append_seam}
@@ -8,7 +8,7 @@ use Rattle.epp_text.specs.Seen.{Piece}
 use Rattle.epp_text.specs.declared.front.Front.{Front}
 use Rattle.epp_text.specs.declared.piece.PieceKind.{PieceKind}
 use Rattle.epp_grammar.specs.Laws.{PiecesAreRead}
-use Rattle.epp_grammar.specs.Texts.{ArePieces, AreFrom, IsPart}
+use Rattle.epp_grammar.specs.Texts.{ArePieces, AreFrom}
 use Rattle.epp_grammar.proofs.Bytes.{same_front}
 use Rattle.epp_grammar.proofs.Parts.{part_at, part_of}
 use Rattle.epp_grammar.proofs.Tags.{IsAt}

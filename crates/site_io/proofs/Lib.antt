@@ -1,4 +1,3 @@
-pub mod Events
 pub mod Streams
 mod Sources
 mod Nets
@@ -6,6 +5,5 @@ mod Fronts
 pub mod Trees
 mod Retries
 mod Examples
-mod EventExamples
 mod NetExamples
 mod TreeExamples

@@ -3,7 +3,6 @@ pub mod Links
 pub mod Places
 pub mod PlainNames
 pub mod Rising
-pub mod Scopes
 pub mod Segments
 pub mod Stacks
 pub mod Upward

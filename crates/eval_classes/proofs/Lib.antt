@@ -11,5 +11,6 @@ mod AboveExamples
 mod DataExamples
 mod Examples
 mod FunctionExamples
+mod ParentExamples
 mod Samples
 mod TypeExamples

@@ -155,17 +155,7 @@ fn called<F: Fn(&mut World<'_>, Goal<'_>, Here, u32) -> Result<Evaluated, Stop>,
 {
     match &call.lambda {
         None => call_plain(forms, world, function, arguments, line, here),
-        Some(lambda) => {
-            with_lambda(
-                forms,
-                world,
-                function,
-                lambda.get(),
-                arguments,
-                line,
-                here,
-            )
-        }
+        Some(lambda) => { with_lambda(forms, world, function, lambda.get(), arguments, line, here) }
     }
 }
 

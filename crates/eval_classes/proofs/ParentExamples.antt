@@ -57,7 +57,7 @@ by_itself = refl
 by_a_chain : seen (declared (a ∷ c ∷ []) behind_files)
     ≡ Ok (
       (a, a ∷ codes "class" ∷ codes "main" ∷ []) ∷ (c, c ∷ codes "class" ∷ codes "main" ∷ [])
-      ∷ (b, b ∷ c ∷ codes "class" ∷ codes "main" ∷ []) ∷ [],
+          ∷ (b, b ∷ c ∷ codes "class" ∷ codes "main" ∷ []) ∷ [],
       a ∷ a ∷ a ∷ [],
     )
 unfolding include_from include_rule declared_once class_declared chain_declared chain_from enter_chain enter_all

@@ -14,11 +14,12 @@ use Rattle.pp_lexer.specs.Words.{name_kind, name, type_name, variable}
 use Rattle.pp_lexer.specs.declared.kind.Kind.{Kind}
 use Rattle.pp_lexer.specs.declared.kind.Kind.TheVariants as k
 use Rattle.epp_text.specs.Pieces.{front_at, pieces_of, run, tag}
-use Rattle.epp_text.specs.TemplateTokens.{joined, params_marked, piece_tokens, template_tokens, tokens_behind}
+use Rattle.epp_text.specs.TemplateTokens.{joined, open_behind, params_marked, piece_tokens, template_tokens}
+use Rattle.epp_text.specs.TemplateTokens.{tokens_behind, tokens_within}
 
 -- the tokens of a template
 unfoldable told : List ℕ → List Token
-unfolding tokens_at blank_len name_kind name type_name variable number_value number punctuation quoted in_text token_front in_code braced four_digits double said encode_utf8 run tag front_at pieces_of joined params_marked piece_tokens tokens_behind
+unfolding tokens_at blank_len name_kind name type_name variable number_value number punctuation quoted in_text token_front in_code braced four_digits double said encode_utf8 run tag front_at pieces_of joined params_marked piece_tokens tokens_behind tokens_within open_behind
 told text = template_tokens (pieces_of text)
 
 -- a token that says nothing
@@ -75,3 +76,20 @@ cut_off : (told (codes "<% 'a %>b") ≡ mark k.TextBegin 1 ∷ mark k.Unclosed 1
     × (told (codes "a" ++ 10 ∷ codes "<% b") ≡ emitted (codes "a" ++ 10 ∷ []) 1 ∷ mark k.Bad 2 ∷ [])
 unfolding told
 cut_off = (refl, refl, refl, refl)
+
+-- an interpolation too, each on the line of its end, also within another one and in the parameters; one that is closed
+-- leaves nothing open
+open_interpolations : (told (codes "<% " ++ 34 ∷ codes "a${ $x -%>" ++ 10 ∷ codes "b")
+    ≡ mark k.TextBegin 1 ∷ token k.Piece (codes "a") 1 ∷ mark k.InterpolationBegin 1 ∷ x 1 ∷ mark k.Unclosed 1
+    ∷ emitted (codes "b") 2 ∷ [])
+    × (told (codes "<% " ++ 34 ∷ codes "${ $x" ++ 10 ∷ 34 ∷ codes "${ %>b")
+    ≡ mark k.TextBegin 1 ∷ mark k.InterpolationBegin 1 ∷ x 1 ∷ mark k.TextBegin 2 ∷ mark k.InterpolationBegin 2
+    ∷ mark k.Unclosed 2 ∷ emitted (codes "b") 2 ∷ [])
+    × (told (codes "<%= " ++ 34 ∷ codes "${ $x" ++ 10 ∷ codes "%>b")
+    ≡ mark k.RenderExpr 1 ∷ mark k.TextBegin 1 ∷ mark k.InterpolationBegin 1 ∷ x 1 ∷ mark k.Unclosed 2
+    ∷ mark k.TagEnd 2 ∷ emitted (codes "b") 2 ∷ [])
+    × (told (codes "<% " ++ 34 ∷ codes "${ $x }" ++ 34 ∷ codes " -%>b")
+    ≡ mark k.TextBegin 1 ∷ mark k.InterpolationBegin 1 ∷ x 1 ∷ mark k.InterpolationEnd 1 ∷ mark k.TextEnd 1
+    ∷ emitted (codes "b") 1 ∷ [])
+unfolding told
+open_interpolations = (refl, refl, refl, refl)

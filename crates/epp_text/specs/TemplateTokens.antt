@@ -1,5 +1,5 @@
 -- The tokens of a template, from its pieces.
-use Rattle.std.specs.Prelude.{ℕ, Bool, true, false, ◌&&◌, ◌-◌, List, [], ◌∷◌, ◌++◌, length, slice_get}
+use Rattle.std.specs.Prelude.{ℕ, nat_lt, Bool, true, false, ◌&&◌, ◌+◌, ◌-◌, List, [], ◌∷◌, ◌++◌, length, slice_get}
 use Rattle.std.specs.Prelude.{Option, Some}
 use Rattle.pp_lexer.specs.Marked.{kind_of, marked}
 use Rattle.pp_lexer.specs.Seen.{Token}
@@ -44,6 +44,28 @@ params_marked ts =
     let begun = params_begun ts in
     with_bar (is_bar (kind_at begun (last_place begun))) begun (last_place begun) k.ParamsEnd
 
+-- ---- what a code leaves open
+
+abbrev pub open_by : Kind → ℕ → ℕ
+open_by k.InterpolationBegin count = count + 1
+open_by k.InterpolationEnd count = count - 1
+open_by _ count = count
+
+-- how many interpolations are open behind these tokens, where so many were open before
+unfoldable pub open_behind : ℕ → List Token → ℕ
+open_behind count [] = count
+open_behind count (t ∷ ts) = open_behind (open_by t.kind count) ts
+
+abbrev pub cut_off : Bool → List ℕ → ℕ → List Token
+cut_off false text line = []
+cut_off true text line = token k.Unclosed [] (line_behind line text) ∷ []
+
+-- The tokens of a text by itself. Its end cuts an interpolation off, as it cuts off a text or a comment.
+unfoldable pub tokens_within : List ℕ → ℕ → List Token
+tokens_within text line =
+    let ts = tokens_at line text in
+    ts ++ cut_off (nat_lt 0 (open_behind 0 ts)) text line
+
 -- ---- pieces
 
 -- the end of a tag, on the line of its `%>`
@@ -58,11 +80,11 @@ first_code true ts text line = params_marked ts ++ tag_end text line ∷ []
 -- the tokens of a code by themselves; the first tag may declare parameters, where a bar begins it
 abbrev pub code_tokens : Bool → List ℕ → ℕ → List Token
 code_tokens first text line =
-    let ts = tokens_at line text in
+    let ts = tokens_within text line in
     first_code (first && is_bar (kind_at ts 0)) ts text line
 
 abbrev pub value_tokens : List ℕ → ℕ → List Token
-value_tokens text line = token k.RenderExpr [] line ∷ (tokens_at line text ++ tag_end text line ∷ [])
+value_tokens text line = token k.RenderExpr [] line ∷ (tokens_within text line ++ tag_end text line ∷ [])
 
 -- a text is one token, and a tag that nothing ends is one that stands nowhere
 abbrev pub tokens_by : PieceKind → Bool → List ℕ → ℕ → List Token

@@ -95,7 +95,7 @@ fn code_tokens<'a>(
 ) -> Result<Tokens<'a>, Memory>
     ensures { IfOk result (λ ts. ts ≡ spec.code_tokens first text.now line) }
 {
-    let tokens = scanned(alloc, text, line)?;
+    let tokens = tokens_within(alloc, text, line)?;
     if first && is_bar(tokens.kind_at(0)) {
         return params_tokens(tokens, text, line);
     }
@@ -138,9 +138,48 @@ fn value_tokens<'a>(alloc: Global, text: &'a str, line: u32) -> Result<Tokens<'a
     ensures { IfOk result (λ ts. ts ≡ spec.value_tokens text.now line) }
 {
     let mut tokens = one(alloc, Token::mark(Kind::RenderExpr, line))?;
-    tokens.append(scanned(alloc, text, line)?)?;
+    tokens.append(tokens_within(alloc, text, line)?)?;
     tokens.push(Token::mark(Kind::TagEnd, end_of(text, line)?))?;
     Ok(tokens)
+}
+
+/// The tokens of a text by itself. Its end cuts an interpolation off, as it cuts off a text or a comment.
+#[tactic(auto, unfolding(crate::specs::TemplateTokens::tokens_within))]
+fn tokens_within<'a>(alloc: Global, text: &'a str, line: u32) -> Result<Tokens<'a>, Memory>
+    ensures { IfOk result (λ ts. ts ≡ spec.tokens_within text.now line) }
+{
+    let mut tokens = scanned(alloc, text, line)?;
+    if open_behind(tokens.as_slice())? > 0 {
+        tokens.push(Token::mark(Kind::Unclosed, end_of(text, line)?))?;
+    }
+    Ok(tokens)
+}
+
+/// How many interpolations these tokens leave open.
+#[tactic(auto, unfolding(crate::specs::TemplateTokens::open_behind))]
+fn open_behind(tokens: &[Token<'_>]) -> Result<usize, Memory>
+    ensures { IfOk result (λ n. n ≡ spec.open_behind 0 tokens.now) }
+{
+    let mut count = 0;
+    let mut rest = tokens;
+    while let [token, more @ ..] = rest {
+        count = open_by(token.kind(), count)?;
+        rest = more;
+    }
+    Ok(count)
+}
+
+fn open_by(kind: Kind, count: usize) -> Result<usize, Memory>
+    ensures { IfOk result (λ n. n ≡ spec.open_by kind count) }
+{
+    match kind {
+        Kind::InterpolationBegin => match count.checked_add(1) {
+            Some(more) => Ok(more),
+            None => Err(Memory),
+        },
+        Kind::InterpolationEnd => Ok(count.saturating_sub(1)),
+        _ => Ok(count),
+    }
 }
 
 /// The tokens of a text that begins on this line.

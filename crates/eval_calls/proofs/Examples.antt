@@ -4,7 +4,6 @@ use Rattle.std.proofs.Common.{Result, Ok, Err, refl, codes}
 use Rattle.std.specs.Fmt.{digits}
 use Rattle.pp_funcs.specs.Names.{function_of, needs_evaluator}
 use Rattle.pp_tree.specs.Building as tree
-use Rattle.pp_tree.specs.Names.{without_front_colons}
 use Rattle.pp_tree.specs.declared.expr.Form.{out-Form}
 use Rattle.pp_values.specs.Datum as d
 use Rattle.pp_values.specs.Datum.{Datum}
@@ -22,7 +21,7 @@ use Rattle.eval_world.specs.Environment.{Environment}
 use Rattle.eval_calls.specs.Calls.{invoked, invoked_on, words_rule}
 use Rattle.eval_calls.specs.Calls.{plain_rule, other_rule, evaluated_rule, site_rule, log_rule, with_lambda_rule}
 use Rattle.eval_calls.specs.Calls.{data_rule, stray_lambda_rule, template_or_data}
-use Rattle.eval_classes.specs.Functions.{function_named}
+use Rattle.eval_classes.specs.Functions.{function_found}
 use Rattle.eval_classes.specs.Included.{included, names_from}
 use Rattle.eval_calls.specs.Functions.{defined_rule, lambda_refused}
 use Rattle.eval_calls.specs.Iterating.{turns_from, over_rule, iterate_rule}
@@ -51,7 +50,7 @@ spliced_arguments m = refl
 
 unknown : run (calls d.undef fails (codes "nope") (given ∷ []) None) nothing_defined
     ≡ refuses 3 (what.UnknownFunction (codes "nope"))
-unfolding invoked values_from argument_rule plain_rule other_rule defined_rule function_named without_front_colons
+unfolding invoked values_from argument_rule plain_rule other_rule defined_rule function_found
     segments needs_evaluator function_of out-Form denote.Hole.Carrier.out owner_at
 unknown = refl
 
@@ -61,9 +60,9 @@ arguments_before_unknown : (m : Environment)
 unfolding invoked values_from argument_rule out-Form denote.Hole.Carrier.out owner_at
 arguments_before_unknown m = refl
 
-unknown_as_written : run (calls d.undef fails (codes "::Notice") [] None) nothing_defined
-    ≡ refuses 3 (what.UnknownFunction (codes "::Notice"))
-unfolding invoked values_from plain_rule other_rule defined_rule function_named without_front_colons segments
+unknown_as_written : run (calls d.undef fails (codes "Notice") [] None) nothing_defined
+    ≡ refuses 3 (what.UnknownFunction (codes "Notice"))
+unfolding invoked values_from plain_rule other_rule defined_rule function_found segments
     needs_evaluator function_of owner_at
 unknown_as_written = refl
 
@@ -230,7 +229,7 @@ lookup_takes_none m = refl
 unknown_with_lambda : run (calls d.undef fails (codes "nope") (given ∷ []) (Some takes_x)) nothing_defined
     ≡ refuses 3 (what.UnknownFunction (codes "nope"))
 unfolding invoked values_from argument_rule with_lambda_rule lambda_function stray_lambda_rule lambda_refused
-    function_named without_front_colons segments needs_evaluator function_of out-Form denote.Hole.Carrier.out owner_at
+    function_found segments needs_evaluator function_of out-Form denote.Hole.Carrier.out owner_at
 unknown_with_lambda = refl
 
 arguments_before_lambda : (m : Environment)

@@ -19,6 +19,7 @@ use Rattle.pp_values.specs.Sort.{of, none}
 use Rattle.pp_values.specs.declared.fault.Fault.{Fault}
 use Rattle.pp_values.specs.declared.fault.What.{What}
 use Rattle.pp_values.specs.declared.fault.What.TheVariants as what
+use Rattle.res_core.specs.TagNames.{segments}
 use Rattle.scope_core.specs.Names.{last_cut}
 use Rattle.scope_core.specs.Scopes as scopes
 use Rattle.expr_eval.specs.Names.{lambda_function}
@@ -28,7 +29,7 @@ use Rattle.eval_world.specs.Outcomes.{Step, ◌>>=◌, ◌>>◌}
 use Rattle.eval_world.specs.Owners.{owner_at, owner_in}
 use Rattle.eval_world.specs.Worlds.{read, assign, enter_function, enter_lambda, write_log}
 use Rattle.eval_world.specs.declared.here.Here.{Here}
-use Rattle.eval_classes.specs.Functions.{FunctionIn, function_named}
+use Rattle.eval_classes.specs.Functions.{FunctionIn, function_found}
 use Rattle.eval_classes.specs.ParameterTypes.{has_type}
 use Rattle.eval_calls.specs.Calls.{invoked, other_rule, plain_rule, stray_lambda_rule, with_lambda_rule}
 use Rattle.eval_calls.specs.Functions.{bind_from, bind_rule, default_rule, defaults_from, defined_rule, function_rule}
@@ -168,18 +169,26 @@ site = record {
   site_data = [];
 }
 
--- also with a leading `::`; a listed function stays what it is
-by_name : (run (calls one notice_x (codes "::f") (given ∷ []) None) site ≡ Ok (one, codes "1" ∷ []))
-    × (run (calls one notice_x (codes "size") (given ∷ []) None) site ≡ refuses 3 (what.WrongArguments (codes "size")))
-unfolding invoked values_from argument_rule plain_rule other_rule defined_rule function_named without_front_colons
+-- a call of the function of this name, as it is written
+abbrev written : List ℕ → Result (Datum × List (List ℕ)) Fault
+written f = run (calls one notice_x (without_front_colons f) (given ∷ []) None) site
+
+-- A leading `::` is dropped, and a listed function stays what it is. Faults name the function without it, also one that
+-- is listed nowhere.
+by_name : (written (codes "f") ≡ Ok (one, codes "1" ∷ []))
+    × (written (codes "::f") ≡ Ok (one, codes "1" ∷ []))
+    × (written (codes "size") ≡ refuses 3 (what.WrongArguments (codes "size")))
+    × (written (codes "::size") ≡ refuses 3 (what.WrongArguments (codes "size")))
+    × (written (codes "::g") ≡ refuses 3 (what.UnknownFunction (codes "g")))
+unfolding invoked values_from argument_rule plain_rule other_rule defined_rule function_found without_front_colons
     needs_evaluator function_of function_rule taken_by have_defaults run_function enter_function owner_in owner_at
     bind_from bind_rule assign read write_log scopes.assign scopes.read scopes.found last_cut scopes.seen_from digits
-    out-Form denote.Hole.Carrier.out
-by_name = (refl, refl)
+    segments out-Form denote.Hole.Carrier.out
+by_name = (refl, refl, refl, refl, refl)
 
 -- it takes no lambda
 no_lambda : run (calls one notice_x (codes "f") (given ∷ []) (Some takes_x)) site
     ≡ refuses 3 (what.WrongArguments (codes "f"))
 unfolding invoked values_from argument_rule with_lambda_rule lambda_function stray_lambda_rule lambda_refused
-    function_named without_front_colons needs_evaluator function_of owner_at out-Form denote.Hole.Carrier.out
+    function_found needs_evaluator function_of owner_at out-Form denote.Hole.Carrier.out
 no_lambda = refl

@@ -3,6 +3,7 @@ use Rattle.std.specs.Prelude.{ℕ, if◌then◌else◌, List, [], ◌∷◌, Opt
 use Rattle.std.specs.Str.{bytes_eq}
 use Rattle.pp_funcs.specs.Functions.{applied}
 use Rattle.pp_funcs.specs.Names.{needs_evaluator}
+use Rattle.pp_tree.specs.Names.{without_front_colons}
 use Rattle.pp_tree.specs.declared.expr.Call.{Call, out-Call}
 use Rattle.pp_tree.specs.declared.expr.Expr.{Expr}
 use Rattle.pp_tree.specs.declared.statement.Words.{Words}
@@ -97,10 +98,10 @@ abbrev pub called : Inner → List ℕ → Option Opened → List Datum → ℕ 
 called inner f None arguments line here = plain_rule inner f arguments line here
 called inner f (Some l) arguments line here = with_lambda_rule inner f l arguments line here
 
--- the same of a call as it stands in the tree
-abbrev pub called_as : Inner → Call → List Datum → ℕ → Here → Step Datum
-called_as inner c arguments line here =
-    called inner (out-Call c).function (option_map opened (out-Call c).lambda) arguments line here
+-- the same with the lambda of a call as it stands in the tree
+abbrev pub called_as : Inner → List ℕ → Call → List Datum → ℕ → Here → Step Datum
+called_as inner f c arguments line here =
+    called inner f (option_map opened (out-Call c).lambda) arguments line here
 
 -- the arguments come first, from left to right; whether there is such a function is asked after that
 unfoldable pub invoked : Inner → List ℕ → List Expr → Option Opened → ℕ → Here → Step Datum
@@ -108,9 +109,14 @@ invoked inner f args l line here = do
   arguments ← values_from inner [] args here
   called inner f l arguments line here
 
+-- the same with the arguments and the lambda of a call as it stands in the tree
+abbrev pub invoked_as : Inner → List ℕ → Call → ℕ → Here → Step Datum
+invoked_as inner f c line here =
+    invoked inner f (out-Call c).args (option_map opened (out-Call c).lambda) line here
+
+-- a leading `::` of the function's name is dropped, also where a fault names the function
 unfoldable pub call_rule : Inner → Call → ℕ → Here → Step Datum
-call_rule inner c line here =
-    invoked inner (out-Call c).function (out-Call c).args (option_map opened (out-Call c).lambda) line here
+call_rule inner c line here = invoked_as inner (without_front_colons (out-Call c).function) c line here
 
 -- `x.f(y)` is `f(x, y)`: the value that is there already is the first argument
 unfoldable pub invoked_on : Inner → Datum → List ℕ → List Expr → Option Opened → ℕ → Here → Step Datum
@@ -118,9 +124,13 @@ invoked_on inner receiver f args l line here = do
   arguments ← values_from inner [] args here
   called inner f l (receiver ∷ arguments) line here
 
+abbrev pub invoked_on_as : Inner → Datum → List ℕ → Call → ℕ → Here → Step Datum
+invoked_on_as inner receiver f c line here =
+    invoked_on inner receiver f (out-Call c).args (option_map opened (out-Call c).lambda) line here
+
 unfoldable pub method_rule : Inner → Datum → Call → ℕ → Here → Step Datum
 method_rule inner receiver c line here =
-    invoked_on inner receiver (out-Call c).function (out-Call c).args (option_map opened (out-Call c).lambda) line here
+    invoked_on_as inner receiver (without_front_colons (out-Call c).function) c line here
 
 -- a call without parentheses, which has no lambda
 unfoldable pub words_rule : Inner → Words Expr → Here → Step Datum

@@ -71,37 +71,37 @@ is_result inner kind d own = do
   of_kind ← inner.value kind own
   (λ w. answered (is_of d of_kind (place_at w own (line_of kind))) w)
 
--- F8 at the call, with the function's name as it is written there
+-- F8 at the call, with the function's name
 abbrev pub result_typed : Inner → Option Expr → Datum → List ℕ → Place → Here → Step (Unit {0})
-result_typed inner None d written at own = pure tt
-result_typed inner (Some kind) d written at own = do
+result_typed inner None d name at own = pure tt
+result_typed inner (Some kind) d name at own = do
   fits ← is_result inner kind d own
-  answered (accepted fits written at)
+  answered (accepted fits name at)
 
 -- ---- the call
 
 -- The parameters are set in a scope of its own, which reads its own names and then top scope. The value is that of the
 -- body, one level deeper than the call; a body that is too deep is refused at the line of the definition.
 unfoldable pub run_function : Inner → FunctionIn → List ℕ → List Datum → Place → Step Datum
-run_function inner f written arguments at = do
+run_function inner f name arguments at = do
   own ← enter_function f.1
   bind_from inner f.0.params arguments at own
   d ← inner.block f.0.block f.0.at own
-  result_typed inner f.0.return_type d written at own
+  result_typed inner f.0.return_type d name at own
   leave own
   pure d
 
 -- F7 comes before anything is set
 abbrev pub taken_or_wrong : Bool → Inner → FunctionIn → List ℕ → List Datum → Place → Step Datum
-taken_or_wrong true inner f written arguments at = run_function inner f written arguments at
-taken_or_wrong false inner f written arguments at = λ w. Err (faults.fault at (what.WrongArguments written))
+taken_or_wrong true inner f name arguments at = run_function inner f name arguments at
+taken_or_wrong false inner f name arguments at = λ w. Err (faults.fault at (what.WrongArguments name))
 
 unfoldable pub function_rule : Inner → FunctionIn → List ℕ → List Datum → Place → Step Datum
-function_rule inner f written arguments at = taken_or_wrong (taken_by arguments f.0.params) inner f written arguments at
+function_rule inner f name arguments at = taken_or_wrong (taken_by arguments f.0.params) inner f name arguments at
 
 -- ---- by its name
 
--- F6 names the function as it is written
+-- F6 names the function
 abbrev pub defined_by : Inner → Option FunctionIn → List ℕ → List Datum → ℕ → Here → Step Datum
 defined_by inner None f arguments line here = fault here line (what.UnknownFunction f)
 defined_by inner (Some found) f arguments line here =

@@ -19,6 +19,5 @@ abbrev pub is_of_known : ℕ → List ℕ → List Expr → Here → Scopes → 
 is_of_known left f args here s = is_of_known_by left f (only args) here s
 
 -- the same of a call without a lambda
-abbrev pub is_known_call : ℕ → Call → Here → Scopes → Bool
-is_known_call left c here s =
-    is_none (out-Call c).lambda && is_of_known left (out-Call c).function (out-Call c).args here s
+abbrev pub is_known_call : ℕ → List ℕ → Call → Here → Scopes → Bool
+is_known_call left f c here s = is_none (out-Call c).lambda && is_of_known left f (out-Call c).args here s

@@ -25,21 +25,21 @@ pub fn call_defined<
 >(
     forms: &Forms<F, M>,
     world: &mut World<'_>,
-    written: &Text,
+    name: &Text,
     arguments: Values,
     line: u32,
     here: Here,
 ) -> Result<Evaluated, Stop>
     requires { Nests (M.within forms.now.left) forms.now.left (F.pre forms.now.inner) (F.post forms.now.inner) }
-    ensures { Gives same (spec.defined_rule (M.within forms.now.left) written.now arguments line here world.old) result
+    ensures { Gives same (spec.defined_rule (M.within forms.now.left) name.now arguments line here world.old) result
         world.new }
 {
-    match function_found(world.heap.alloc(), &world.environment, written)? {
+    match function_found(world.heap.alloc(), &world.environment, name)? {
         Some(found) => {
             let at = world.place(here, line)?;
-            call_function(forms, world, &found, written, arguments, &at)
+            call_function(forms, world, &found, name, arguments, &at)
         }
-        None => Err(Stop::Fault(unknown(world, written, line, here)?)),
+        None => Err(Stop::Fault(unknown(world, name, line, here)?)),
     }
 }
 
@@ -47,15 +47,15 @@ pub fn call_defined<
 #[tactic(auto, unfolding(crate::specs::Functions::lambda_refused))]
 pub fn refuse_defined(
     world: &World<'_>,
-    written: &Text,
+    name: &Text,
     line: u32,
     here: Here,
 ) -> Result<Evaluated, Stop>
-    ensures { Gives same (spec.lambda_refused written.now line here world.now) result world.now }
+    ensures { Gives same (spec.lambda_refused name.now line here world.now) result world.now }
 {
-    match function_found(world.heap.alloc(), &world.environment, written)? {
-        Some(_found) => Err(Stop::Fault(wrong(world, written, line, here)?)),
-        None => Err(Stop::Fault(unknown(world, written, line, here)?)),
+    match function_found(world.heap.alloc(), &world.environment, name)? {
+        Some(_found) => Err(Stop::Fault(wrong(world, name, line, here)?)),
+        None => Err(Stop::Fault(unknown(world, name, line, here)?)),
     }
 }
 
@@ -65,27 +65,27 @@ fn call_function<F: Fn(&mut World<'_>, Goal<'_>, Here, u32) -> Result<Evaluated,
     forms: &Forms<F, M>,
     world: &mut World<'_>,
     found: &SiteFunction<'_>,
-    written: &Text,
+    name: &Text,
     arguments: Values,
     at: &Place,
 ) -> Result<Evaluated, Stop>
     requires { Nests (M.within forms.now.left) forms.now.left (F.pre forms.now.inner) (F.post forms.now.inner) }
     ensures { Gives same (spec.function_rule (M.within forms.now.left) (found.now.function.now, found.now.file)
-        written.now arguments at.now world.old) result world.new }
+        name.now arguments at.now world.old) result world.new }
 {
     let params = found.function.params.as_slice();
     if taken_by(arguments.as_slice(), params) {
-        return run_function(forms, world, found, written, arguments, at);
+        return run_function(forms, world, found, name, arguments, at);
     }
-    Err(Stop::Fault(wrong_at(world.heap.alloc(), written, at)?))
+    Err(Stop::Fault(wrong_at(world.heap.alloc(), name, at)?))
 }
 
-fn wrong_at(alloc: Global, written: &Text, at: &Place) -> Result<Fault, Memory>
-    ensures { IfOk result (λ f. f ≡ fault at.now (what.WrongArguments written.now)) }
+fn wrong_at(alloc: Global, name: &Text, at: &Place) -> Result<Fault, Memory>
+    ensures { IfOk result (λ f. f ≡ fault at.now (what.WrongArguments name.now)) }
 {
     let at = at.copy(alloc)?;
-    let written = written.copy(alloc)?;
-    Fault::new(alloc, at, What::WrongArguments(written))
+    let name = name.copy(alloc)?;
+    Fault::new(alloc, at, What::WrongArguments(name))
 }
 
 /// Whether these values are not more than there are parameters, and each parameter that is left over has a default.
@@ -125,13 +125,13 @@ fn run_function<F: Fn(&mut World<'_>, Goal<'_>, Here, u32) -> Result<Evaluated, 
     forms: &Forms<F, M>,
     world: &mut World<'_>,
     found: &SiteFunction<'_>,
-    written: &Text,
+    name: &Text,
     arguments: Values,
     at: &Place,
 ) -> Result<Evaluated, Stop>
     requires { Nests (M.within forms.now.left) forms.now.left (F.pre forms.now.inner) (F.post forms.now.inner) }
     ensures { Gives same (spec.run_function (M.within forms.now.left) (found.now.function.now, found.now.file)
-        written.now arguments at.now world.old) result world.new }
+        name.now arguments at.now world.old) result world.new }
 {
     let function = found.function;
     let own = world.enter_function(&found.file)?;
@@ -142,7 +142,7 @@ fn run_function<F: Fn(&mut World<'_>, Goal<'_>, Here, u32) -> Result<Evaluated, 
         world,
         &function.return_type,
         value.as_value(),
-        written,
+        name,
         at,
         own,
     )?;
@@ -277,19 +277,19 @@ fn check_result<F: Fn(&mut World<'_>, Goal<'_>, Here, u32) -> Result<Evaluated, 
     world: &mut World<'_>,
     kind: &Option<Expr>,
     value: &Value,
-    written: &Text,
+    name: &Text,
     at: &Place,
     own: Here,
 ) -> Result<(), Stop>
     requires { Nests (M.within forms.now.left) forms.now.left (F.pre forms.now.inner) (F.post forms.now.inner) }
-    ensures { Gives nothing (spec.result_typed (M.within forms.now.left) kind.now (view value.now) written.now at.now own
+    ensures { Gives nothing (spec.result_typed (M.within forms.now.left) kind.now (view value.now) name.now at.now own
         world.old) result world.new }
 {
     match kind {
         None => Ok(()),
         Some(kind) => {
             let fits = is_result(forms, world, kind, value, own)?;
-            accepted(world.heap.alloc(), fits, written, at)
+            accepted(world.heap.alloc(), fits, name, at)
         }
     }
 }

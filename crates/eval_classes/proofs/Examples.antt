@@ -23,7 +23,7 @@ use Rattle.eval_classes.specs.Included.{declared_once, include_from, include_nam
 use Rattle.eval_classes.specs.Included.{relate_rule, names_from}
 use Rattle.eval_classes.specs.Listing.{chain_declared, chain_from, class_declared, class_reference, declare_rule}
 use Rattle.eval_classes.specs.Listing.{class_names, enter_all, enter_chain, enter_scope, list_all, list_rule, own_rule}
-use Rattle.eval_classes.specs.Listing.{run_all, scope_among}
+use Rattle.eval_classes.specs.Listing.{run_all}
 use Rattle.eval_classes.specs.OwnNames.{names_rule}
 use Rattle.eval_classes.specs.declared.including.Including.TheVariants as including
 use Rattle.eval_classes.proofs.Samples.{a, b, c, class, entry, define_entry, site_of, read_file, faulty_file}
@@ -119,7 +119,7 @@ child_and_parent : seen (include_rule sample including.Include b (place 7) top (
       (2 ∷ 2 ∷ 1 ∷ 2 ∷ []) ∷ (1 ∷ 3 ∷ 2 ∷ 1 ∷ []) ∷ [],
     )
 unfolding include_rule declared_once class_declared chain_declared chain_from enter_chain enter_all enter_scope list_all
-    list_rule declare_rule own_rule class_names names_rule assign scopes.assign run_all scope_among relate_rule class_found parent_of comes_to
+    list_rule declare_rule own_rule class_names names_rule assign scopes.assign run_all relate_rule class_found parent_of comes_to
     definition_of segments is_word_byte is_tag_byte normal without_front_colons write_log owner_at
 child_and_parent = refl
 
@@ -127,7 +127,7 @@ child_and_parent = refl
 once : seen (include_from sample including.Include (a ∷ a ∷ []) (place 7) top (world family))
     ≡ Ok ((a, a ∷ codes "class" ∷ codes "main" ∷ []) ∷ [], (1 ∷ 2 ∷ 1 ∷ 1 ∷ []) ∷ [])
 unfolding include_from include_rule declared_once class_declared chain_declared chain_from enter_chain enter_all enter_scope
-    list_all list_rule declare_rule own_rule class_names names_rule assign scopes.assign run_all scope_among relate_rule class_found parent_of comes_to
+    list_all list_rule declare_rule own_rule class_names names_rule assign scopes.assign run_all relate_rule class_found parent_of comes_to
     definition_of segments is_word_byte is_tag_byte normal without_front_colons write_log owner_at
 once = refl
 
@@ -138,7 +138,7 @@ parent_before : seen (include_from sample including.Include (a ∷ b ∷ []) (pl
       (1 ∷ 2 ∷ 1 ∷ 1 ∷ []) ∷ (2 ∷ 3 ∷ 2 ∷ 2 ∷ []) ∷ [],
     )
 unfolding include_from include_rule declared_once class_declared chain_declared chain_from enter_chain enter_all enter_scope
-    list_all list_rule declare_rule own_rule class_names names_rule assign scopes.assign run_all scope_among relate_rule class_found parent_of comes_to
+    list_all list_rule declare_rule own_rule class_names names_rule assign scopes.assign run_all relate_rule class_found parent_of comes_to
     definition_of segments is_word_byte is_tag_byte normal without_front_colons write_log owner_at
 parent_before = refl
 
@@ -157,7 +157,7 @@ names_first : seen (include_rule reading including.Include b (place 7) top
       b ∷ b ∷ a ∷ b ∷ b ∷ b ∷ [],
     )
 unfolding include_rule declared_once class_declared chain_declared chain_from enter_chain enter_all enter_scope list_all
-    list_rule declare_rule own_rule class_names names_rule assign scopes.assign run_all scope_among relate_rule class_found
+    list_rule declare_rule own_rule class_names names_rule assign scopes.assign run_all relate_rule class_found
     parent_of comes_to definition_of segments is_word_byte is_tag_byte normal without_front_colons write_log owner_at read
     scopes.read scopes.found last_cut scopes.seen_from
 names_first = refl
@@ -167,7 +167,7 @@ no_parent : seen (include_rule sample including.Include c (place 7) top
     (world (site_of (entry c (class c [] (Some m) 3) ∷ []) [])))
     ≡ refuses 7 (what.UnknownClass m)
 unfolding include_rule declared_once class_declared chain_declared chain_from enter_chain enter_all enter_scope list_all
-    list_rule declare_rule own_rule class_names names_rule assign scopes.assign run_all scope_among relate_rule class_found parent_of comes_to
+    list_rule declare_rule own_rule class_names names_rule assign scopes.assign run_all relate_rule class_found parent_of comes_to
     definition_of segments is_word_byte is_tag_byte normal without_front_colons write_log owner_at
 no_parent = refl
 

@@ -1,7 +1,6 @@
 -- Where functions are found, at worked examples. Each line with `refl` holds by computing.
 use Rattle.std.proofs.Common.{◌≡◌, ℕ, List, [], ◌∷◌, None, Some, Ok, Err, refl, codes}
 use Rattle.pp_tree.specs.Building.{function_of, name_at}
-use Rattle.pp_tree.specs.Names.{without_front_colons}
 use Rattle.pp_tree.specs.declared.definition.Definition.{Definition}
 use Rattle.pp_tree.specs.declared.definition.Definition.TheVariants as definition
 use Rattle.pp_tree.specs.declared.definition.Function.{Function}
@@ -12,7 +11,7 @@ use Rattle.pp_values.specs.declared.fault.Fault.{Fault}
 use Rattle.pp_values.specs.declared.fault.What.TheVariants as what
 use Rattle.res_core.specs.TagNames.{segments}
 use Rattle.eval_world.specs.Environment.{Environment}
-use Rattle.eval_classes.specs.Functions.{function_found, function_named, function_path}
+use Rattle.eval_classes.specs.Functions.{function_found, function_path}
 use Rattle.eval_classes.proofs.Samples.{class, entry, faulty_file, place, read_file, site_of}
 
 -- ---- files
@@ -42,11 +41,11 @@ abbrev in_main : Environment
 in_main = site_of (function_entry (codes "f") 3 ∷ function_entry (codes "m::f") 4 ∷ [])
     (read_file file_path (function_entry (codes "m::f") 5 ∷ []) ∷ [])
 
--- the main manifest comes first; a leading `::` is dropped, and letters stay as they are
+-- the main manifest comes first, and letters stay as they are
 main_first : (function_found in_main (codes "f") ≡ Ok (Some (function (codes "f") 3, main_path)))
-    × (function_found in_main (codes "::m::f") ≡ Ok (Some (function (codes "m::f") 4, main_path)))
+    × (function_found in_main (codes "m::f") ≡ Ok (Some (function (codes "m::f") 4, main_path)))
     × (function_found in_main (codes "F") ≡ Ok None)
-unfolding function_named without_front_colons segments
+unfolding function_found segments
 main_first = (refl, refl, refl)
 
 -- `m::f` of its module file, which holds another function and a class of the name too
@@ -58,7 +57,7 @@ in_module = site_of (entry (codes "m::f") (class (codes "m::f") [] None 1) ∷ [
 module_next : (function_found in_module (codes "m::f") ≡ Ok (Some (function (codes "m::f") 5, file_path)))
     × (function_found in_module (codes "g") ≡ Ok None)
     × (function_found in_module (codes "m::g") ≡ Ok None)
-unfolding function_named without_front_colons segments
+unfolding function_found segments
 module_next = (refl, refl, refl)
 
 abbrev broken : Fault
@@ -69,5 +68,5 @@ fault_of_file :
     (function_found (site_of [] (faulty_file file_path broken ∷ [])) (codes "m::f") ≡ Err broken)
     × (function_found (site_of (function_entry (codes "m::f") 4 ∷ []) (faulty_file file_path broken ∷ []))
     (codes "m::f") ≡ Ok (Some (function (codes "m::f") 4, main_path)))
-unfolding function_named without_front_colons segments
+unfolding function_found segments
 fault_of_file = (refl, refl)

@@ -3,7 +3,6 @@ pub mod Links
 pub mod Places
 pub mod PlainNames
 pub mod Rising
-pub mod Scopes
 pub mod Segments
 pub mod Stacks
 pub mod Upward
@@ -12,5 +11,6 @@ mod AboveExamples
 mod DataExamples
 mod Examples
 mod FunctionExamples
+mod ParentExamples
 mod Samples
 mod TypeExamples

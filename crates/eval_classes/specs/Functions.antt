@@ -2,7 +2,7 @@
 use Rattle.std.specs.Prelude.{ℕ, List, [], ◌∷◌, ◌++◌, Option, None, Some, option_map, option_and_then, Result, Ok, Err}
 use Rattle.std.specs.Prelude.{codes}
 use Rattle.std.specs.Map.{lookup}
-use Rattle.pp_tree.specs.Names.{same_name, without_front_colons}
+use Rattle.pp_tree.specs.Names.{same_name}
 use Rattle.pp_tree.specs.declared.definition.Definition.{Definition}
 use Rattle.pp_tree.specs.declared.definition.Definition.TheVariants as d
 use Rattle.pp_tree.specs.declared.definition.Function.{Function}
@@ -72,10 +72,7 @@ abbrev pub or_function_in_module : Option Function → Environment → List ℕ 
 or_function_in_module (Some f) m name = Ok (Some (f, MAIN_MANIFEST.now))
 or_function_in_module None m name = function_in_module m name (function_path name)
 
--- What the main manifest defines, and else what the one file of a module defines that the name gives.
-unfoldable pub function_named : Environment → List ℕ → Result (Option FunctionIn) Fault
-function_named m name = or_function_in_module (function_in name m.main) m name
-
--- the function of a name as it is written: a leading `::` is dropped, and letters stay as they are
-abbrev pub function_found : Environment → List ℕ → Result (Option FunctionIn) Fault
-function_found m written = function_named m (without_front_colons written)
+-- The function of a name without a leading `::`, whose letters stay as they are: what the main manifest defines, and else
+-- what the one file of a module defines that the name gives.
+unfoldable pub function_found : Environment → List ℕ → Result (Option FunctionIn) Fault
+function_found m name = or_function_in_module (function_in name m.main) m name

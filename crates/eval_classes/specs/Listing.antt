@@ -1,7 +1,7 @@
 -- Declaring a class. It is listed, then its parents are, from the nearest on; then they are evaluated, from the last
 -- parent on.
-use Rattle.std.specs.Prelude.{ℕ, zero, suc, ◌+◌, ◌==◌, Bool, false, if◌then◌else◌, List, [], ◌∷◌, length}
-use Rattle.std.specs.Prelude.{Option, None, Some, is_some, Ok, codes}
+use Rattle.std.specs.Prelude.{ℕ, zero, suc, ◌+◌, Bool, false, if◌then◌else◌, List, [], ◌∷◌, length}
+use Rattle.std.specs.Prelude.{Option, None, Some, is_some, unwrap_or, Ok, codes}
 use Rattle.pp_tree.specs.declared.definition.Class.{Class}
 use Rattle.pp_values.specs.Settings.{Setting}
 use Rattle.pp_values.specs.declared.place.Place.{Place}
@@ -13,11 +13,12 @@ use Rattle.res_book.specs.declared.row.Row.{Row}
 use Rattle.res_core.specs.TagNames.{tags}
 use Rattle.res_core.specs.declared.declared.Declared.{Declared}
 use Rattle.res_core.specs.declared.resource.Resource.{Resource}
+use Rattle.scope_core.specs.Names.{value_of_class}
 use Rattle.scope_core.specs.Scopes.{entered}
 use Rattle.scope_core.specs.declared.scope_kind.ScopeKind.TheVariants as kind
 use Rattle.eval_world.specs.Inner.{Inner}
 use Rattle.eval_world.specs.Outcomes.{Step, ◌>>=◌, ◌>>◌, pure, answered}
-use Rattle.eval_world.specs.Owners.{Owners, owner_at, with_owner}
+use Rattle.eval_world.specs.Owners.{owner_at, with_owner}
 use Rattle.eval_world.specs.Environment.{Environment}
 use Rattle.eval_world.specs.Worlds.{put}
 use Rattle.eval_world.specs.declared.owner.Owner.{Owner}
@@ -92,25 +93,11 @@ chain_from (suc left) before c m book =
 
 -- ---- their scopes
 
--- The scope of the first owner that has this declaration as its resource. Owners are the main manifest, whose resource
--- is declaration 0, the node, and each other declaration at most once.
-unfoldable pub scope_among : ℕ → ℕ → ℕ → Owners → ℕ
-scope_among zero n resource os = 0
-scope_among (suc left) n resource os =
-    if (owner_at n os).resource == resource then (owner_at n os).scope else scope_among left (n + 1) resource os
-
-abbrev pub scope_of_row : Option ℕ → World → ℕ
-scope_of_row None w = 0
-scope_of_row (Some number) w = scope_among (length w.book + 1) 0 number w.owners
-
--- the scope of a class that is declared, or else top scope
-abbrev pub scope_of_name : List ℕ → World → ℕ
-scope_of_name name w = scope_of_row (number_of (class_reference name) w.book) w
-
--- the scope that a class is entered from whose parent is declared already, or that has none
+-- The scope that a class is entered from: that of its parent, which is declared already and which `$c::x` reads by its
+-- name, or else top scope.
 abbrev pub outer_scope : Option (List ℕ) → World → ℕ
 outer_scope None w = 0
-outer_scope (Some name) w = scope_of_name name w
+outer_scope (Some name) w = unwrap_or (value_of_class name w.scopes.classes) 0
 
 abbrev pub with_class_scope : Class → ℕ → World → World
 with_class_scope c parent w = record w { scopes = entered (kind.Class (class_name c)) parent w.scopes }

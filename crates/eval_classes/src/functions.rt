@@ -3,7 +3,6 @@ ghost use Rattle.std.specs.Prelude.{◌≡◌, ◌∷◌, Some, IfOk};
 ghost use Rattle.std.specs.Option.{option_copied};
 ghost use Rattle.eval_classes.specs.Answers.{Tells};
 ghost use Rattle.eval_classes.specs.Functions as spec;
-ghost use Rattle.pp_tree.specs.Names.{without_front_colons};
 ghost use Rattle.res_core.specs.TagNames.{segments};
 
 use crate::site_function::SiteFunction;
@@ -18,36 +17,15 @@ use std::alloc::Global;
 /// How many bytes the path of a function's file has beside those of its module and its name.
 const BESIDE: usize = 22;
 
-/// The function of a name as it is written, where the site defines one. The fault of the file that the name gives comes
-/// where the main manifest has no such function.
+/// The function of a name without a leading `::`, where the site defines one. The fault of the file that the name gives
+/// comes where the main manifest has no such function.
+#[tactic(auto, unfolding(crate::specs::Functions::function_found))]
 pub fn function_found<'a>(
-    alloc: Global,
-    environment: &Environment<'a>,
-    written: &Text,
-) -> Result<Option<SiteFunction<'a>>, Stop>
-    ensures { Tells spec.seen result (spec.function_found environment.now written.now) }
-{
-    let name = bare_name(alloc, written)?;
-    function_named(alloc, environment, &name)
-}
-
-/// The name without a leading `::`.
-fn bare_name(alloc: Global, written: &Text) -> Result<Text, Memory>
-    ensures { IfOk result (λ name. name ≡ without_front_colons written.now) }
-{
-    match DefinitionName::function(alloc, written)? {
-        DefinitionName::Function(name) => Ok(name),
-        DefinitionName::Code(_) | DefinitionName::Node(_) => written.copy(alloc),
-    }
-}
-
-#[tactic(auto, unfolding(crate::specs::Functions::function_named))]
-fn function_named<'a>(
     alloc: Global,
     environment: &Environment<'a>,
     name: &Text,
 ) -> Result<Option<SiteFunction<'a>>, Stop>
-    ensures { Tells spec.seen result (spec.function_named environment.now name.now) }
+    ensures { Tells spec.seen result (spec.function_found environment.now name.now) }
 {
     match function_in(alloc, environment.main(), name)? {
         Some(function) => {

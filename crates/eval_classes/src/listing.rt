@@ -5,14 +5,14 @@ ghost use Rattle.eval_classes.specs.Listing as spec;
 ghost use Rattle.eval_classes.specs.Stacks.{chain_of, class_seen, entered_seen, stack_of};
 ghost use Rattle.eval_world.specs.Outcomes.{Gives, nothing, same};
 
-use crate::declaring::{declare, number_of};
+use crate::declaring::declare;
 use crate::definitions::class_found;
 use crate::entered::Entered;
 use crate::homes::{file_of, module_of};
 use crate::listed::Listed;
 use crate::names::{class_name, class_source};
 use crate::own_names::set_names;
-use eval_world::{Environment, Here, Owner, Owners, World};
+use eval_world::{Environment, Here, Owner, World};
 use pp_tree::definition::Class;
 use pp_values::{Memory, Place, Stop, Text};
 use res_core::Attributes;
@@ -30,7 +30,7 @@ pub fn enter_chain<'a>(
     ensures { Gives (λ v. stack_of entered_seen v.items) (spec.enter_chain (chain_of last.now
         (stack_of class_seen before.entry.items) parent.now) world.old) result world.new }
 {
-    let outer = outer_scope(world, parent)?;
+    let outer = outer_scope(world, parent);
     let scope = enter_scope(world, last, outer)?;
     let mut first = Vec::new(world.heap.alloc());
     first.push(Entered { class: last, scope })?;
@@ -51,7 +51,7 @@ fn enter_all<'a>(
     let mut parent = parent;
     let mut all = done;
     while let Some(class) = left.pop() {
-        let scope = enter_scope(world, class, parent.number)?;
+        let scope = enter_scope(world, class, parent)?;
         all.push(Entered { class, scope })?;
         parent = scope;
     }
@@ -59,11 +59,10 @@ fn enter_all<'a>(
 }
 
 #[tactic(auto, unfolding(crate::specs::Listing::enter_scope))]
-fn enter_scope(world: &mut World<'_>, class: &Class, parent: u32) -> Result<ScopeId, Stop>
-    ensures { Gives (λ s. s.number) (spec.enter_scope class.now parent world.old) result world.new }
+fn enter_scope(world: &mut World<'_>, class: &Class, parent: ScopeId) -> Result<ScopeId, Stop>
+    ensures { Gives (λ s. s.number) (spec.enter_scope class.now parent.number world.old) result world.new }
 {
     let name = class_name(world.heap.alloc(), class)?;
-    let parent = ScopeId { number: parent };
     Ok(
         world
             .scopes
@@ -72,36 +71,13 @@ fn enter_scope(world: &mut World<'_>, class: &Class, parent: u32) -> Result<Scop
 }
 
 /// The scope that a class is entered from: that of its parent, which is declared already, or else top scope.
-fn outer_scope(world: &World<'_>, parent: &Option<Text>) -> Result<u32, Memory>
-    ensures { IfOk result (λ n. n ≡ spec.outer_scope parent.now world.now) }
+fn outer_scope(world: &World<'_>, parent: &Option<Text>) -> ScopeId
+    ensures { result.number ≡ spec.outer_scope parent.now world.now }
 {
     match parent {
-        Some(parent) => scope_of_class(world, parent),
-        None => Ok(0),
+        Some(parent) => world.scopes.of_class(parent).unwrap_or(ScopeId::TOP),
+        None => ScopeId::TOP,
     }
-}
-
-fn scope_of_class(world: &World<'_>, name: &Text) -> Result<u32, Memory>
-    ensures { IfOk result (λ n. n ≡ spec.scope_of_name name.now world.now) }
-{
-    match number_of(world.heap.alloc(), &world.book, name)? {
-        Some(number) => Ok(scope_among(&world.owners, number, world.book.count())),
-        None => Ok(0),
-    }
-}
-
-/// The scope of the first owner that has this declaration as its resource.
-#[tactic(auto, using(crate::proofs::Scopes::further, crate::proofs::Scopes::at_end))]
-fn scope_among(owners: &Owners, resource: u32, count: u32) -> u32
-    ensures { result ≡ spec.scope_among (count + 1) 0 resource owners.now }
-{
-    for number in 0..=count {
-        let owner = owners.get(number);
-        if owner.resource == resource {
-            return owner.scope;
-        }
-    }
-    0
 }
 
 /// Lists these classes, the first of them with what was given. The last one stands first in the answer.

@@ -5,6 +5,7 @@ use Rattle.std.specs.Prelude.{codes}
 use Rattle.std.specs.Str.{bytes_eq}
 use Rattle.hiera_merge.specs.declared.merge.Merge.{Merge}
 use Rattle.pp_funcs.specs.Names.{needs_evaluator}
+use Rattle.pp_tree.specs.Names.{without_front_colons}
 use Rattle.pp_tree.specs.declared.expr.Call.{Call, out-Call}
 use Rattle.pp_tree.specs.declared.expr.Expr.{Expr}
 use Rattle.pp_tree.specs.declared.param.Param.{Param}
@@ -296,8 +297,8 @@ module _ (inner : Inner) (g : GrowsInner inner) where
 
   pub call_grows : (c : Call) (line : ℕ) (here : Here) → Grows (call_rule inner c line here)
   unfolding call_rule
-  call_grows c line here =
-      invoked_grows (out-Call c).function (out-Call c).args (option_map opened (out-Call c).lambda) line here
+  call_grows c line here = invoked_grows (without_front_colons (out-Call c).function) (out-Call c).args
+      (option_map opened (out-Call c).lambda) line here
 
   invoked_on_grows : (d : Datum) (f : List ℕ) (args : List Expr) (l : Option Opened) (line : ℕ) (here : Here) →
       Grows (invoked_on inner d f args l line here)
@@ -308,7 +309,8 @@ module _ (inner : Inner) (g : GrowsInner inner) where
   pub method_grows : (d : Datum) (c : Call) (line : ℕ) (here : Here) → Grows (method_rule inner d c line here)
   unfolding method_rule
   method_grows d c line here =
-      invoked_on_grows d (out-Call c).function (out-Call c).args (option_map opened (out-Call c).lambda) line here
+      invoked_on_grows d (without_front_colons (out-Call c).function) (out-Call c).args
+      (option_map opened (out-Call c).lambda) line here
 
   pub words_grow : (x : Words Expr) (here : Here) → Grows (words_rule inner x here)
   unfolding words_rule

@@ -6,9 +6,8 @@ ghost use Rattle.eval_world.specs.Outcomes.{Gives, same};
 ghost use Rattle.pp_values.specs.Views.{pair_views, view};
 
 use eval_world::{Evaluated, Forms, Goal, Here, Meaning, World};
-use pp_tree::resource::{Attribute, Attributes, Setting, Splat};
-use pp_values::interpolating::text_of;
-use pp_values::{Memory, Place, Stop, Text, Value, What};
+use pp_tree::{Attribute, Attributes, Setting, Splat};
+use pp_values::{Memory, Place, Stop, Text, Value, What, text_of};
 use res_core::{Line, Lines};
 use std::alloc::Global;
 

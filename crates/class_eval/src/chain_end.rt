@@ -1,4 +1,4 @@
-use pp_tree::statement::Arrow;
+use pp_tree::Arrow;
 use res_core::Operands;
 
 /// An operand of a chain behind an arrow, evaluated.

@@ -16,7 +16,7 @@ use eval_collectors::collector;
 use eval_overrides::{defaults_of, override_of};
 use eval_resources::operands;
 use eval_world::{Evaluated, Forms, Goal, Here, Meaning, World};
-use pp_tree::statement::{Arrow, Link, Operand as Written};
+use pp_tree::{Arrow, Link, Operand as Written};
 use pp_values::{Memory, Place, Stop, Text, Value, What};
 use res_book::RelationLine;
 use res_core::{Operand, Operands};

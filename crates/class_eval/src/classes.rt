@@ -11,7 +11,7 @@ use eval_classes::{
 };
 use eval_resources::check_attributes;
 use eval_world::{Forms, Here, World};
-use pp_tree::definition::Class;
+use pp_tree::Class;
 use pp_values::{Memory, Place, Stop, Text};
 use res_core::{Attributes, KnownNames};
 use std::alloc::Global;

@@ -4,8 +4,7 @@ ghost use Rattle.std.specs.List.{slice_get};
 ghost use Rattle.std.specs.Option.{option_copied, option_map};
 ghost use Rattle.class_eval.specs.Evaluating as spec;
 
-use pp_tree::definition::{Definition, Node};
-use pp_tree::table::{DefinitionName, Table};
+use pp_tree::{Definition, DefinitionName, Node, Table};
 use pp_values::{Memory, Text};
 use std::alloc::Global;
 

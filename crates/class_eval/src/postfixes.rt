@@ -10,7 +10,7 @@ ghost use Rattle.eval_world.specs.Outcomes.{Gives, same};
 use eval_calls::method;
 use eval_forms::{accessed, lent, selected};
 use eval_world::{Evaluated, Forms, Goal, Here, Meaning, World};
-use pp_tree::expr::{Expr, Postfix};
+use pp_tree::{Expr, Postfix};
 use pp_values::{Items, Memory, Stop, Value};
 
 /// `$a[1].f(2) ? { .. }`. Accesses to a variable's value are taken without a copy of it.

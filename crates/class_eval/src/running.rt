@@ -9,8 +9,7 @@ ghost use Rattle.eval_world.specs.Outcomes.{Gives, nothing};
 use crate::knot::{AllForms, evaluate, form};
 use crate::statements::{stated, statement};
 use eval_world::{Evaluated, Forms, Goal, Here, Meaning, World};
-use pp_tree::expr::{Expr, Form};
-use pp_tree::statement::{Block, Statement};
+use pp_tree::{Block, Expr, Form, Statement};
 use pp_values::{Stop, Text};
 use std::marker::PhantomData;
 

@@ -12,8 +12,7 @@ use eval_collectors::collector;
 use eval_overrides::{defaults_of, override_of};
 use eval_resources::resource;
 use eval_world::{Evaluated, Forms, Goal, Here, Meaning, World};
-use pp_tree::expr::Expr;
-use pp_tree::statement::{Block, Chain, Operand, Statement};
+use pp_tree::{Block, Chain, Expr, Operand, Statement};
 use pp_values::{Stop, Value};
 
 /// The value of a block: that of its last statement that gives one, and Undef where none does.

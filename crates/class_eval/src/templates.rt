@@ -15,10 +15,7 @@ use crate::top_names::{is_variable, pairs_within};
 use epp_text::parse_epp;
 use eval_calls::{bind_one, default_value};
 use eval_world::{Evaluated, Forms, Goal, Here, Meaning, Rendering, World};
-use pp_tree::Param;
-use pp_tree::expr::Expr;
-use pp_tree::statement::Block;
-use pp_tree::template::Template;
+use pp_tree::{Block, Expr, Param, Template};
 use pp_values::{Fault, Memory, Place, Stop, Text, Value, What};
 use std::alloc::Global;
 

@@ -8,8 +8,7 @@ use eval_classes::normal_name;
 use eval_forms::type_of;
 use eval_resources::check_kind;
 use eval_world::{Evaluated, Here, World};
-use pp_types::data_type::data_type_named;
-use pp_types::naming::bare_name;
+use pp_types::{bare_name, data_type_named};
 use pp_values::{Stop, Text};
 
 /// What the name of a type gives. Within the type of a parameter a kind that it names has to be there, else F5.

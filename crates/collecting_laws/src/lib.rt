@@ -1,4 +1,8 @@
 //! Laws of collectors and rounds, over the definitions that the evaluator equals; no code.
 #![tactic(auto)]
 
-pub mod second_looks;
+mod second_looks;
+
+pub use second_looks::{
+    a_look_concerns_no_other, a_second_import_finds_nothing, a_second_look_finds_nothing,
+};

@@ -1,7 +1,7 @@
 //! Which resources the query of a collector matches.
 #![tactic(auto)]
 
-pub mod matching;
+mod matching;
 mod needing;
 mod reading;
 

@@ -5,12 +5,11 @@ ghost use Rattle.command_outputs.specs.Journals.{audited_output, verdict_line, v
 
 use crate::lines::line;
 use crate::output::Output;
-use compile_core::language::PuppetLanguage;
+use compile_core::PuppetLanguage;
 use history_audit::{Verdict, audit, verdict_text};
-use pp_values::memory::Memory;
-use pp_values::text::Text;
-use site_bundle::site::Site;
-use site_core::history::History;
+use pp_values::{Memory, Text};
+use site_bundle::Site;
+use site_core::History;
 use std::alloc::Global;
 
 /// The output to the audit of a history, of which each publication is compiled again.

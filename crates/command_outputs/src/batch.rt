@@ -7,10 +7,10 @@ ghost use Rattle.command_outputs.specs.Outputs.{HasShared};
 
 use crate::output::Output;
 use crate::replies::{output_of, run_text};
-use compile_core::language::PuppetLanguage;
-use pp_values::memory::Memory;
+use compile_core::PuppetLanguage;
+use pp_values::Memory;
 use site_batch::run_batch;
-use site_bundle::bundle::Bundle;
+use site_bundle::Bundle;
 use site_io::Gate;
 use std::alloc::Global;
 use std::sync::Wait;

@@ -6,11 +6,9 @@ ghost use Rattle.command_outputs.specs.Outputs.{checked_by, checked_output};
 
 use crate::compiled::fault_line;
 use crate::output::Output;
-use pp_tree::manifest_file::ManifestFile;
-use pp_values::fault::Fault;
-use pp_values::memory::Memory;
-use pp_values::text::Text;
-use site_bundle::site::Site;
+use pp_tree::ManifestFile;
+use pp_values::{Fault, Memory, Text};
+use site_bundle::Site;
 use std::alloc::Global;
 use std::collections::BTreeMap;
 

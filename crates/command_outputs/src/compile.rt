@@ -9,9 +9,8 @@ use crate::lines::line;
 use crate::node_catalog::compile_node;
 use crate::node_stop::NodeStop;
 use crate::output::Output;
-use pp_values::memory::Memory;
-use pp_values::text::Text;
-use site_bundle::site::Site;
+use pp_values::{Memory, Text};
+use site_bundle::Site;
 use std::alloc::Global;
 use std::mem::forget;
 

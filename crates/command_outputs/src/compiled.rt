@@ -6,13 +6,9 @@ ghost use Rattle.command_outputs.specs.Lines.{line};
 ghost use Rattle.command_outputs.specs.Outputs.{catalog_output};
 
 use crate::output::Output;
-use pp_values::fault::Fault;
-use pp_values::memory::Memory;
-use pp_values::text::Text;
-use res_core::catalog::Catalog;
-use site_docs::catalog_texts::write_catalog;
-use site_docs::fault_texts::write_fault;
-use site_docs::log_texts::log_text;
+use pp_values::{Fault, Memory, Text};
+use res_core::Catalog;
+use site_docs::{log_text, write_catalog, write_fault};
 use std::alloc::Global;
 
 /// The output of a compile that made this catalog.

@@ -6,14 +6,9 @@ ghost use Rattle.res_core.specs.AskedFacts.{give_facts};
 ghost use Rattle.res_core.specs.RequestViews.{asked};
 ghost use Rattle.command_outputs.specs.Demo as spec;
 
-use pp_values::memory::Memory;
-use pp_values::pairs::Pairs;
-use pp_values::text::Text;
-use pp_values::value::Value;
-use res_core::request::{CompileRequest, Request};
-use res_core::requests::Requests;
-use site_bundle::listed_nodes::ListedNodes;
-use site_bundle::site::{Site, site_of_main};
+use pp_values::{Memory, Pairs, Text, Value};
+use res_core::{CompileRequest, Request, Requests};
+use site_bundle::{ListedNodes, Site, site_of_main};
 use std::alloc::Global;
 
 /// Each node exports itself as a host with the tag of its group, and collects the hosts of its group.

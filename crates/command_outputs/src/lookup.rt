@@ -13,12 +13,9 @@ use crate::output::Output;
 use compile_core::look_up;
 use hiera_merge::Merge;
 use json_values::value_form;
-use pp_values::fault::Stop;
-use pp_values::memory::Memory;
-use pp_values::text::Text;
-use pp_values::value::Value;
+use pp_values::{Memory, Stop, Text, Value};
 use serde_json::Value as Json;
-use site_bundle::site::Site;
+use site_bundle::Site;
 use std::alloc::Global;
 
 /// The output for a node and a key of a site.

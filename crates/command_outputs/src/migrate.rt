@@ -3,10 +3,10 @@ ghost use Rattle.std.specs.Prelude.{◌≡◌, IfOk};
 ghost use Rattle.command_outputs.specs.Journals.{migrated_output};
 
 use crate::output::Output;
-use pp_values::memory::Memory;
-use site_bundle::site::Site;
-use site_core::history::History;
-use site_docs::journals::write_journal;
+use pp_values::Memory;
+use site_bundle::Site;
+use site_core::History;
+use site_docs::write_journal;
 use std::alloc::Global;
 
 /// The journal of a history, in the version that is written today.

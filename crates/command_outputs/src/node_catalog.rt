@@ -6,12 +6,10 @@ ghost use Rattle.command_outputs.specs.Nodes.{CompilesNode, catalog_made, node_m
 
 use crate::node_stop::NodeStop;
 use compile_core::compile;
-use export_store::version::Version;
-use pp_values::fault::Stop;
-use pp_values::text::Text;
-use pp_values::value::Value;
-use res_core::catalog::Catalog;
-use site_bundle::site::Site;
+use export_store::Version;
+use pp_values::{Stop, Text, Value};
+use res_core::Catalog;
+use site_bundle::Site;
 use std::alloc::Global;
 
 /// The node's catalog by the facts that the site lists for it, where no node exports anything.

@@ -1,7 +1,6 @@
 ghost use Rattle.std.specs.Prelude.{◌≡◌};
 
-use pp_values::fault::Fault;
-use pp_values::memory::Memory;
+use pp_values::{Fault, Memory};
 
 /// Why a node of a site has no catalog.
 #[derive(Debug, Drop)]

@@ -1,4 +1,4 @@
-use pp_values::text::Text;
+use pp_values::Text;
 
 /// What an input gives, as the text that is to be written.
 #[derive(Drop)]

@@ -7,17 +7,12 @@ ghost use Rattle.site_sequence.specs.SequenceLaws.{is_memory};
 ghost use Rattle.command_outputs.specs.Outputs.{is_refusal, output_of, run_text, reply_lines};
 
 use crate::output::Output;
-use compile_core::language::PuppetLanguage;
-use pp_values::memory::Memory;
-use pp_values::text::Text;
-use res_core::request::Request;
-use res_core::requests::Requests;
-use site_bundle::site::Site;
-use site_core::history::History;
-use site_core::language::Language;
-use site_core::reply::{Reply, ReplyOf};
-use site_docs::journals::write_journal;
-use site_docs::replies::write_reply;
+use compile_core::PuppetLanguage;
+use pp_values::{Memory, Text};
+use res_core::{Request, Requests};
+use site_bundle::Site;
+use site_core::{History, Language, Reply, ReplyOf};
+use site_docs::{write_journal, write_reply};
 use site_replies::Replies;
 use std::alloc::Global;
 

@@ -6,9 +6,9 @@ ghost use Rattle.command_outputs.specs.Outputs.{HasRun};
 
 use crate::output::Output;
 use crate::replies::{output_of, run_text};
-use compile_core::language::PuppetLanguage;
-use pp_values::memory::Memory;
-use site_bundle::bundle::Bundle;
+use compile_core::PuppetLanguage;
+use pp_values::Memory;
+use site_bundle::Bundle;
 use site_sequence::run_sequence;
 use std::alloc::Global;
 

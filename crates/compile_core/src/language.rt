@@ -1,22 +1,12 @@
 //! Puppet's language, in which a site is written.
 
 use crate::compiling::compile;
-use export_store::version::Version;
-use pp_values::fault::{Fault, Stop};
-use pp_values::memory::Memory;
-use pp_values::text::Text;
-use pp_values::value::Value;
-use res_core::catalog::Catalog;
-use res_core::export_set::ExportSet;
-use site_bundle::bundle_stop::BundleStop;
-use site_bundle::reading::read_site_text;
-use site_bundle::site::Site;
-use site_core::compile_stop::CompileStop;
-use site_core::language::Language;
-use site_core::site_stop::SiteStop;
-use site_docs::catalog_texts::catalog_text;
-use site_docs::fault_texts::fault_text;
-use site_docs::site_texts::site_text;
+use export_store::Version;
+use pp_values::{Fault, Memory, Stop, Text, Value};
+use res_core::{Catalog, ExportSet};
+use site_bundle::{BundleStop, Site, read_site_text};
+use site_core::{CompileStop, Language, SiteStop};
+use site_docs::{catalog_text, fault_text, site_text};
 use std::alloc::Global;
 
 /// The language of manifests, as far as it is built.

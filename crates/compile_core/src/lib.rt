@@ -3,7 +3,7 @@
 #![tactic(auto)]
 
 mod compiling;
-pub mod language;
+mod language;
 mod looking_up;
 
 pub use compiling::compile;

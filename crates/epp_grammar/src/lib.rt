@@ -1,4 +1,6 @@
 //! The pieces of templates as a relation, and its laws.
 #![tactic(auto)]
 
-pub mod laws;
+mod laws;
+
+pub use laws::reads_the_pieces;

@@ -3,14 +3,14 @@
 
 mod bytes;
 mod front;
-pub mod parsing;
-pub mod piece;
-pub mod pieces;
+mod parsing;
+mod piece;
+mod pieces;
 mod runs;
 mod tags;
-pub mod template_file;
-pub mod templates;
-pub mod tokenizing;
+mod template_file;
+mod templates;
+mod tokenizing;
 
 pub use parsing::parse_epp;
 pub use piece::{Piece, PieceKind};

@@ -6,9 +6,9 @@ ghost use Rattle.pp_values.specs.Answers.{Answers};
 
 use crate::pieces::pieces_of;
 use crate::tokenizing::template_tokens;
-use pp_lexer::scan::end_line;
+use pp_lexer::end_line;
 use pp_parser::read_template;
-use pp_tree::template::Template;
+use pp_tree::Template;
 use pp_values::{Stop, Text};
 use std::alloc::Global;
 

@@ -10,7 +10,7 @@ use crate::front::Front;
 use crate::piece::{Piece, PieceKind};
 use crate::runs::run;
 use crate::tags::tag;
-use pp_values::memory::Memory;
+use pp_values::Memory;
 use std::alloc::Global;
 use std::marker::Model;
 

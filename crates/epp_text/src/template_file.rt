@@ -3,7 +3,7 @@ ghost use Rattle.std.specs.Prelude.{◌≡◌, IsSome, IfOk, IfSome};
 ghost use Rattle.epp_text.specs.Parsing.{template_of};
 
 use crate::parsing::parse_epp;
-use pp_tree::template::Template;
+use pp_tree::Template;
 use pp_values::{Fault, Memory, Stop, Text};
 use std::alloc::Global;
 use std::marker::Model;

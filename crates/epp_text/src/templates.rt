@@ -6,7 +6,7 @@ ghost use Rattle.epp_text.specs.Parsing.{template_of};
 ghost use Rattle.pp_values.specs.Rising.{text_cmp};
 
 use crate::template_file::TemplateFile;
-use pp_tree::template::Template;
+use pp_tree::Template;
 use pp_values::{Fault, Memory, Text};
 use std::alloc::Global;
 use std::collections::BTreeMap;

@@ -7,11 +7,8 @@ ghost use Rattle.pp_lexer.specs.Tokens.{tokens_at};
 
 use crate::bytes::line_behind;
 use crate::piece::{Piece, PieceKind};
-use pp_lexer::kind::Kind;
-use pp_lexer::scan::scan_at;
-use pp_lexer::token::Token;
-use pp_lexer::tokens::Tokens;
-use pp_values::memory::Memory;
+use pp_lexer::{Kind, Token, Tokens, scan_at};
+use pp_values::Memory;
 use std::alloc::Global;
 
 /// The tokens of the pieces of a template: of each code and of each value by itself, with marks round what is emitted and

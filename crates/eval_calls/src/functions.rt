@@ -12,8 +12,7 @@ use crate::names::{unknown, wrong};
 use eval_classes::{SiteFunction, accepted, function_found, has_type};
 use eval_world::{Evaluated, Forms, Goal, Here, Meaning, World};
 use expr_eval::is_of;
-use pp_tree::Param;
-use pp_tree::expr::Expr;
+use pp_tree::{Expr, Param};
 use pp_values::{Fault, Memory, Place, Stop, Text, Value, Values, What};
 use std::alloc::Global;
 

@@ -7,8 +7,7 @@ ghost use Rattle.pp_values.specs.Views.{view};
 
 use eval_classes::{accepted, has_type};
 use eval_world::{Evaluated, Forms, Goal, Here, Meaning, World};
-use pp_tree::expr::Expr;
-use pp_tree::{Lambda, Param};
+use pp_tree::{Expr, Lambda, Param};
 use pp_values::{Memory, Stop, Text, Value, Values};
 
 /// How many parameters a lambda has.

@@ -18,7 +18,7 @@ use eval_classes::{Including, include};
 use eval_world::{Evaluated, Forms, Goal, Here, Meaning, World, is_splat, only};
 use expr_eval::{LambdaFunction, joined};
 use pp_funcs::{call_pure_of, needs_evaluator};
-use pp_tree::expr::Args;
+use pp_tree::Args;
 use pp_values::{Stop, Text, Value, Values};
 use std::slice;
 

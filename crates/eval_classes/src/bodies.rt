@@ -12,8 +12,7 @@ use crate::listed::Listed;
 use crate::own_names::set_names;
 use crate::parameters::bind;
 use eval_world::{Evaluated, Forms, Goal, Here, Meaning, World};
-use pp_tree::Param;
-use pp_tree::statement::Block;
+use pp_tree::{Block, Param};
 use pp_values::{Stop, Value};
 use res_core::{Attributes, copy_attributes};
 

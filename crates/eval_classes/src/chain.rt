@@ -1,4 +1,4 @@
-use pp_tree::definition::Class;
+use pp_tree::Class;
 use pp_values::Text;
 
 /// Classes that are declared together: a class and its parents. Contracts see what they say by `chain_seen`.

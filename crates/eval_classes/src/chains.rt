@@ -10,7 +10,7 @@ use crate::declaring::is_declared;
 use crate::definitions::find;
 use crate::parents::{class_in, parent_of};
 use eval_world::Environment;
-use pp_tree::definition::Class;
+use pp_tree::Class;
 use pp_values::{Memory, Text};
 use res_book::{Book, DECLARATION_LIMIT};
 use std::alloc::Global;

@@ -8,7 +8,7 @@ ghost use Rattle.res_book.specs.Rows as rows;
 use crate::names::{class_name, class_reference, param_names};
 use crate::tagging::{given_tags, tags_within};
 use eval_world::{Owner, World};
-use pp_tree::definition::Class;
+use pp_tree::Class;
 use pp_values::{Kind, Memory, Place, Stop, Text};
 use res_book::{Book, Mode};
 use res_core::{Attributes, Declared, KnownNames, Resource, copy_attributes};

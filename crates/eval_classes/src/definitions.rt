@@ -9,10 +9,7 @@ ghost use Rattle.pp_values.specs.declared.fault.What.TheVariants as what;
 use crate::found::Found;
 use crate::paths::module_path;
 use eval_world::Environment;
-use pp_tree::definition::{Class, Define, Definition};
-use pp_tree::file::File;
-use pp_tree::manifest_file::ManifestFile;
-use pp_tree::table::DefinitionName;
+use pp_tree::{Class, Define, Definition, DefinitionName, File, ManifestFile};
 use pp_values::{Fault, MAIN_MANIFEST, Memory, Place, Stop, Text, What};
 use std::alloc::Global;
 

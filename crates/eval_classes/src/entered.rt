@@ -1,4 +1,4 @@
-use pp_tree::definition::Class;
+use pp_tree::Class;
 use scope_core::ScopeId;
 
 /// A class whose scope is entered, and that is to be declared.

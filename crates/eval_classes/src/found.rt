@@ -1,4 +1,4 @@
-use pp_tree::definition::Definition;
+use pp_tree::Definition;
 use pp_values::Fault;
 
 /// What stands under the name of a class or define.

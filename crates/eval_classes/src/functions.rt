@@ -7,10 +7,7 @@ ghost use Rattle.res_core.specs.TagNames.{segments};
 
 use crate::site_function::SiteFunction;
 use eval_world::Environment;
-use pp_tree::definition::{Definition, Function};
-use pp_tree::file::File;
-use pp_tree::manifest_file::ManifestFile;
-use pp_tree::table::DefinitionName;
+use pp_tree::{Definition, DefinitionName, File, Function, ManifestFile};
 use pp_values::{MAIN_MANIFEST, Memory, Stop, Text};
 use std::alloc::Global;
 

@@ -19,7 +19,7 @@ use crate::listed::Listed;
 use crate::listing::{check_parent, enter_chain, list_all};
 use crate::names::{class_name, class_reference};
 use eval_world::{Evaluated, Forms, Goal, Here, Meaning, World};
-use pp_tree::definition::Class;
+use pp_tree::Class;
 use pp_values::{Memory, Place, Reference, Stop, Text, Texts, Values, What};
 use res_book::{Containment, RelationLine};
 use res_core::{Attributes, Declared, Operand, Operands};

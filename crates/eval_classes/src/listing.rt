@@ -13,7 +13,7 @@ use crate::listed::Listed;
 use crate::names::{class_name, class_source};
 use crate::own_names::set_names;
 use eval_world::{Environment, Here, Owner, World};
-use pp_tree::definition::Class;
+use pp_tree::Class;
 use pp_values::{Memory, Place, Stop, Text};
 use res_core::Attributes;
 use scope_core::{ScopeId, ScopeKind};

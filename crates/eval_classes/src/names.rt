@@ -4,9 +4,7 @@ ghost use Rattle.eval_classes.specs.Definitions as spec;
 ghost use Rattle.eval_classes.specs.Listing as listing;
 ghost use Rattle.pp_tree.specs.Names.{normal};
 
-use pp_tree::Param;
-use pp_tree::definition::Class;
-use pp_tree::table::DefinitionName;
+use pp_tree::{Class, DefinitionName, Param};
 use pp_values::{Kind, Memory, Reference, Text, Texts, is_kind};
 use std::alloc::Global;
 

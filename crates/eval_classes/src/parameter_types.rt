@@ -8,7 +8,7 @@ ghost use Rattle.pp_values.specs.Views.{view};
 
 use eval_world::{Evaluated, Forms, Goal, Here, Meaning, World};
 use expr_eval::is_of;
-use pp_tree::expr::Expr;
+use pp_tree::Expr;
 use pp_values::{Fault, Place, Stop, Text, Value, What};
 use std::alloc::Global;
 

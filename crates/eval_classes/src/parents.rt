@@ -7,7 +7,7 @@ use crate::definitions::find;
 use crate::found::Found;
 use crate::names::{class_name, normal_name};
 use eval_world::Environment;
-use pp_tree::definition::{Class, Definition, Name};
+use pp_tree::{Class, Definition, Name};
 use pp_values::{Memory, Text};
 use res_book::DECLARATION_LIMIT;
 use std::alloc::Global;

@@ -1,4 +1,4 @@
-use pp_tree::definition::Function;
+use pp_tree::Function;
 use pp_values::Text;
 
 /// A function that the site defines.

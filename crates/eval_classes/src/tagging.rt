@@ -7,8 +7,7 @@ ghost use Rattle.pp_values.specs.Views.{view};
 ghost use Rattle.res_core.specs.TagNames.{tags};
 
 use crate::flattening::flattened;
-use pp_values::interpolating::text_of;
-use pp_values::{Memory, Text, Texts, Value};
+use pp_values::{Memory, Text, Texts, Value, text_of};
 use res_book::Book;
 use res_core::{Attributes, Tags, tags_of};
 use std::alloc::Global;

@@ -2,7 +2,8 @@
 #![tactic(auto)]
 
 mod collecting;
-pub mod laws;
+mod laws;
 mod queries;
 
 pub use collecting::{collector, realize};
+pub use laws::levels_only_refuse;

@@ -6,8 +6,7 @@ ghost use Rattle.eval_world.specs.Outcomes.{Gives, same};
 ghost use Rattle.res_core.specs.QueryViews.{criterion};
 
 use eval_world::{Evaluated, Forms, Goal, Here, Meaning, World};
-use pp_tree::collector::{Comparison, Conjunction, Query as Written, Test};
-use pp_tree::expr::Expr;
+use pp_tree::{Comparison, Conjunction, Expr, Query as Written, Test};
 use pp_values::{Memory, Stop, Text, What};
 use res_core::{Queries, Query, QueryBox};
 use std::alloc::Global;

@@ -12,9 +12,8 @@ ghost use Rattle.eval_world.specs.declared.world.World.{World};
 
 use crate::answering::combined;
 use eval_world::{Evaluated, Forms, Goal, Here, Meaning, World, only};
-use pp_ops::accessing::member_at;
-use pp_ops::op::Op;
-use pp_tree::expr::{Args, Expr, Form};
+use pp_ops::{Op, member_at};
+use pp_tree::{Args, Expr, Form};
 use pp_values::{Memory, Stop, Text, Value};
 
 /// `[1]` behind a value that is there: the arguments are evaluated first. A type takes them as its own, so `File['/a']`

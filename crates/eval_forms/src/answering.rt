@@ -13,7 +13,7 @@ ghost use Rattle.eval_world.specs.Worlds.{answered_at, place_at};
 
 use eval_world::{Evaluated, Here, World};
 use expr_eval::{combine, is_of};
-use pp_ops::op::Op;
+use pp_ops::Op;
 use pp_values::{Fault, Memory, Stop, Value};
 
 /// The value of an operator over two values. Where both are integers `+` and `-` are done here.

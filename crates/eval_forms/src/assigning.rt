@@ -4,7 +4,7 @@ ghost use Rattle.eval_world.specs.Nests.{Nests};
 ghost use Rattle.eval_world.specs.Outcomes.{Gives, same};
 
 use eval_world::{Evaluated, Forms, Goal, Here, Meaning, World};
-use pp_tree::expr::Expr;
+use pp_tree::Expr;
 use pp_values::{Stop, Text};
 
 /// `$a = 1`: the value is evaluated first, and then set.

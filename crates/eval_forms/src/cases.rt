@@ -12,8 +12,7 @@ ghost use Rattle.eval_world.specs.Shapes.{is_default};
 
 use eval_world::{Evaluated, Forms, Goal, Here, Meaning, World, is_default, is_splat};
 use expr_eval::{option_takes, splice};
-use pp_tree::conditions::{Case, CaseOption};
-use pp_tree::expr::{Args, Expr};
+use pp_tree::{Args, Case, CaseOption, Expr};
 use pp_values::{Items, Memory, Stop, Value};
 use std::alloc::Global;
 

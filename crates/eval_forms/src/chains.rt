@@ -11,8 +11,8 @@ use crate::operator_kind::OperatorKind;
 use crate::prefixes::truth;
 use eval_world::{Evaluated, Forms, Goal, Here, Meaning, World, only};
 use expr_eval::is_true;
-use pp_ops::op::Op;
-use pp_tree::expr::{Expr, Operation};
+use pp_ops::Op;
+use pp_tree::{Expr, Operation};
 use pp_values::{Items, Stop, Value};
 
 /// `$a + 1 - $b`: operators of one strength, from the left. All faults of operators stand at the line of the chain's

@@ -5,8 +5,7 @@ ghost use Rattle.eval_world.specs.Outcomes.{Gives, same};
 
 use crate::prefixes::truth;
 use eval_world::{Evaluated, Forms, Goal, Here, Meaning, World};
-use pp_tree::conditions::{Elsif, If, Unless};
-use pp_tree::statement::Block;
+use pp_tree::{Block, Elsif, If, Unless};
 use pp_values::{Items, Stop, Value};
 
 /// `if $a { } elsif $b { } else { }`. A block that stands too deep is refused at the line of the whole.

@@ -7,7 +7,7 @@ ghost use Rattle.eval_world.specs.Outcomes.{Gives, same};
 use crate::answering::bad_operand;
 use crate::growing::Growing;
 use eval_world::{Evaluated, Forms, Goal, Here, Meaning, World};
-use pp_tree::expr::{Args, Pair, Piece};
+use pp_tree::{Args, Pair, Piece};
 use pp_values::{Items, Stop, Text, Value, is_key, write_value};
 
 /// `[1, *$a]`

@@ -1,8 +1,8 @@
 ghost use Rattle.std.specs.Prelude.{◌≡◌};
 ghost use Rattle.eval_forms.specs.Operators.{kind_of};
 
-use pp_ops::op::Op;
-use pp_tree::operators::BinaryOperator;
+use pp_ops::Op;
+use pp_tree::BinaryOperator;
 
 /// How an operator between two operands goes.
 #[derive(Clone, Copy)]

@@ -7,9 +7,8 @@ ghost use Rattle.eval_world.specs.Outcomes.{Gives, same};
 use crate::answering::combined;
 use eval_world::{Evaluated, Forms, Goal, Here, Meaning, World};
 use expr_eval::{is_true, spread};
-use pp_ops::op::Op;
-use pp_tree::expr::Expr;
-use pp_tree::operators::PrefixOperator;
+use pp_ops::Op;
+use pp_tree::{Expr, PrefixOperator};
 use pp_values::{Stop, Value};
 
 /// `!$a`, `-$a`, and `*$a` where it is no argument and no member of a list, or as what is spliced there.

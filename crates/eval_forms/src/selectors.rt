@@ -8,7 +8,7 @@ ghost use Rattle.eval_world.specs.Outcomes.{Gives, same};
 use crate::answering::bad_operand;
 use eval_world::{Evaluated, Forms, Goal, Here, Meaning, World, is_default};
 use expr_eval::option_takes;
-use pp_tree::expr::{Expr, Pair};
+use pp_tree::{Expr, Pair};
 use pp_values::{Items, Stop};
 
 /// `? { 1 => 'a', default => 'b' }` behind a value that is there: the value of the first option that takes it, or else

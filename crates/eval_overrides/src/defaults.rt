@@ -7,7 +7,7 @@ ghost use Rattle.res_core.specs.Lines.{line_of, lines_of};
 use attribute_lines::lines;
 use eval_classes::normal_name;
 use eval_world::{Evaluated, Forms, Goal, Here, Meaning, World};
-use pp_tree::resource::{Attributes, Defaults};
+use pp_tree::{Attributes, Defaults};
 use pp_values::{Kind, Stop, What, copy};
 use res_core::{Line, Lines};
 

@@ -12,7 +12,7 @@ use eval_classes::right_of;
 use eval_forms::{accessed, type_of};
 use eval_world::{Evaluated, Forms, Goal, Here, Meaning, World};
 use override_rules::{OverrideLine, Right};
-use pp_tree::resource::{Override, Reference as Written};
+use pp_tree::{Override, Reference as Written};
 use pp_values::{Memory, Reference, Stop, Text, Value, What, copy};
 use res_core::{Line, Lines};
 use std::alloc::Global;

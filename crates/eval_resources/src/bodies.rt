@@ -8,7 +8,7 @@ use crate::filling::filled;
 use attribute_lines::lines;
 use eval_classes::flat;
 use eval_world::{Evaluated, Forms, Goal, Here, Meaning, World};
-use pp_tree::resource::Body as Written;
+use pp_tree::Body as Written;
 use pp_values::{Items, Memory, Stop};
 use res_core::{Bodies, Body, Lines};
 

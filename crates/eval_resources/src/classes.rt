@@ -9,7 +9,7 @@ ghost use Rattle.pp_values.specs.Views.{view};
 use crate::checks::{are_taken, check_lines, check_title};
 use eval_classes::{class_found, class_reference, normal_name, param_names};
 use eval_world::Environment;
-use pp_tree::definition::Class;
+use pp_tree::Class;
 use pp_values::{Fault, Kind, Memory, Place, Stop, Subject, Value, What};
 use res_core::{Body, Form, KnownNames, Line};
 use std::alloc::Global;

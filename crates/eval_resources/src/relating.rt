@@ -11,7 +11,7 @@ use crate::resources::form_of;
 use crate::titles::declare_bodies;
 use eval_classes::normal_name;
 use eval_world::{Evaluated, Forms, Goal, Here, Meaning, World};
-use pp_tree::resource::Resource;
+use pp_tree::Resource;
 use pp_values::{Kind, Memory, Reference, Stop, Text, Value};
 use res_core::{Body, Operand, Operands};
 use std::alloc::Global;

@@ -8,7 +8,7 @@ use crate::bodies::bodies;
 use crate::titles::declare_bodies;
 use eval_classes::normal_name;
 use eval_world::{Evaluated, Forms, Goal, Here, Meaning, World};
-use pp_tree::resource::{Resource, ResourceForm};
+use pp_tree::{Resource, ResourceForm};
 use pp_values::Stop;
 use res_core::Form;
 

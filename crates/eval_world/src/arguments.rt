@@ -13,7 +13,7 @@ use crate::meaning::Meaning;
 use crate::shapes::is_splat;
 use crate::world::World;
 use expr_eval::splice;
-use pp_tree::expr::{Args, Expr};
+use pp_tree::{Args, Expr};
 use pp_values::{Memory, Stop, Value, Values};
 use std::alloc::Global;
 use std::mem;

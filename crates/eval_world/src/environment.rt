@@ -7,8 +7,7 @@ ghost use Rattle.pp_values.specs.Rising.{text_cmp};
 
 use epp_text::Templates;
 use hiera_config::SiteData;
-use pp_tree::template::Template;
-use pp_tree::{File, ManifestFile};
+use pp_tree::{File, ManifestFile, Template};
 use pp_values::{Fault, Text};
 use std::collections::BTreeMap;
 use std::marker::Model;

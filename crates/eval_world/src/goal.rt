@@ -1,7 +1,5 @@
 use crate::rendering::Rendering;
-use pp_tree::expr::Expr;
-use pp_tree::resource::Reference;
-use pp_tree::statement::{Block, Words};
+use pp_tree::{Block, Expr, Reference, Words};
 
 /// What is evaluated one level further in. A block, a class body and an instance come with the line at which they are
 /// refused where they stand too deep: that of the expression, statement or definition that they belong to.

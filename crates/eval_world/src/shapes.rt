@@ -3,8 +3,7 @@ ghost use Rattle.std.specs.Prelude.{◌≡◌};
 ghost use Rattle.std.specs.Option.{option_copied};
 ghost use Rattle.eval_world.specs.Shapes as spec;
 
-use pp_tree::expr::{Expr, Form};
-use pp_tree::operators::PrefixOperator;
+use pp_tree::{Expr, Form, PrefixOperator};
 
 /// Whether an expression is written with `*`.
 pub fn is_splat(expr: &Expr) -> bool

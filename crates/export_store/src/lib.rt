@@ -1,10 +1,10 @@
 //! What the nodes of a site export, as versions that share their sets.
 #![tactic(auto)]
 
-pub mod export_place;
-pub mod export_places;
+mod export_place;
+mod export_places;
 mod index;
-pub mod laws;
+mod laws;
 mod leaf;
 mod leaves;
 mod queries;
@@ -14,7 +14,7 @@ mod rows;
 mod run;
 mod runs;
 mod table;
-pub mod version;
+mod version;
 
 pub use export_place::ExportPlace;
 pub use export_places::ExportPlaces;

@@ -9,13 +9,9 @@ ghost use Rattle.pp_values.specs.Views.{view, views, pair_views};
 ghost use Rattle.expr_eval.specs.Combining.{accepts_some, combined};
 
 use crate::type_values::accessed;
-use pp_ops::applying::apply_op;
-use pp_ops::op::Op;
-use pp_types::acceptance::accepts;
-use pp_values::fault::Stop;
-use pp_values::place::Place;
-use pp_values::ptype::PType;
-use pp_values::value::Value;
+use pp_ops::{Op, apply_op};
+use pp_types::accepts;
+use pp_values::{PType, Place, Stop, Value};
 use std::alloc::Global;
 
 /// The value of an operator, or its fault at this place, which names the operator or the data type.

@@ -2,10 +2,7 @@
 ghost use Rattle.std.specs.Prelude.{◌≡◌, IfOk};
 ghost use Rattle.expr_eval.specs.Faults.{bad_operand, wrong_arguments};
 
-use pp_values::fault::{Fault, What};
-use pp_values::memory::Memory;
-use pp_values::place::Place;
-use pp_values::text::Text;
+use pp_values::{Fault, Memory, Place, Text, What};
 use std::alloc::Global;
 
 /// The fault that an operator does not take its operands. It names the operator: `[]` for access, `=>` for a key of a

@@ -2,7 +2,7 @@
 ghost use Rattle.std.specs.Prelude.{◌≡◌, map};
 ghost use Rattle.expr_eval.specs.Names.{lambda_function, function_named, name};
 
-use pp_values::text::Text;
+use pp_values::Text;
 
 /// A function that goes through a list or a hash, and calls its lambda with one member or pair after another.
 #[derive(Clone, Copy)]

@@ -7,11 +7,7 @@ ghost use Rattle.expr_eval.specs.Truth.{is_true};
 
 use crate::functions::Iteration;
 use crate::truth::is_true;
-use pp_values::copying::copy;
-use pp_values::memory::Memory;
-use pp_values::pairs::Pairs;
-use pp_values::value::Value;
-use pp_values::values::Values;
+use pp_values::{Memory, Pairs, Value, Values, copy};
 use std::alloc::Global;
 
 /// The value of `each`, `map`, `filter`, `any` or `all` of this value, where the lambda gave these results, in the order

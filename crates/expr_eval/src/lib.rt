@@ -1,17 +1,17 @@
 //! The steps of evaluation over values that are there already. It calls no evaluator.
 #![tactic(auto)]
 
-pub mod combining;
-pub mod faults;
-pub mod functions;
-pub mod gathering;
-pub mod reducing;
-pub mod spreading;
-pub mod testing;
-pub mod texts;
-pub mod truth;
-pub mod turns;
-pub mod type_values;
+mod combining;
+mod faults;
+mod functions;
+mod gathering;
+mod reducing;
+mod spreading;
+mod testing;
+mod texts;
+mod truth;
+mod turns;
+mod type_values;
 
 pub use combining::combine;
 pub use faults::{bad_operand, wrong_arguments};

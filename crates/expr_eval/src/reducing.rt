@@ -5,12 +5,8 @@ ghost use Rattle.pp_values.specs.Views.{view, views};
 ghost use Rattle.expr_eval.specs.Turns.{members, reduce_members, reduced_over, turn_of_with};
 
 use crate::faults::wrong_arguments;
-use pp_ops::listing::extended;
-use pp_values::fault::Stop;
-use pp_values::memory::Memory;
-use pp_values::place::Place;
-use pp_values::value::Value;
-use pp_values::values::Values;
+use pp_ops::extended;
+use pp_values::{Memory, Place, Stop, Value, Values};
 use std::alloc::Global;
 
 /// What `reduce` of these arguments goes through, by a lambda of so many parameters, which are a memo and a member.

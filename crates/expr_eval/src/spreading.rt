@@ -3,11 +3,8 @@ ghost use Rattle.std.specs.Prelude.{◌≡◌, [], IfOk};
 ghost use Rattle.pp_values.specs.Views.{view};
 ghost use Rattle.expr_eval.specs.Spreading.{spliced, spread};
 
-use pp_ops::listing::extended;
-use pp_values::copying::copy;
-use pp_values::memory::Memory;
-use pp_values::value::Value;
-use pp_values::values::Values;
+use pp_ops::extended;
+use pp_values::{Memory, Value, Values, copy};
 use std::alloc::Global;
 
 /// What `*value` puts among arguments or into a list: the members of a list, the pairs of a hash as lists of two, or the

@@ -5,11 +5,8 @@ ghost use Rattle.pp_values.specs.Views.{view};
 ghost use Rattle.expr_eval.specs.Testing.{is_of, is_accepted_by, option_takes};
 
 use crate::faults::bad_operand;
-use pp_types::acceptance::accepts;
-use pp_values::equality::equal;
-use pp_values::fault::Stop;
-use pp_values::place::Place;
-use pp_values::value::Value;
+use pp_types::accepts;
+use pp_values::{Place, Stop, Value, equal};
 use std::alloc::Global;
 
 /// `value =~ kind`. `!~` is the other answer, with the same fault.

@@ -2,15 +2,12 @@
 ghost use Rattle.std.specs.Prelude.{◌≡◌, IfOk};
 ghost use Rattle.pp_funcs.specs.Texts.{joined};
 
-use pp_funcs::texting;
-use pp_values::memory::Memory;
-use pp_values::text::Text;
-use pp_values::values::Values;
+use pp_values::{Memory, Text, Values};
 use std::alloc::Global;
 
 /// The texts of the values, with one space between each two.
 pub fn joined(alloc: Global, values: &Values) -> Result<Text, Memory>
     ensures { IfOk result (λ t. t ≡ joined values.now) }
 {
-    texting::joined(alloc, values.as_slice())
+    pp_funcs::joined(alloc, values.as_slice())
 }

@@ -8,12 +8,7 @@ ghost use Rattle.expr_eval.specs.Turns.{only, two, numbered, turns_of_one, turns
 
 use crate::faults::wrong_arguments;
 use crate::functions::Iteration;
-use pp_values::copying::copy;
-use pp_values::fault::Stop;
-use pp_values::memory::Memory;
-use pp_values::place::Place;
-use pp_values::value::Value;
-use pp_values::values::Values;
+use pp_values::{Memory, Place, Stop, Value, Values, copy};
 use sqlite_items::Items;
 use std::alloc::Global;
 

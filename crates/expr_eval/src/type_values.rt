@@ -14,21 +14,11 @@ ghost use Rattle.expr_eval.specs.Heads.{head_name};
 ghost use Rattle.expr_eval.specs.TypeValues.{bare_type, type_name, with_arguments, titled, reference_of, as_value, type_accessed};
 
 use crate::faults::{bad_operand, wrong_arguments};
-use pp_types::arguments::title;
-use pp_types::data_type::DataType;
-use pp_types::making::kind_of;
-use pp_types::refusal::Halt;
-use pp_values::Boxed;
-use pp_values::fault::{Fault, Stop};
-use pp_values::kind::Kind;
-use pp_values::memory::Memory;
-use pp_values::place::Place;
-use pp_values::printing::kind_text;
-use pp_values::ptype::{PType, TypeBox};
-use pp_values::reference::Reference;
-use pp_values::text::Text;
-use pp_values::value::Value;
-use pp_values::values::Values;
+use pp_types::{DataType, Halt, kind_of, title};
+use pp_values::{
+    Boxed, Fault, Kind, Memory, PType, Place, Reference, Stop, Text, TypeBox, Value, Values,
+    kind_text,
+};
 use std::alloc::Global;
 
 /// A type's name without its arguments.

@@ -1,40 +1,41 @@
 //! The data of a site: its files, the configurations of its layers, and the sources that they give for a key.
 #![tactic(auto)]
 
-pub mod config;
-pub mod config_reading;
+mod config;
+mod config_reading;
 mod cutting;
 mod flags;
 mod folders;
 mod forms;
 mod highest;
-pub mod interpolation;
-pub mod laws;
+mod interpolation;
+mod laws;
 mod level_reading;
-pub mod literals;
+mod literals;
 mod mapping;
-pub mod modules;
+mod modules;
 mod names;
-pub mod option_table;
+mod option_table;
 mod paths;
 mod plan;
 mod planned;
-pub mod refused;
-pub mod searching;
-pub mod site_data;
+mod refused;
+mod searching;
+mod site_data;
 mod soundness;
-pub mod template;
-pub mod variables;
+mod template;
+mod variables;
 
 pub use config::{Config, Layer, Level, LevelPaths, Levels};
 pub use config_reading::read_config;
 pub use highest::highest_value;
 pub use interpolation::{Piece, interpolates, pieces, whole_alias};
+pub use laws::turns_suffice;
 pub use literals::is_literal;
 pub use modules::module_of;
 pub use option_table::{OPTIONS, are_tables, option_of};
 pub use refused::{Refused, bad_data, bad_interpolation};
 pub use searching::{Source, sources};
-pub use site_data::{SiteData, data_from};
+pub use site_data::{DataFile, SiteData, data_from};
 pub use template::{Template, Templates};
 pub use variables::Variables;

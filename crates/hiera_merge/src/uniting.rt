@@ -7,8 +7,8 @@ ghost use Rattle.pp_values.specs.Datum.{data_of};
 ghost use Rattle.pp_values.specs.Views.{view, views};
 ghost use Rattle.hiera_merge.specs.Merges.{united};
 
-use pp_funcs::seen::{Seen, is_new};
-use pp_ops::sameness::is_same;
+use pp_funcs::{Seen, is_new};
+use pp_ops::is_same;
 use pp_values::{Memory, Value, Values, copy};
 use std::alloc::Global;
 

@@ -2,7 +2,7 @@
 #![tactic(auto)]
 
 mod bells;
-pub mod laws;
+mod laws;
 mod lock;
 mod pass;
 mod rule;
@@ -10,6 +10,7 @@ mod stands_for;
 mod turn;
 mod view;
 
+pub use laws::closes_once_all_are_joined;
 pub use lock::HistLock;
 pub use pass::{Note, Pass};
 pub use stands_for::StandsFor;

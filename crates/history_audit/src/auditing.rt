@@ -13,14 +13,9 @@ use crate::past::Past;
 use crate::sameness::is_same_set;
 use crate::stage::Stage;
 use crate::verdict::{Part, Verdict};
-use pp_values::memory::Memory;
-use pp_values::text::Text;
-use pp_values::value::Value;
-use res_core::export_set::ExportSet;
-use site_core::compile_stop::CompileStop;
-use site_core::entry::Entry;
-use site_core::history::History;
-use site_core::language::Language;
+use pp_values::{Memory, Text, Value};
+use res_core::ExportSet;
+use site_core::{CompileStop, Entry, History, Language};
 use std::alloc::Global;
 use std::sync::Arc;
 

@@ -1,7 +1,7 @@
 //! What an audit says of every history, whatever the language.
 ghost use Rattle.history_audit.specs.Laws.{SaysLegalExactly, TellsTheFirst};
 
-use site_core::language::Language;
+use site_core::Language;
 
 /// `Legal` is said exactly where the history is legal, with the number of its entries.
 pub fn says_legal_exactly<L: Language>()

@@ -2,11 +2,12 @@
 #![tactic(auto)]
 
 mod auditing;
-pub mod laws;
+mod laws;
 mod past;
 mod sameness;
 mod stage;
 mod verdict;
 
 pub use auditing::audit;
+pub use laws::{says_legal_exactly, tells_the_first};
 pub use verdict::{Part, Verdict, verdict_text};

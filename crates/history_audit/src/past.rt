@@ -9,9 +9,9 @@ ghost use Rattle.history_audit.specs.Audits.{is_earlier};
 ghost use Rattle.history_audit.specs.Pasts.{IsAfter, Keeps};
 
 use crate::stage::Stage;
-use export_store::version::Version;
-use pp_values::memory::Memory;
-use site_core::entry::Entry;
+use export_store::Version;
+use pp_values::Memory;
+use site_core::Entry;
 use std::alloc::Global;
 use std::collections::BTreeMap;
 use std::sync::Arc;

@@ -4,12 +4,9 @@ ghost use Rattle.std.specs.Cmp.Lexicographic.{pointwise};
 ghost use Rattle.res_core.specs.AttributeViews.{setting, settings};
 ghost use Rattle.history_audit.specs.Sameness.{same_setting, same_resource, same_place, same_exported, same_set};
 
-use pp_ops::sameness::is_same;
-use pp_values::place::Place;
-use res_core::attribute::Attribute;
-use res_core::export_set::ExportSet;
-use res_core::exported::Exported;
-use res_core::resource::Resource;
+use pp_ops::is_same;
+use pp_values::Place;
+use res_core::{Attribute, ExportSet, Exported, Resource};
 
 pub fn is_same_set(a: &ExportSet, b: &ExportSet) -> bool
     ensures { result ≡ same_set a.now b.now }

@@ -1,4 +1,4 @@
-use export_store::version::Version;
+use export_store::Version;
 use std::sync::Arc;
 
 /// What some entries come to: the site in force and the exported sets after them.

@@ -1,8 +1,7 @@
 ghost use Rattle.std.specs.Prelude.{◌≡◌, IfOk};
 ghost use Rattle.history_audit.specs.VerdictTexts.{part_word, entry_form, verdict_form};
 
-use pp_values::memory::Memory;
-use pp_values::text::Text;
+use pp_values::{Memory, Text};
 use std::alloc::Global;
 
 /// What an audit of a history comes to.

@@ -4,11 +4,8 @@ ghost use Rattle.res_core.specs.Asked.{compile};
 ghost use Rattle.res_core.specs.RequestViews.{asked};
 ghost use Rattle.history_tools.specs.Rounds.{wanted_of, asked_of};
 
-use pp_values::memory::Memory;
-use pp_values::text::Text;
-use pp_values::texts::Texts;
-use res_core::request::{CompileRequest, Request};
-use res_core::requests::Requests;
+use pp_values::{Memory, Text, Texts};
+use res_core::{CompileRequest, Request, Requests};
 use std::alloc::Global;
 
 /// A request for each of the first so many nodes, by the facts that the site lists.

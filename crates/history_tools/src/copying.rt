@@ -2,11 +2,7 @@
 ghost use Rattle.std.specs.Prelude.{◌≡◌, IfOk};
 
 use pp_values::Memory;
-use res_core::copying::copy_resource;
-use res_core::export_set::ExportSet;
-use res_core::exported::Exported;
-use res_core::exports::Exports;
-use res_core::plain_resource::PlainResource;
+use res_core::{ExportSet, Exported, Exports, PlainResource, copy_resource};
 use std::alloc::Global;
 
 /// The same set.

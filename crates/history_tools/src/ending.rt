@@ -10,11 +10,9 @@ use crate::copying::copy_set;
 use crate::outcome::Outcome;
 use crate::set_changes::first_changed;
 use crate::settle_end::SettleEnd;
-use export_store::version::Version;
-use pp_values::memory::Memory;
-use pp_values::text::Text;
-use pp_values::texts::Texts;
-use res_core::export_set::ExportSet;
+use export_store::Version;
+use pp_values::{Memory, Text, Texts};
+use res_core::ExportSet;
 use std::alloc::Global;
 use std::sync::Arc;
 

@@ -3,7 +3,7 @@ ghost use Rattle.site_core.specs.declared.history.TheConstants.{MOST_ENTRIES};
 ghost use Rattle.history_tools.specs.Settles.{SettledIsMeant};
 ghost use Rattle.history_tools.specs.OneWorker.{OneAuthorCounts};
 
-use site_core::language::Language;
+use site_core::Language;
 
 /// Where a search ends as settled, each node that the site lists has the set that what all entries mean for it exports.
 pub fn settled_is_meant<L: Language>()

@@ -1,13 +1,9 @@
 //! A language that is lent.
 
-use export_store::version::Version;
-use pp_values::memory::Memory;
-use pp_values::text::Text;
-use pp_values::value::Value;
-use res_core::export_set::ExportSet;
-use site_core::compile_stop::CompileStop;
-use site_core::language::Language;
-use site_core::site_stop::SiteStop;
+use export_store::Version;
+use pp_values::{Memory, Text, Value};
+use res_core::ExportSet;
+use site_core::{CompileStop, Language, SiteStop};
 use std::alloc::Global;
 
 /// Means what the language means that it lends, so that one language serves several rounds.

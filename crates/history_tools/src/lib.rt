@@ -4,15 +4,15 @@
 mod asking;
 mod copying;
 mod ending;
-pub mod laws;
+mod laws;
 mod lent;
 mod outcome;
 mod rounds;
 mod same_workers;
 mod sameness;
 mod set_changes;
-pub mod settle_end;
-pub mod settling;
+mod settle_end;
+mod settling;
 mod telling;
 mod written;
 

@@ -10,10 +10,8 @@ ghost use Rattle.site_core.specs.declared.history.TheConstants.{MOST_ENTRIES};
 ghost use Rattle.history_tools.specs.SameWorkers.{given_to, by_worker, by_workers};
 
 use crate::written::Written;
-use pp_values::memory::Memory;
-use site_core::entries::Entries;
-use site_core::entry::Entry;
-use site_core::history::History;
+use pp_values::Memory;
+use site_core::{Entries, Entry, History};
 use std::collections::BTreeMap;
 
 /// The entries that were counted, and how many of them each author made.

@@ -5,12 +5,9 @@ ghost use Rattle.pp_values.specs.Views.{view};
 ghost use Rattle.res_core.specs.AttributeViews.{settings};
 ghost use Rattle.history_tools.specs.SameSets.{same_setting, same_resource, same_place, same_exported, same_set, same_choice};
 
-use pp_ops::sameness::is_same;
+use pp_ops::is_same;
 use pp_values::Place;
-use res_core::attribute::Attribute;
-use res_core::export_set::ExportSet;
-use res_core::exported::Exported;
-use res_core::resource::Resource;
+use res_core::{Attribute, ExportSet, Exported, Resource};
 
 /// Whether two nodes have the same set, or neither has one.
 pub fn is_same_choice(a: Option<&ExportSet>, b: Option<&ExportSet>) -> bool

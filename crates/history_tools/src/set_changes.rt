@@ -5,11 +5,9 @@ ghost use Rattle.site_core.specs.Sets.{sets_after, sets_from};
 ghost use Rattle.history_tools.specs.Rounds.{FirstApart};
 
 use crate::sameness::is_same_choice;
-use export_store::version::Version;
-use pp_values::memory::Memory;
-use pp_values::text::Text;
-use site_core::entries::Entries;
-use site_core::entry::Entry;
+use export_store::Version;
+use pp_values::{Memory, Text};
+use site_core::{Entries, Entry};
 use std::alloc::Global;
 
 /// The sets after all entries, by those before the entries from this one on.

@@ -1,7 +1,6 @@
-use pp_values::text::Text;
-use res_core::export_set::ExportSet;
-use site_core::history::History;
-use site_core::language::Language;
+use pp_values::Text;
+use res_core::ExportSet;
+use site_core::{History, Language};
 use std::sync::Arc;
 
 /// How a search for a fixed point of a site ended, over faults `F`.

@@ -4,8 +4,8 @@ ghost use Rattle.site_core.specs.Each.{Each};
 ghost use Rattle.history_tools.specs.Rounds.{IsTold, ComesTo, or_refused, or_full, with_reply};
 
 use crate::outcome::Outcome;
-use pp_values::memory::Memory;
-use site_core::reply::ReplyOf;
+use pp_values::Memory;
+use site_core::ReplyOf;
 
 /// What the replies come to, unless memory was wanting for one of them.
 pub fn outcome_of<C: Drop, F: Drop>(replies: Vec<ReplyOf<C, F>>) -> Result<Outcome<F>, Memory>

@@ -1,6 +1,6 @@
 ghost use Rattle.site_core.specs.Counts.{AreCountsOf};
 
-use site_core::history::History;
+use site_core::History;
 use std::collections::BTreeMap;
 
 /// What the rounds of a search have written so far, and how many entries of it each author made.

@@ -1,11 +1,11 @@
 //! Values of the language as JSON, and JSON as values.
 #![tactic(auto)]
 
-pub mod data;
-pub mod forms;
-pub mod reading;
-pub mod stops;
-pub mod value_forms;
+mod data;
+mod forms;
+mod reading;
+mod stops;
+mod value_forms;
 
 pub use data::from_data;
 pub use forms::to_form;

@@ -1,12 +1,7 @@
 //! Copies of lists that the program does not copy yet.
-use pp_values::fact_pairs::FactPairs;
-use pp_values::memory::Memory;
-use pp_values::place::Place;
-use pp_values::places::{Places, copy_places};
-use pp_values::reference::Reference;
-use pp_values::refs::{Refs, copy_refs};
-use pp_values::text::Text;
-use pp_values::value::Value;
+use pp_values::{
+    FactPairs, Memory, Place, Places, Reference, Refs, Text, Value, copy_places, copy_refs,
+};
 use sample_values::reference;
 use std::alloc::Global;
 use std::test::Fail;

@@ -1,10 +1,7 @@
 //! The definitions of manifests by their names.
 use crate::reading::{MAIN, fault_text, parsed};
-use pp_tree::definition::Definition;
-use pp_tree::table::{DefinitionName, Table};
-use pp_values::fault::Stop;
-use pp_values::memory::Memory;
-use pp_values::text::Text;
+use pp_tree::{Definition, DefinitionName, Table};
+use pp_values::{Memory, Stop, Text};
 use std::alloc::Global;
 use std::test::Fail;
 

@@ -1,9 +1,7 @@
 //! What the grammar makes of texts: the outermost form of the first statement of a manifest.
 use crate::reading::{MAIN, fault_text, parsed};
-use pp_tree::expr::{Expr, Form};
-use pp_tree::file::File;
-use pp_tree::statement::{Operand, Statement};
-use pp_values::fault::Stop;
+use pp_tree::{Expr, File, Form, Operand, Statement};
+use pp_values::Stop;
 use std::alloc::{AllocError, Global};
 use std::test::Fail;
 

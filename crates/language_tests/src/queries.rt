@@ -1,14 +1,6 @@
 use collector_query::matches;
-use pp_values::memory::Memory;
-use pp_values::text::Text;
-use pp_values::texts::Texts;
-use pp_values::value::Value;
-use pp_values::values::Values;
-use res_core::attribute::Attribute;
-use res_core::attributes::Attributes;
-use res_core::query::{Queries, Query, QueryBox};
-use res_core::tagging::tags_of;
-use res_core::tags::Tags;
+use pp_values::{Memory, Text, Texts, Value, Values};
+use res_core::{Attribute, Attributes, Queries, Query, QueryBox, Tags, tags_of};
 use std::alloc::Global;
 use std::test::Fail;
 

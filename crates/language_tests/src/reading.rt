@@ -1,8 +1,7 @@
 //! Manifests that are read, and what is told of them.
-use pp_parser::manifest::parse;
-use pp_tree::file::File;
-use pp_values::fault::{Fault, Stop, What};
-use pp_values::text::Text;
+use pp_parser::parse;
+use pp_tree::File;
+use pp_values::{Fault, Stop, Text, What};
 use std::alloc::{AllocError, Global};
 
 pub const MAIN: &str = "manifests/site.pp";

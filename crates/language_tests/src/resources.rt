@@ -1,9 +1,6 @@
 //! What no manifest has: tags of a resource that stands in nothing.
-use pp_values::memory::Memory;
-use pp_values::text::Text;
-use pp_values::texts::Texts;
-use res_core::tagging::tags_of;
-use res_core::tags::Tags;
+use pp_values::{Memory, Text, Texts};
+use res_core::{Tags, tags_of};
 use std::alloc::Global;
 use std::test::Fail;
 

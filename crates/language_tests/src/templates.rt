@@ -2,9 +2,8 @@
 use crate::forms::statement_text;
 use crate::reading::fault_text;
 use epp_text::parse_epp;
-use pp_tree::template::Template;
-use pp_values::fault::Stop;
-use pp_values::text::Text;
+use pp_tree::Template;
+use pp_values::{Stop, Text};
 use std::alloc::{AllocError, Global};
 use std::test::Fail;
 

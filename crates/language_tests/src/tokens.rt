@@ -1,9 +1,5 @@
-use pp_lexer::kind::Kind;
-use pp_lexer::lexing::lex;
-use pp_lexer::scan::{end_line, scan};
-use pp_lexer::token::Token;
-use pp_values::fault::{Fault, Stop};
-use pp_values::text::Text;
+use pp_lexer::{Kind, Token, end_line, lex, scan};
+use pp_values::{Fault, Stop, Text};
 use std::alloc::{AllocError, Global};
 use std::test::Fail;
 

@@ -1,12 +1,6 @@
 //! Names that no text of the grammar has where these calls read them.
 use pp_funcs::{call_pure, needs_evaluator};
-use pp_values::Stop;
-use pp_values::fault::What;
-use pp_values::memory::Memory;
-use pp_values::place::Place;
-use pp_values::printing::kind_text;
-use pp_values::text::Text;
-use pp_values::values::Values;
+use pp_values::{Memory, Place, Stop, Text, Values, What, kind_text};
 use sample_values::kind;
 use std::alloc::Global;
 use std::test::Fail;

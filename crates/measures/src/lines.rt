@@ -1,14 +1,7 @@
 ghost use Rattle.std.specs.Prelude.{◌≡◌, IfOk, None};
 
 use override_rules::{OverrideLine, Overrides, Right};
-use pp_values::Texts;
-use pp_values::fault::Stop;
-use pp_values::kind::Kind;
-use pp_values::memory::Memory;
-use pp_values::place::Place;
-use pp_values::reference::Reference;
-use pp_values::text::Text;
-use pp_values::value::Value;
+use pp_values::{Kind, Memory, Place, Reference, Stop, Text, Texts, Value};
 use res_book::{Book, Mode};
 use res_core::{Attributes, Declared, KnownNames, Resource, Tags};
 use std::alloc::Global;

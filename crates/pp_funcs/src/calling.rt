@@ -16,12 +16,7 @@ use crate::numbers::{absolute, greatest, least};
 use crate::refusal::{Halt, Refusal};
 use crate::repeats::unique;
 use crate::texting::{downcase, failure, strip, upcase};
-use pp_values::fault::{Fault, Stop, What};
-use pp_values::memory::Memory;
-use pp_values::place::Place;
-use pp_values::text::Text;
-use pp_values::value::Value;
-use pp_values::values::Values;
+use pp_values::{Fault, Memory, Place, Stop, Text, Value, Values, What};
 use std::alloc::Global;
 
 /// The value of a function, or its fault at this place, which names the function as it is written.

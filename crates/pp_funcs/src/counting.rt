@@ -8,7 +8,7 @@ ghost use Rattle.pp_funcs.specs.Refusals.{Gives, of_one};
 
 use crate::numbers::natural;
 use crate::refusal::{Halt, Refusal};
-use pp_values::value::Value;
+use pp_values::Value;
 
 pub fn count(args: &[Value]) -> Result<Value, Halt>
     ensures { Gives result (of_one count (views args.now)) }

@@ -6,8 +6,8 @@ ghost use Rattle.pp_funcs.specs.Digging.{Finds, further, dig};
 ghost use Rattle.pp_funcs.specs.Refusals.{Gives};
 
 use crate::refusal::{Halt, Refusal};
-use pp_ops::accessing::{copy_or_undef, member_at};
-use pp_values::value::Value;
+use pp_ops::{copy_or_undef, member_at};
+use pp_values::Value;
 use std::alloc::Global;
 
 pub fn dig(alloc: Global, args: &[Value]) -> Result<Value, Halt>

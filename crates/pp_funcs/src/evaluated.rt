@@ -2,7 +2,7 @@
 ghost use Rattle.std.specs.Prelude.{◌≡◌, map};
 ghost use Rattle.pp_funcs.specs.Names.{needs_evaluator, is_listed};
 
-use pp_values::text::Text;
+use pp_values::Text;
 
 /// The functions that need the site, the log, a template or a lambda.
 pub const EVALUATED: [&str; 19] = [

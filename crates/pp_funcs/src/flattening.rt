@@ -10,12 +10,7 @@ ghost use Rattle.pp_funcs.specs.Texts.{led};
 
 use crate::refusal::{Halt, Refusal};
 use crate::texting::write_separated;
-use pp_values::copying::copy;
-use pp_values::interpolating::write_value;
-use pp_values::memory::Memory;
-use pp_values::text::Text;
-use pp_values::value::Value;
-use pp_values::values::Values;
+use pp_values::{Memory, Text, Value, Values, copy, write_value};
 use std::alloc::Global;
 
 pub fn flatten(alloc: Global, args: &[Value]) -> Result<Value, Halt>

@@ -2,7 +2,7 @@
 ghost use Rattle.std.specs.Prelude.{◌≡◌, map};
 ghost use Rattle.pp_funcs.specs.Names.{function_of, function_named};
 
-use pp_values::text::Text;
+use pp_values::Text;
 
 /// A function that needs neither site, log nor lambda.
 #[derive(Clone, Copy)]

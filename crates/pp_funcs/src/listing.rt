@@ -5,10 +5,7 @@ ghost use Rattle.pp_funcs.specs.Lists.{keys, values};
 ghost use Rattle.pp_funcs.specs.Refusals.{Gives, of_one};
 
 use crate::refusal::{Halt, Refusal};
-use pp_values::copying::copy;
-use pp_values::memory::Memory;
-use pp_values::value::Value;
-use pp_values::values::Values;
+use pp_values::{Memory, Value, Values, copy};
 use std::alloc::Global;
 
 pub fn keys(alloc: Global, args: &[Value]) -> Result<Value, Halt>

@@ -6,7 +6,7 @@ ghost use Rattle.pp_funcs.specs.Numbers.{natural, absolute, least, greatest, cho
 ghost use Rattle.pp_funcs.specs.Refusals.{Gives, of_one};
 
 use crate::refusal::{Halt, Refusal};
-use pp_values::value::Value;
+use pp_values::Value;
 
 pub fn natural(number: u64) -> Result<Value, Halt>
     ensures { Gives result (natural number) }

@@ -1,6 +1,5 @@
 //! Why a function has no result, before its name and its place are known.
-use pp_values::memory::Memory;
-use pp_values::text::Text;
+use pp_values::{Memory, Text};
 
 /// What is wrong with a call.
 #[derive(Drop)]

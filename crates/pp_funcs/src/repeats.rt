@@ -7,10 +7,7 @@ ghost use Rattle.pp_funcs.specs.Refusals.{Gives, of_one};
 
 use crate::refusal::{Halt, Refusal};
 use crate::seen::{Seen, is_new};
-use pp_values::copying::copy;
-use pp_values::memory::Memory;
-use pp_values::value::Value;
-use pp_values::values::Values;
+use pp_values::{Memory, Value, Values, copy};
 use std::alloc::Global;
 
 pub fn unique(alloc: Global, args: &[Value]) -> Result<Value, Halt>

@@ -7,11 +7,8 @@ ghost use Rattle.pp_values.specs.Views.{view};
 ghost use Rattle.pp_funcs.specs.Lists.{behind};
 ghost use Rattle.pp_funcs.specs.Seen.{under, Adds, Looks};
 
-use pp_ops::sameness::is_same;
-use pp_values::interpolating::text_of;
-use pp_values::memory::Memory;
-use pp_values::text::Text;
-use pp_values::value::Value;
+use pp_ops::is_same;
+use pp_values::{Memory, Text, Value, text_of};
 use std::alloc::Global;
 use std::collections::BTreeMap;
 

@@ -8,10 +8,7 @@ ghost use Rattle.pp_funcs.specs.Refusals.{Gives, of_one};
 
 use crate::refusal::{Halt, Refusal};
 use crate::stripping::stripped;
-use pp_values::interpolating::write_value;
-use pp_values::memory::Memory;
-use pp_values::text::Text;
-use pp_values::value::Value;
+use pp_values::{Memory, Text, Value, write_value};
 use std::alloc::Global;
 
 pub fn failure(alloc: Global, args: &[Value]) -> Result<Value, Halt>

@@ -1,4 +1,6 @@
 //! The grammar of manifests as a relation, and its laws.
 #![tactic(auto)]
 
-pub mod laws;
+mod laws;
+
+pub use laws::{reads_the_grammar, reads_the_templates};

@@ -8,8 +8,7 @@ ghost use Rattle.pp_lexer.specs.Escapes.{IsEscape, Splits};
 
 use crate::bytes::byte;
 use crate::numbers::digits_value;
-use pp_values::memory::Memory;
-use pp_values::text::Text;
+use pp_values::{Memory, Text};
 use std::alloc::Global;
 
 /// The quotes round a text.

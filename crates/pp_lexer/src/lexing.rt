@@ -5,13 +5,10 @@ ghost use Rattle.pp_lexer.specs.Tokens as spec;
 ghost use Rattle.pp_values.specs.Answers.{Answers};
 
 use crate::kind::Kind;
-use crate::scan::scan;
+use crate::scanning::scan;
 use crate::token::Token;
 use crate::tokens::Tokens;
-use pp_values::fault::{Fault, Stop, What};
-use pp_values::memory::Memory;
-use pp_values::place::Place;
-use pp_values::text::Text;
+use pp_values::{Fault, Memory, Place, Stop, Text, What};
 use std::alloc::Global;
 
 fn ends_early(kind: Kind) -> bool

@@ -5,7 +5,7 @@ ghost use Rattle.pp_lexer.specs.Modes as spec;
 
 use crate::front::Found;
 use crate::kind::Kind;
-use pp_values::memory::Memory;
+use pp_values::Memory;
 use std::alloc::Global;
 use std::marker::Model;
 

@@ -8,8 +8,7 @@ ghost use Rattle.pp_lexer.specs.Tokens as spec;
 use crate::escapes::{Quotes, said};
 use crate::kind::Kind;
 use crate::numbers::number_said;
-use pp_values::memory::Memory;
-use pp_values::text::Text;
+use pp_values::{Memory, Text};
 use std::alloc::Global;
 use std::marker::Model;
 

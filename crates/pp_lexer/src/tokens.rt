@@ -5,7 +5,7 @@ ghost use Rattle.pp_lexer.specs.Marked as spec;
 
 use crate::kind::Kind;
 use crate::token::Token;
-use pp_values::memory::Memory;
+use pp_values::Memory;
 use std::alloc::Global;
 use std::marker::Model;
 

@@ -8,11 +8,7 @@ ghost use Rattle.pp_values.specs.Datum as d;
 
 use crate::listing::add_copies;
 use crate::refusal::{Halt, Refusal};
-use pp_values::copying::copy;
-use pp_values::memory::Memory;
-use pp_values::pairs::Pairs;
-use pp_values::value::Value;
-use pp_values::values::Values;
+use pp_values::{Memory, Pairs, Value, Values, copy};
 use std::alloc::Global;
 
 /// A member or a part of a list, or the value of a key; what is not there is Undef.

@@ -15,13 +15,7 @@ use crate::membership::is_in;
 use crate::numbers;
 use crate::op::Op;
 use crate::refusal::{Halt, Refusal};
-use pp_values::equality::equal;
-use pp_values::fault::{Fault, Stop, What};
-use pp_values::memory::Memory;
-use pp_values::ordering::order;
-use pp_values::place::Place;
-use pp_values::text::Text;
-use pp_values::value::Value;
+use pp_values::{Fault, Memory, Place, Stop, Text, Value, What, equal, order};
 use std::alloc::Global;
 use std::cmp::Ordering;
 

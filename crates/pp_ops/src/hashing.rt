@@ -7,11 +7,7 @@ ghost use Rattle.pp_ops.specs.Hashes.{merged, overridden, added, named, without_
 ghost use Rattle.pp_ops.specs.Indexes.{told, overridden_by, added_by};
 
 use crate::key_index::Keyed;
-use pp_values::copying::copy;
-use pp_values::keys::same_key;
-use pp_values::memory::Memory;
-use pp_values::pairs::Pairs;
-use pp_values::value::Value;
+use pp_values::{Memory, Pairs, Value, copy, same_key};
 use std::alloc::Global;
 
 /// Both hashes: the right one wins, the keys of the left one keep their places, and new ones follow.

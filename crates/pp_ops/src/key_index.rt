@@ -5,10 +5,7 @@ ghost use Rattle.pp_values.specs.Keys.{same_key, value_at};
 ghost use Rattle.pp_values.specs.Views.{view, pair_views};
 ghost use Rattle.pp_ops.specs.Indexes.{indexed, told};
 
-use pp_values::memory::Memory;
-use pp_values::pairs::Pairs;
-use pp_values::text::Text;
-use pp_values::value::Value;
+use pp_values::{Memory, Pairs, Text, Value};
 use std::alloc::Global;
 use std::collections::BTreeMap;
 

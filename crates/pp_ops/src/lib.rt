@@ -1,17 +1,19 @@
 //! The operators of the language over values that are there already.
 #![tactic(auto)]
 
-pub mod accessing;
-pub mod applying;
-pub mod hashing;
+mod accessing;
+mod applying;
+mod hashing;
 mod key_index;
-pub mod listing;
-pub mod membership;
-pub mod numbers;
-pub mod op;
-pub mod refusal;
-pub mod sameness;
+mod listing;
+mod membership;
+mod numbers;
+mod op;
+mod refusal;
+mod sameness;
 
+pub use accessing::{copy_or_undef, member_at};
 pub use applying::apply_op;
+pub use listing::extended;
 pub use op::Op;
 pub use sameness::is_same;

@@ -6,10 +6,7 @@ ghost use Rattle.pp_ops.specs.Lists.{pair_list, as_members, taken_off, without};
 ghost use Rattle.pp_ops.specs.Same.{same};
 
 use crate::sameness::is_same;
-use pp_values::copying::copy;
-use pp_values::memory::Memory;
-use pp_values::value::Value;
-use pp_values::values::Values;
+use pp_values::{Memory, Value, Values, copy};
 use std::alloc::Global;
 
 /// A list, and behind it the members of another, the pairs of a hash as lists of two, or one more member.

@@ -6,9 +6,7 @@ ghost use Rattle.pp_values.specs.Equal.{equal};
 ghost use Rattle.pp_values.specs.Views.{view, views, pair_views};
 ghost use Rattle.pp_ops.specs.Members.{is_in, is_in_text, begins, occurs};
 
-use pp_values::equality::equal;
-use pp_values::text::Text;
-use pp_values::value::Value;
+use pp_values::{Text, Value, equal};
 
 /// Whether a value is within another: a text in a text, a member in a list, or a key in a hash.
 ///

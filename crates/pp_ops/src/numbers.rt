@@ -5,7 +5,7 @@ ghost use Rattle.pp_ops.specs.Numbers.{in_range, ranged, quotient, distance, rem
 ghost use Rattle.pp_ops.specs.Refusals.{Gives};
 
 use crate::refusal::{Halt, Refusal};
-use pp_values::value::Value;
+use pp_values::Value;
 
 fn ranged(number: Option<i64>) -> Result<Value, Halt>
     ensures { Gives result (ranged number) }

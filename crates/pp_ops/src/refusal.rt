@@ -1,5 +1,5 @@
 //! Why an operator has no result, before its operator and its place are known.
-use pp_values::memory::Memory;
+use pp_values::Memory;
 
 /// What is wrong with the operands.
 #[derive(Clone, Copy)]

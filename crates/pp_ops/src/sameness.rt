@@ -4,8 +4,7 @@ ghost use Rattle.std.specs.Cmp.Lexicographic.{pointwise};
 ghost use Rattle.pp_values.specs.Views.{view, views, pair_views};
 ghost use Rattle.pp_ops.specs.Same.{same, same_pair};
 
-use pp_values::type_equality::same_type;
-use pp_values::value::Value;
+use pp_values::{Value, same_type};
 
 /// Whether two values are the same in every part: texts letter by letter, hashes with their pairs in one order.
 #[cycle(same)]

@@ -1,5 +1,4 @@
-use pp_tree::definition::Name;
-use pp_tree::expr::Expr;
+use pp_tree::{Expr, Name};
 
 /// What stands next behind a statement function that is called without parentheses.
 #[derive(Drop)]

@@ -12,8 +12,8 @@ use crate::inset::{Inset, InsetTree};
 use crate::lists::put;
 use crate::refusal::Refusal;
 use crate::rules::Rules;
-use pp_lexer::kind::Kind;
-use pp_tree::resource::{Attribute, Attributes, Setting, Splat};
+use pp_lexer::Kind;
+use pp_tree::{Attribute, Attributes, Setting, Splat};
 use pp_values::Items;
 use std::alloc::Global;
 

@@ -17,10 +17,8 @@ use crate::kinds::is_bar;
 use crate::lists::put;
 use crate::refusal::Refusal;
 use crate::rules::Rules;
-use pp_lexer::kind::Kind;
-use pp_tree::expr::{Expr, Form, Lambda, Pair};
-use pp_tree::param::Param;
-use pp_tree::statement::Block;
+use pp_lexer::Kind;
+use pp_tree::{Block, Expr, Form, Lambda, Pair, Param};
 use pp_values::{Boxed, Items};
 use std::alloc::Global;
 

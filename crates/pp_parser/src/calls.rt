@@ -9,10 +9,9 @@ use crate::cursor::Cursor;
 use crate::inset::{Inset, InsetTree};
 use crate::refusal::Refusal;
 use crate::rules::Rules;
-use pp_lexer::kind::Kind;
-use pp_tree::expr::{Call, Form};
-use pp_values::Boxed;
-use pp_values::text::Text;
+use pp_lexer::Kind;
+use pp_tree::{Call, Form};
+use pp_values::{Boxed, Text};
 use std::alloc::Global;
 
 impl<F: Fn(Global, &mut Cursor<'_>, usize, Inset) -> Result<InsetTree, Refusal>> Rules<F> {

@@ -10,12 +10,9 @@ use crate::cursor::Cursor;
 use crate::inset::{Inset, InsetTree};
 use crate::refusal::Refusal;
 use crate::rules::Rules;
-use pp_lexer::kind::Kind;
-use pp_tree::collector::{Collector, Comparison, Conjunction, Query, Test};
-use pp_tree::resource::Attributes;
-use pp_tree::statement::Operand;
-use pp_values::text::Text;
-use pp_values::{Boxed, Items};
+use pp_lexer::Kind;
+use pp_tree::{Attributes, Collector, Comparison, Conjunction, Operand, Query, Test};
+use pp_values::{Boxed, Items, Text};
 use std::alloc::Global;
 
 impl<F: Fn(Global, &mut Cursor<'_>, usize, Inset) -> Result<InsetTree, Refusal>> Rules<F> {

@@ -13,10 +13,8 @@ use crate::inset::{Inset, InsetTree};
 use crate::lists::put;
 use crate::refusal::Refusal;
 use crate::rules::Rules;
-use pp_lexer::kind::Kind;
-use pp_tree::conditions::{Case, CaseOption, Elsif, If, Unless};
-use pp_tree::expr::{Expr, Form};
-use pp_tree::statement::Block;
+use pp_lexer::Kind;
+use pp_tree::{Block, Case, CaseOption, Elsif, Expr, Form, If, Unless};
 use pp_values::{Boxed, Items};
 use std::alloc::Global;
 

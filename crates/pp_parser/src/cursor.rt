@@ -8,9 +8,7 @@ ghost use Rattle.pp_parser.specs.Kinds.{is_name, is_word, is_bar, ends_params};
 
 use crate::kinds::{ends_params, is_bar, is_name, is_word};
 use crate::refusal::Refusal;
-use pp_lexer::kind::Kind;
-use pp_lexer::queue::Queue;
-use pp_lexer::token::Token;
+use pp_lexer::{Kind, Queue, Token};
 use std::marker::Model;
 
 /// The tokens that are left, and the line of the first key that stood twice in its hash literal so far.

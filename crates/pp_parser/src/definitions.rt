@@ -15,13 +15,11 @@ use crate::lists::put;
 use crate::operands::{name_of, taken_name};
 use crate::refusal::Refusal;
 use crate::rules::Rules;
-use pp_lexer::kind::Kind;
-use pp_tree::definition::{Class, Define, Definition, Function, Name, Node, NodeName};
-use pp_tree::expr::{Args, Expr, Form, Postfix};
-use pp_tree::param::Params;
-use pp_values::memory::Memory;
-use pp_values::text::Text;
-use pp_values::{Boxed, Items};
+use pp_lexer::Kind;
+use pp_tree::{
+    Args, Class, Define, Definition, Expr, Form, Function, Name, Node, NodeName, Params, Postfix,
+};
+use pp_values::{Boxed, Items, Memory, Text};
 use std::alloc::Global;
 
 /// `default` as a text is the word `default`.

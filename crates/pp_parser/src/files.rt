@@ -13,9 +13,8 @@ use crate::item::Item;
 use crate::operands::taken_name;
 use crate::refusal::Refusal;
 use crate::rules::Rules;
-use pp_lexer::kind::Kind;
-use pp_tree::definition::{Definition, Name};
-use pp_tree::resource::ResourceForm;
+use pp_lexer::Kind;
+use pp_tree::{Definition, Name, ResourceForm};
 use std::alloc::Global;
 
 /// Whether a file ends here.

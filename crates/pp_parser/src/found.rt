@@ -4,10 +4,8 @@ ghost use Rattle.std.specs.Prelude.{◌≡◌, [], IfOk, OnOk};
 ghost use Rattle.pp_parser.specs.Definitions.{nothing_yet, found_with, pending_of, with_definition};
 
 use crate::item::Item;
-use pp_tree::definition::{Definition, Name};
-use pp_tree::statement::Block;
-use pp_values::Items;
-use pp_values::memory::Memory;
+use pp_tree::{Block, Definition, Name};
+use pp_values::{Items, Memory};
 use std::alloc::Global;
 
 /// The statements and definitions of a file, each in order.

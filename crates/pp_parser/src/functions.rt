@@ -16,10 +16,8 @@ use crate::operators::LOOSEST;
 use crate::refusal::Refusal;
 use crate::rules::Rules;
 use crate::started::Started;
-use pp_lexer::kind::Kind;
-use pp_tree::definition::Name;
-use pp_tree::expr::{Args, Expr};
-use pp_tree::statement::{Statement, Words};
+use pp_lexer::Kind;
+use pp_tree::{Args, Expr, Name, Statement, Words};
 use pp_values::{Boxed, Items};
 use std::alloc::Global;
 

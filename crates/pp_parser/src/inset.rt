@@ -1,8 +1,4 @@
-use pp_tree::collector::Query;
-use pp_tree::conditions::CaseOption;
-use pp_tree::expr::Expr;
-use pp_tree::param::Param;
-use pp_tree::statement::Block;
+use pp_tree::{Block, CaseOption, Expr, Param, Query};
 
 /// A part of a manifest that stands one level further in: within a bracket, or behind what opens a level without one.
 /// The flag says that it stands directly within the bars of a lambda's parameters, where a `|` that `{` follows ends them.

@@ -1,5 +1,4 @@
-use pp_tree::definition::{Definition, Name};
-use pp_tree::statement::Statement;
+use pp_tree::{Definition, Name, Statement};
 
 /// What stands at the top of a main manifest.
 #[derive(Drop)]

@@ -3,8 +3,8 @@
 ghost use Rattle.std.specs.Prelude.{◌≡◌, IfOk};
 ghost use Rattle.pp_parser.specs.Keys as spec;
 
-use pp_tree::expr::{Form, Pair};
-use pp_values::memory::Memory;
+use pp_tree::{Form, Pair};
+use pp_values::Memory;
 use std::alloc::Global;
 use std::collections::BTreeSet;
 

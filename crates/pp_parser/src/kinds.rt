@@ -3,7 +3,7 @@
 ghost use Rattle.std.specs.Prelude.{◌≡◌};
 ghost use Rattle.pp_parser.specs.Kinds as spec;
 
-use pp_lexer::kind::Kind;
+use pp_lexer::Kind;
 
 /// A name, also that of a statement function.
 pub fn is_name(next: Option<Kind>) -> bool

@@ -10,7 +10,7 @@ use crate::found::Found;
 use crate::inset::{Inset, InsetTree};
 use crate::refusal::Refusal;
 use crate::rules::Rules;
-use pp_tree::template::Template;
+use pp_tree::Template;
 use std::alloc::Global;
 
 /// As many levels may be open.

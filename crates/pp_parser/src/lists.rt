@@ -2,8 +2,7 @@
 
 ghost use Rattle.std.specs.Prelude.{◌≡◌, [], ◌∷◌, ◌++◌, OnOk};
 
-use pp_values::Items;
-use pp_values::memory::Memory;
+use pp_values::{Items, Memory};
 use std::alloc::Global;
 
 /// Appends an item. Most lists of a manifest have one item, and take room for that alone: `more` says that others follow.

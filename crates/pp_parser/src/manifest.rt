@@ -11,11 +11,8 @@ use crate::cursor::Cursor;
 use crate::found::Found;
 use crate::levels::{main_manifest, module_file};
 use crate::refusal::Refusal;
-use pp_lexer::queue::Queue;
-use pp_lexer::scan::{end_line, scan};
-use pp_lexer::token::Token;
-use pp_tree::file::File;
-use pp_tree::table::{TableStop, table_of};
+use pp_lexer::{Queue, Token, end_line, scan};
+use pp_tree::{File, TableStop, table_of};
 use pp_values::{Fault, Kept, MAIN_MANIFEST, Memory, Place, Stop, Text, What};
 use std::alloc::Global;
 

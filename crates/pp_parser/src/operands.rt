@@ -13,14 +13,9 @@ use crate::operators::LOOSEST;
 use crate::refusal::Refusal;
 use crate::rules::Rules;
 use crate::started::Started;
-use pp_lexer::kind::Kind;
-use pp_lexer::token::Token;
-use pp_tree::definition::Name;
-use pp_tree::expr::{Expr, Form, Postfix};
-use pp_tree::resource::ResourceForm;
-use pp_tree::statement::{Arrow, Chain, Link, Operand, Statement};
-use pp_values::Items;
-use pp_values::memory::Memory;
+use pp_lexer::{Kind, Token};
+use pp_tree::{Arrow, Chain, Expr, Form, Link, Name, Operand, Postfix, ResourceForm, Statement};
+use pp_values::{Items, Memory};
 use std::alloc::Global;
 
 /// A statement, and the name behind it that begins the next one.

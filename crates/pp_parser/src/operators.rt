@@ -12,12 +12,9 @@ use crate::lists::put;
 use crate::refusal::Refusal;
 use crate::rules::Rules;
 use crate::started::Started;
-use pp_lexer::kind::Kind;
-use pp_tree::expr::{Expr, Form, Operation};
-use pp_tree::operators::{BinaryOperator, PrefixOperator};
-use pp_values::memory::Memory;
-use pp_values::text::Text;
-use pp_values::{Boxed, Items};
+use pp_lexer::Kind;
+use pp_tree::{BinaryOperator, Expr, Form, Operation, PrefixOperator};
+use pp_values::{Boxed, Items, Memory, Text};
 use std::alloc::Global;
 
 /// How loosely the loosest binary operator binds.

@@ -15,11 +15,9 @@ use crate::operators::LOOSEST;
 use crate::refusal::Refusal;
 use crate::rules::Rules;
 use crate::started::Started;
-use pp_lexer::kind::Kind;
-use pp_tree::expr::{Expr, Form};
-use pp_tree::param::Param;
-use pp_values::text::Text;
-use pp_values::{Boxed, Items};
+use pp_lexer::Kind;
+use pp_tree::{Expr, Form, Param};
+use pp_values::{Boxed, Items, Text};
 use std::alloc::Global;
 
 /// Whether a name has one segment and no leading `::`.

@@ -13,10 +13,9 @@ use crate::lists::put;
 use crate::refusal::Refusal;
 use crate::rules::Rules;
 use crate::started::Started;
-use pp_lexer::kind::Kind;
-use pp_tree::expr::{Call, Expr, Form, Postfix};
-use pp_values::memory::Memory;
-use pp_values::{Boxed, Items};
+use pp_lexer::Kind;
+use pp_tree::{Call, Expr, Form, Postfix};
+use pp_values::{Boxed, Items, Memory};
 use std::alloc::Global;
 
 /// A value and what followed it.

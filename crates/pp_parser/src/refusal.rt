@@ -1,4 +1,4 @@
-use pp_values::memory::Memory;
+use pp_values::Memory;
 use std::alloc::AllocError;
 
 /// Why a text has no tree. A place is told by the number of tokens from it on, so that 0 is the end of the file.

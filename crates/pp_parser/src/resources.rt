@@ -15,13 +15,9 @@ use crate::kinds::ends_body;
 use crate::lists::put;
 use crate::refusal::Refusal;
 use crate::rules::Rules;
-use pp_lexer::kind::Kind;
-use pp_lexer::token::Token;
-use pp_tree::expr::Expr;
-use pp_tree::resource::{Attributes, Body, Resource, ResourceForm};
-use pp_tree::statement::Operand;
-use pp_values::text::Text;
-use pp_values::{Boxed, Items};
+use pp_lexer::{Kind, Token};
+use pp_tree::{Attributes, Body, Expr, Operand, Resource, ResourceForm};
+use pp_values::{Boxed, Items, Text};
 use std::alloc::Global;
 
 /// A name or the word `class`, which may stand before the braces of a resource.

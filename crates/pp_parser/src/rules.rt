@@ -8,13 +8,8 @@ ghost use Rattle.pp_parser.specs.Nests.{Nests};
 use crate::cursor::Cursor;
 use crate::inset::{Inset, InsetTree};
 use crate::refusal::Refusal;
-use pp_lexer::kind::Kind;
-use pp_lexer::token::Token;
-use pp_tree::collector::Query;
-use pp_tree::conditions::CaseOption;
-use pp_tree::expr::Expr;
-use pp_tree::param::Param;
-use pp_tree::statement::Block;
+use pp_lexer::{Kind, Token};
+use pp_tree::{Block, CaseOption, Expr, Param, Query};
 use std::alloc::Global;
 
 /// The rules of the grammar where so many levels may still be opened.

@@ -1,4 +1,4 @@
-use pp_tree::expr::{Expr, Postfix};
+use pp_tree::{Expr, Postfix};
 use pp_values::Items;
 
 /// What was read of an expression already: a value, and what followed it so far.

@@ -12,11 +12,11 @@ use crate::lists::put;
 use crate::operands::{Read, taken_name};
 use crate::refusal::Refusal;
 use crate::rules::Rules;
-use pp_lexer::kind::Kind;
-use pp_tree::definition::Name;
-use pp_tree::expr::{Args, Expr, Form, Postfix};
-use pp_tree::resource::{Defaults, Override, Reference};
-use pp_tree::statement::{Block, Chain, Operand, Statement};
+use pp_lexer::Kind;
+use pp_tree::{
+    Args, Block, Chain, Defaults, Expr, Form, Name, Operand, Override, Postfix, Reference,
+    Statement,
+};
 use pp_values::{Boxed, Items};
 use std::alloc::Global;
 

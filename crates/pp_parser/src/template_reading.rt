@@ -11,10 +11,8 @@ use crate::cursor::Cursor;
 use crate::levels::template;
 use crate::manifest::fault_at;
 use crate::refusal::Refusal;
-use pp_lexer::queue::Queue;
-use pp_lexer::token::Token;
-use pp_lexer::tokens::Tokens;
-use pp_tree::template::Template;
+use pp_lexer::{Queue, Token, Tokens};
+use pp_tree::Template;
 use pp_values::{Memory, Stop, Text, What};
 use std::alloc::Global;
 

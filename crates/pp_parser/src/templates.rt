@@ -16,10 +16,8 @@ use crate::kinds::ends_params;
 use crate::lists::put;
 use crate::refusal::Refusal;
 use crate::rules::Rules;
-use pp_lexer::kind::Kind;
-use pp_tree::param::Params;
-use pp_tree::statement::{Block, Statement};
-use pp_tree::template::Template;
+use pp_lexer::Kind;
+use pp_tree::{Block, Params, Statement, Template};
 use pp_values::Items;
 use std::alloc::Global;
 

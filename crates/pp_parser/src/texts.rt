@@ -14,11 +14,9 @@ use crate::operators::LOOSEST;
 use crate::refusal::Refusal;
 use crate::rules::Rules;
 use crate::started::Started;
-use pp_lexer::kind::Kind;
-use pp_tree::expr::{Expr, Form, Piece};
-use pp_values::Items;
-use pp_values::memory::Memory;
-use pp_values::text::Text;
+use pp_lexer::Kind;
+use pp_tree::{Expr, Form, Piece};
+use pp_values::{Items, Memory, Text};
 use std::alloc::Global;
 
 /// A first run of characters as the pieces of a text. It is none where there are no characters.

@@ -1,7 +1,6 @@
 use crate::expr::Expr;
 use crate::resource::Attribute;
-use pp_values::Items;
-use pp_values::text::Text;
+use pp_values::{Items, Text};
 
 /// `File <| tag == 'a' |> { mode => '0644' }`, or with `<<|` and `|>>` where `exported` is true.
 #[cycle(tree)]

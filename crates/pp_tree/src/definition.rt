@@ -1,8 +1,7 @@
 use crate::expr::Expr;
 use crate::param::Params;
 use crate::statement::Block;
-use pp_values::Items;
-use pp_values::text::Text;
+use pp_values::{Items, Text};
 
 /// The name of a class, a define or a function, as it is written, and its line.
 #[derive(Drop)]

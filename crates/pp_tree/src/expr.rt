@@ -4,9 +4,7 @@ use crate::conditions::{Case, If, Unless};
 use crate::operators::{BinaryOperator, PrefixOperator};
 use crate::param::Param;
 use crate::statement::Statement;
-use pp_values::memory::Memory;
-use pp_values::text::Text;
-use pp_values::{Boxed, Items};
+use pp_values::{Boxed, Items, Memory, Text};
 use std::alloc::Global;
 
 /// The arguments of a call, of an access or of a type: `1, $a` in `f(1, $a)`.

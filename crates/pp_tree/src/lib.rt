@@ -1,19 +1,19 @@
 //! The tree of a manifest, as it is written: plain data, so that a contract can say that a tree is what a definition computes.
 #![tactic(auto)]
 
-pub mod collector;
-pub mod conditions;
-pub mod definition;
-pub mod expr;
-pub mod file;
-pub mod manifest_file;
-pub mod operators;
-pub mod param;
-pub mod resource;
-pub mod rows;
-pub mod statement;
-pub mod table;
-pub mod template;
+mod collector;
+mod conditions;
+mod definition;
+mod expr;
+mod file;
+mod manifest_file;
+mod operators;
+mod param;
+mod resource;
+mod rows;
+mod statement;
+mod table;
+mod template;
 
 pub use collector::{Collector, Comparison, Conjunction, Query, Test};
 pub use conditions::{Case, CaseOption, Elsif, If, Unless};

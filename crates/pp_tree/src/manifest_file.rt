@@ -1,6 +1,5 @@
 use crate::file::File;
-use pp_values::fault::Fault;
-use pp_values::text::Text;
+use pp_values::{Fault, Text};
 
 /// A manifest of a site: its text, and its tree or its first fault.
 pub struct ManifestFile {

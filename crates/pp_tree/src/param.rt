@@ -1,6 +1,5 @@
 use crate::expr::Expr;
-use pp_values::Items;
-use pp_values::text::Text;
+use pp_values::{Items, Text};
 
 /// The parameters of a class, a define or a lambda: `Integer $a, $b = 1`.
 pub type Params = Items<Param>;

@@ -1,6 +1,5 @@
 use crate::expr::Expr;
-use pp_values::Items;
-use pp_values::text::Text;
+use pp_values::{Items, Text};
 
 /// The lines of a resource, an override, defaults or a collector: `mode => '0644', * => $more`.
 pub type Attributes = Items<Attribute>;

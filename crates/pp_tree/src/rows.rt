@@ -5,9 +5,7 @@ ghost use Rattle.pp_tree.specs.Tables.{rows_of, all_rows, node_rows, further_row
 
 use crate::definition::{Definition, Node, NodeName};
 use crate::table::{DefinitionName, copy_name};
-use pp_values::Items;
-use pp_values::memory::Memory;
-use pp_values::text::Text;
+use pp_values::{Items, Memory, Text};
 use std::alloc::Global;
 
 /// A name, what stands under it, and the line of the name.

@@ -1,8 +1,7 @@
 use crate::collector::Collector;
 use crate::expr::Expr;
 use crate::resource::{Defaults, Override, Resource};
-use pp_values::text::Text;
-use pp_values::{Boxed, Items};
+use pp_values::{Boxed, Items, Text};
 
 /// Statements in braces, or those of a file.
 pub type Block = Items<Statement>;

@@ -10,9 +10,7 @@ ghost use Rattle.pp_values.specs.Answers.{AnswersBy};
 
 use crate::definition::Definition;
 use crate::rows::{Row, all_rows};
-use pp_values::Items;
-use pp_values::memory::Memory;
-use pp_values::text::Text;
+use pp_values::{Items, Memory, Text};
 use std::alloc::Global;
 use std::cmp::Ordering;
 use std::collections::BTreeMap;

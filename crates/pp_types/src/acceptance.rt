@@ -16,11 +16,7 @@ use crate::layer::{Choices, Layer, layer_of};
 use crate::lengths::{has_length, is_among};
 use crate::range::Range;
 use crate::seen::Seen;
-use pp_values::pairs::Pairs;
-use pp_values::ptype::PType;
-use pp_values::texts::Texts;
-use pp_values::value::Value;
-use pp_values::values::Values;
+use pp_values::{PType, Pairs, Texts, Value, Values};
 
 /// Whether the data type accepts the value.
 pub fn accepts(kind: &PType, value: &Value) -> bool

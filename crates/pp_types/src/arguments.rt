@@ -10,15 +10,10 @@ ghost use Rattle.pp_types.specs.Refusals.{Gives};
 use crate::naming::normal_name;
 use crate::range::from_bounds;
 use crate::refusal::Halt;
-use pp_values::bounds::{Bound, Bounds};
-use pp_values::memory::Memory;
-use pp_values::ptype::{EntryType, MemberType, PType, TypeBox};
-use pp_values::reference::Reference;
-use pp_values::text::Text;
-use pp_values::texts::Texts;
-use pp_values::type_copying::copy_type;
-use pp_values::types::Types;
-use pp_values::value::Value;
+use pp_values::{
+    Bound, Bounds, EntryType, MemberType, Memory, PType, Reference, Text, Texts, TypeBox, Types,
+    Value, copy_type,
+};
 use std::alloc::Global;
 
 fn bound_of(value: &Value) -> Option<Bound>

@@ -8,7 +8,7 @@ ghost use Rattle.pp_types.specs.Layers.{choice_forms, seen_form};
 
 use crate::layer::Choices;
 use crate::seen::Seen;
-use pp_values::ptype::PType;
+use pp_values::PType;
 
 pub fn choice_count(choices: Choices<'_>) -> usize
     ensures { result ≡ length (list_of (choice_forms choices.entry)) }

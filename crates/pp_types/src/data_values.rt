@@ -4,7 +4,7 @@ ghost use Rattle.pp_values.specs.Datum.{data_of, entries_of};
 ghost use Rattle.pp_values.specs.Views.{view, views, pair_views};
 ghost use Rattle.pp_types.specs.Accepts.{is_data, are_data, are_data_by_texts};
 
-use pp_values::value::Value;
+use pp_values::Value;
 
 /// Whether the value is Undef, a truth value, an integer, a text, a list of data, or a hash of data whose keys are
 /// texts.

@@ -18,8 +18,7 @@ use crate::range::Range;
 use crate::sameness::{is_any, same};
 use crate::seen::Seen;
 use crate::undef::accepts_undef;
-use pp_values::ptype::PType;
-use pp_values::text::Text;
+use pp_values::{PType, Text};
 
 /// Whether the first data type includes the second.
 pub fn includes(wide: &PType, narrow: &PType) -> bool

@@ -8,11 +8,7 @@ ghost use Rattle.pp_types.specs.Forms as f;
 
 use crate::range::Range;
 use crate::seen::Seen;
-use pp_values::kind::Kind;
-use pp_values::ptype::{EntryType, MemberType, PType, TypeBox};
-use pp_values::text::Text;
-use pp_values::texts::Texts;
-use pp_values::types::Types;
+use pp_values::{EntryType, Kind, MemberType, PType, Text, Texts, TypeBox, Types};
 
 /// What a data type counts as: its outermost form, with what was left out filled in.
 #[derive(Clone, Copy)]

@@ -5,7 +5,7 @@ ghost use Rattle.std.specs.Str.{bytes_eq};
 ghost use Rattle.pp_types.specs.Lengths.{character_count, has_length};
 
 use crate::range::Range;
-use pp_values::text::Text;
+use pp_values::Text;
 
 /// How many characters the text has: one for each byte, where all are ASCII.
 #[tactic(auto, using(crate::proofs::Ascii::ascii_count))]

@@ -16,15 +16,7 @@ use crate::arguments::{
 use crate::data_type::{DataType, data_type_named};
 use crate::naming::{bare_name, named_kind};
 use crate::refusal::Halt;
-use pp_values::fault::{Fault, Stop, What};
-use pp_values::kind::Kind;
-use pp_values::memory::Memory;
-use pp_values::place::Place;
-use pp_values::printing::kind_text;
-use pp_values::ptype::PType;
-use pp_values::text::Text;
-use pp_values::value::Value;
-use pp_values::values::Values;
+use pp_values::{Fault, Kind, Memory, PType, Place, Stop, Text, Value, Values, What, kind_text};
 use std::alloc::Global;
 
 /// The type of this name with these arguments, or the fault at this place that the arguments are wrong, which names the

@@ -3,9 +3,7 @@ ghost use Rattle.std.specs.Prelude.{◌≡◌, IfOk, IsTrue, Some};
 ghost use Rattle.pp_values.specs.Kinds.{is_kind};
 ghost use Rattle.pp_types.specs.Names.{bare_name, normal_name, is_type_name, is_read, read_next, is_word};
 
-use pp_values::kind::Kind;
-use pp_values::memory::Memory;
-use pp_values::text::Text;
+use pp_values::{Kind, Memory, Text};
 use std::alloc::Global;
 
 /// What was read last of a type's name.

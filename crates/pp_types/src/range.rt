@@ -2,7 +2,7 @@
 ghost use Rattle.std.specs.Prelude.{◌≡◌, pos};
 ghost use Rattle.pp_types.specs.Ranges.{lowest, range_from, is_in_range, is_within, same_range, bound_or};
 
-use pp_values::bounds::{Bound, Bounds};
+use pp_values::{Bound, Bounds};
 
 /// Integers from the least to the greatest; none where the least is above the greatest.
 #[derive(Clone, Copy)]

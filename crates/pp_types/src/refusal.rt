@@ -1,5 +1,5 @@
 //! Why a type is not made of its arguments, before its name and place are known.
-use pp_values::memory::Memory;
+use pp_values::Memory;
 use std::alloc::AllocError;
 
 /// Why there is no type.

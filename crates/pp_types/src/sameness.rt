@@ -9,8 +9,7 @@ ghost use Rattle.pp_types.specs.Rules.{same, same_title, is_any};
 use crate::choices::{choice_at, choice_count};
 use crate::layer::{Choices, Layer, layer_of};
 use crate::seen::Seen;
-use pp_values::text::Text;
-use pp_values::texts::Texts;
+use pp_values::{Text, Texts};
 
 pub fn is_any(seen: Seen<'_>) -> bool
     ensures { result ≡ is_any (seen_form seen.entry) }

@@ -1,6 +1,5 @@
 //! The data types that are compared: those that were given, and those that a rule makes of them.
-use pp_values::ptype::PType;
-use pp_values::reference::Reference;
+use pp_values::{PType, Reference};
 
 /// A data type that was given, or one that a rule makes.
 #[derive(Clone, Copy)]

@@ -62,14 +62,14 @@ pub(crate) fn depth_within_pairs(pairs: &[(Value, Value)]) -> u32
 }
 
 /// How deep the deepest of these data types nests.
-pub(crate) fn depth_within_types(types: &[PType]) -> Result<u32, Memory>
-    ensures { IfOk result (λ n. IsDepth n (deepest_type (sorts types.now))) }
+pub(crate) fn depth_within_types(types: &[PType]) -> u32
+    ensures { result ≡ deepest_type (sorts types.now) }
 {
     let mut deepest = 0;
     for ptype in types {
-        deepest = deepest.max(depth_around(depth_of_arguments(ptype))?);
+        deepest = deepest.max(depth_of_arguments(ptype) + 1);
     }
-    Ok(deepest)
+    deepest
 }
 
 /// How deep the data types among a data type's arguments nest.

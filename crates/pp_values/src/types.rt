@@ -3,7 +3,7 @@ ghost use Rattle.pp_values.specs.Depth.{IsDepth, deepest_type};
 ghost use Rattle.pp_values.specs.PTypes.{sort, sorts};
 
 use crate::memory::Memory;
-use crate::nesting::{depth_around, depth_of_arguments, depth_within_types};
+use crate::nesting::{MAX_NESTING, depth_around, depth_of_arguments, depth_within_types};
 use crate::ptype::PType;
 use std::alloc::Global;
 use std::marker::Model;
@@ -54,7 +54,10 @@ impl Types {
     pub fn from_vec(items: Vec<PType>) -> Result<Types, Memory>
         ensures { IfOk result (λ l. l ≡ sorts items.items) }
     {
-        let depth = depth_within_types(items.as_slice())?;
+        let depth = depth_within_types(items.as_slice());
+        if depth > MAX_NESTING {
+            return Err(Memory);
+        }
         Ok(Types { items, depth })
     }
 

@@ -2,15 +2,15 @@
 //! and what they have to do with each other.
 #![tactic(auto)]
 
-pub mod book;
-pub mod collector;
-pub mod containment;
+mod book;
+mod collector;
+mod containment;
 mod faults;
-pub mod mode;
+mod mode;
 mod numbers;
-pub mod relation_line;
-pub mod relations;
-pub mod row;
+mod relation_line;
+mod relations;
+mod row;
 
 pub use book::{Book, DECLARATION_LIMIT};
 pub use collector::Collector;

@@ -3,12 +3,7 @@ ghost use Rattle.std.specs.Prelude.{IsTrue};
 ghost use Rattle.pp_values.specs.Views.{view};
 ghost use Rattle.pp_values.specs.Facts.{are_facts};
 
-use pp_values::kind::Kind;
-use pp_values::memory::Memory;
-use pp_values::pairs::Pairs;
-use pp_values::reference::Reference;
-use pp_values::text::Text;
-use pp_values::value::Value;
+use pp_values::{Kind, Memory, Pairs, Reference, Text, Value};
 use std::alloc::Global;
 
 /// Whether what was made is this text.

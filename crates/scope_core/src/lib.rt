@@ -4,15 +4,16 @@
 mod binding;
 mod cutting;
 mod faults;
-pub mod laws;
+mod laws;
 mod named;
 mod owner;
 mod scope;
-pub mod scope_id;
-pub mod scope_kind;
+mod scope_id;
+mod scope_kind;
 mod scope_names;
-pub mod scopes;
+mod scopes;
 
+pub use laws::scopes_suffice;
 pub use scope_id::ScopeId;
 pub use scope_kind::ScopeKind;
 pub use scopes::Scopes;

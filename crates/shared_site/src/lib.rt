@@ -7,7 +7,6 @@ mod site;
 
 pub use agent_machine::Report;
 pub use pass::{SiteNote, SitePass};
-pub use res_core::request::CompileRequest;
+pub use res_core::CompileRequest;
 pub use site::SharedSite;
-pub use site_core::reply::{Reply, ReplyOf};
-pub use site_core::resume_stop::ResumeStop;
+pub use site_core::{Reply, ReplyOf, ResumeStop};

@@ -10,15 +10,10 @@ ghost use Rattle.shared_site.specs.Resumed.{Goes};
 ghost use Rattle.shared_site.specs.Shows.{opened, core_of, with_entry, IsNew, Lasts};
 
 use hist_lock::StandsFor;
-use pp_values::memory::Memory;
-use site_core::addition::{Addition, add};
-use site_core::done_stop::DoneStop;
-use site_core::entry::Entry;
-use site_core::history::History;
-use site_core::language::Language;
-use site_core::resume_stop::ResumeStop;
-use site_core::snapshot::Snapshot;
-use site_core::state::CoreState;
+use pp_values::Memory;
+use site_core::{
+    Addition, CoreState, DoneStop, Entry, History, Language, ResumeStop, Snapshot, add,
+};
 use std::alloc::Global;
 use std::marker::Model;
 

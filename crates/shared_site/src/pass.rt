@@ -8,7 +8,7 @@ ghost use Rattle.shared_site.specs.Known.{held};
 
 use crate::locked::Locked;
 use hist_lock::{Note, Pass};
-use site_core::language::Language;
+use site_core::Language;
 use std::marker::Model;
 
 /// The right to call a site as one author, and what its holder has seen of the history and added to it. What it has

@@ -17,20 +17,14 @@ ghost use Rattle.shared_site.specs.Resumed.{Resumes};
 use crate::locked::Locked;
 use crate::pass::{SiteNote, SitePass};
 use agent_machine::Report;
-use export_store::version::Version;
+use export_store::Version;
 use hist_lock::HistLock;
-use pp_values::memory::Memory;
-use pp_values::text::Text;
-use res_core::request::CompileRequest;
-use site_core::addition::Addition;
-use site_core::compiling::{added, compile_under, served};
-use site_core::done_stop::DoneStop;
-use site_core::history::History;
-use site_core::language::Language;
-use site_core::plain::Plain;
-use site_core::reply::{Reply, ReplyOf};
-use site_core::resume_stop::ResumeStop;
-use site_core::snapshot::Snapshot;
+use pp_values::{Memory, Text};
+use res_core::CompileRequest;
+use site_core::{
+    Addition, DoneStop, History, Language, Plain, Reply, ReplyOf, ResumeStop, Snapshot, added,
+    compile_under, served,
+};
 use site_io::Gate;
 use std::alloc::Global;
 use std::marker::Model;

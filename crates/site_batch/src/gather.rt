@@ -6,10 +6,9 @@ ghost use Rattle.site_batch.specs.Gathered.{IsOf, AreGathered};
 use crate::answered::Answered;
 use crate::finished::Finished;
 use crate::worker::FinishedOf;
-use pp_values::memory::Memory;
+use pp_values::Memory;
 use shared_site::{SharedSite, SitePass};
-use site_core::language::Language;
-use site_core::reply::Reply;
+use site_core::{Language, Reply};
 use work_pool::{ClaimSeat, Claims};
 
 /// A pass and a seat that stand for those of all workers, and all answers, where memory was had to keep each of them.

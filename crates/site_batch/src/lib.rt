@@ -2,7 +2,7 @@
 #![tactic(auto)]
 
 mod answered;
-pub mod batch;
+mod batch;
 mod finished;
 mod gather;
 mod order;

@@ -7,11 +7,9 @@ ghost use Rattle.shared_site.specs.Known.{IsAnswered};
 
 use crate::answered::Answered;
 use crate::finished::Finished;
-use res_core::request::Request;
-use res_core::requests::Requests;
+use res_core::{Request, Requests};
 use shared_site::{SharedSite, SitePass};
-use site_core::language::Language;
-use site_core::reply::Reply;
+use site_core::{Language, Reply};
 use site_io::Gate;
 use std::alloc::Global;
 use std::sync::Wait;

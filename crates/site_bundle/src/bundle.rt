@@ -1,6 +1,6 @@
 use crate::site::Site;
 use agent_machine::MachineDoc;
-use res_core::requests::Requests;
+use res_core::Requests;
 
 /// A site, what is asked of it, and what is recorded of the machine that it is applied to.
 #[derive(Drop)]

@@ -7,8 +7,7 @@ ghost use Rattle.site_bundle.specs.Keeping.{no_files, with_text};
 use crate::limits::MOST_FILES;
 use crate::manifest_texts::ManifestTexts;
 use hiera_config::SiteData;
-use pp_values::memory::Memory;
-use pp_values::text::Text;
+use pp_values::{Memory, Text};
 use std::alloc::Global;
 
 /// Manifests, which are still to be parsed, and the other files, which are a site's data.

@@ -7,9 +7,7 @@ ghost use Rattle.pp_values.specs.Views.{view};
 ghost use Rattle.site_bundle.specs.Listing.{listed};
 ghost use Rattle.site_bundle.specs.SiteView.{are_rising, have_facts};
 
-use pp_values::memory::Memory;
-use pp_values::text::Text;
-use pp_values::value::Value;
+use pp_values::{Memory, Text, Value};
 use std::alloc::Global;
 use std::collections::BTreeMap;
 use std::marker::Model;

@@ -2,12 +2,9 @@
 ghost use Rattle.std.specs.Prelude.{◌≡◌, ◌+◌, ◌^◌, ◌<◌, length, IfOk, IfSome};
 ghost use Rattle.pp_parser.specs.Manifest.{file_of};
 
-use pp_parser::manifest::parse;
-use pp_tree::file::File;
-use pp_tree::manifest_file::ManifestFile;
-use pp_values::fault::{Fault, Stop};
-use pp_values::memory::Memory;
-use pp_values::text::Text;
+use pp_parser::parse;
+use pp_tree::{File, ManifestFile};
+use pp_values::{Fault, Memory, Stop, Text};
 use std::alloc::Global;
 use std::marker::Model;
 use work_pool::Job;

@@ -6,8 +6,7 @@ ghost use Rattle.site_bundle.specs.Listing.{AreShort};
 ghost use Rattle.site_bundle.specs.SiteView.{put_in};
 
 use crate::manifest::Manifest;
-use pp_values::memory::Memory;
-use pp_values::text::Text;
+use pp_values::{Memory, Text};
 use std::alloc::Global;
 use std::collections::BTreeMap;
 use std::marker::Model;

@@ -6,13 +6,11 @@ ghost use Rattle.site_bundle.specs.Refusals.{Reads, ReadsAs};
 ghost use Rattle.site_bundle.specs.Nodes.{listed_facts, with_node, with_nodes, all_nodes_in, nodes_of};
 
 use crate::bundle_stop::BundleStop;
-use crate::given_facts::given_facts;
 use crate::listed_nodes::ListedNodes;
 use crate::node_name::is_node_name;
 use crate::refusing::{bad_member, bad_shape};
-use pp_values::memory::Memory;
-use pp_values::text::Text;
-use pp_values::value::Value as FactValue;
+use crate::sent_facts::given_facts;
+use pp_values::{Memory, Text, Value as FactValue};
 use serde_json::{Map, Value};
 use std::alloc::Global;
 

@@ -4,7 +4,7 @@ ghost use Rattle.std.specs.Prelude.{◌≡◌, IfOk};
 use crate::manifest::Manifest;
 use crate::manifest_texts::ManifestTexts;
 use crate::site_files::SiteFiles;
-use pp_values::memory::Memory;
+use pp_values::Memory;
 use std::alloc::Global;
 use std::thread::Threads;
 use work_pool::run_all;

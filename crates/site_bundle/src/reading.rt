@@ -18,7 +18,7 @@ use crate::nodes::read_nodes;
 use crate::refusing::bad_shape;
 use crate::requests::{listed_in, read_requests};
 use crate::site::{Site, site_in_turn, site_with};
-use res_core::requests::Requests;
+use res_core::Requests;
 use serde_json::Value;
 use std::alloc::Global;
 use std::thread::Threads;

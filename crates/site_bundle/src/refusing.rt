@@ -3,8 +3,7 @@ ghost use Rattle.std.specs.Prelude.{◌≡◌, IfOk};
 ghost use Rattle.site_bundle.specs.Refusals.{bad_shape, too_large, under, request_path, Tells};
 
 use crate::bundle_stop::BundleStop;
-use pp_values::memory::Memory;
-use pp_values::text::Text;
+use pp_values::{Memory, Text};
 use std::alloc::Global;
 
 /// What stands at this path is not of its kind.

@@ -10,14 +10,12 @@ ghost use Rattle.site_bundle.specs.RequestsOf.{asked_in, asked_from, asked_among
 ghost use Rattle.res_core.specs.AskedFacts.{give_facts};
 
 use crate::bundle_stop::BundleStop;
-use crate::given_facts::given_facts;
 use crate::limits::MOST_REQUESTS;
 use crate::node_name::is_node_name;
 use crate::refusing::{bad_request, bad_request_member, bad_shape, too_large};
-use pp_values::text::Text;
-use pp_values::value::Value as FactValue;
-use res_core::request::{CompileRequest, Request};
-use res_core::requests::Requests;
+use crate::sent_facts::given_facts;
+use pp_values::{Text, Value as FactValue};
+use res_core::{CompileRequest, Request, Requests};
 use serde_json::Value;
 use std::alloc::Global;
 

@@ -7,9 +7,8 @@ ghost use Rattle.site_bundle.specs.Listing.{filed, AreRead};
 ghost use Rattle.site_bundle.specs.SiteView.{are_rising, put_in};
 
 use crate::manifest::Manifest;
-use pp_tree::manifest_file::ManifestFile;
-use pp_values::memory::Memory;
-use pp_values::text::Text;
+use pp_tree::ManifestFile;
+use pp_values::{Memory, Text};
 use std::alloc::Global;
 use std::collections::BTreeMap;
 use std::marker::Model;

@@ -4,8 +4,7 @@ ghost use Rattle.site_bundle.specs.Templates.{is_in_templates, is_template_path,
 
 use epp_text::Templates;
 use hiera_config::SiteData;
-use pp_values::memory::Memory;
-use pp_values::text::Text;
+use pp_values::{Memory, Text};
 use site_io::after_front;
 use std::alloc::Global;
 

@@ -2,8 +2,7 @@ ghost use Rattle.std.specs.Prelude.{◌≡◌, ◌++◌, IfOk};
 ghost use Rattle.site_bundle.specs.Refusals.{stop_line};
 
 use crate::bundle_stop::BundleStop;
-use pp_values::memory::Memory;
-use pp_values::text::Text;
+use pp_values::{Memory, Text};
 use std::alloc::Global;
 
 /// The line that tells why no bundle was read, without a line feed: `B1`, `B2 PATH`, `B3 PATH` or `tree fault

@@ -10,9 +10,7 @@ use crate::bundle_stop::BundleStop;
 use crate::gathered::Gathered;
 use crate::limits::MOST_FILE_BYTES;
 use crate::refusing::too_large;
-use pp_values::memory::Memory;
-use pp_values::text::Text;
-use pp_values::texts::Texts;
+use pp_values::{Memory, Text, Texts};
 use site_io::{Bytes, Content, Listed, Tree, ends_in_slash};
 use std::alloc::Global;
 

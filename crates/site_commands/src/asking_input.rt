@@ -12,9 +12,9 @@ use crate::input::InputStop;
 use crate::journal_input::parse_journal;
 use crate::journal_parts::{behind_line, requests_part};
 use pp_values::Text;
-use res_core::requests::Requests;
+use res_core::Requests;
 use site_bundle::{BundleStop, MOST_BUNDLE_BYTES, Site, read_request_list};
-use site_core::history::History;
+use site_core::History;
 use site_io::{Source, read_all};
 use std::alloc::Global;
 

@@ -11,7 +11,7 @@ use journal_reading::read_journal;
 use json_documents::DocStop;
 use pp_values::{Memory, Text};
 use site_bundle::{BundleStop, MOST_BUNDLE_BYTES, Site};
-use site_core::history::{History, MOST_ENTRIES};
+use site_core::{History, MOST_ENTRIES};
 use site_io::{Source, read_all};
 use std::alloc::Global;
 

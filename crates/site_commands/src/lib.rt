@@ -2,20 +2,20 @@
 #![tactic(auto)]
 
 mod applying;
-pub mod asking_input;
+mod asking_input;
 mod commands;
 mod delivering;
 mod end_lines;
-pub mod ending;
+mod ending;
 mod giving_up;
-pub mod input;
+mod input;
 mod journal_input;
 mod journal_parts;
-pub mod program;
+mod program;
 mod running;
 mod say;
 mod serving;
-pub mod site;
+mod site;
 mod telling;
 
 pub use ending::Ending;

@@ -8,9 +8,8 @@ use crate::language::Language;
 use crate::plain::Plain;
 use crate::snapshot::Snapshot;
 use crate::state::CoreState;
-use pp_values::text::Text;
-use pp_values::value::Value;
-use res_core::export_set::ExportSet;
+use pp_values::{Text, Value};
+use res_core::ExportSet;
 use std::alloc::Global;
 
 /// An entry that is to be added to a history.

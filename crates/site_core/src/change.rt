@@ -5,8 +5,8 @@ ghost use Rattle.site_core.specs.Events.{adds};
 
 use crate::entry::Entry;
 use crate::plain::Plain;
-use export_store::version::Version;
-use pp_values::memory::Memory;
+use export_store::Version;
+use pp_values::Memory;
 use std::alloc::Global;
 use std::sync::Arc;
 

@@ -16,9 +16,8 @@ use crate::language::Language;
 use crate::plain::PlainKind;
 use crate::reply::{Reply, ReplyOf};
 use crate::snapshot::Snapshot;
-use pp_values::copying::copy;
-use pp_values::value::Value;
-use res_core::request::CompileRequest;
+use pp_values::{Value, copy};
+use res_core::CompileRequest;
 use std::alloc::Global;
 
 /// Compiles the node under the snapshot: its catalog with what is to be published, or the reply, where nothing is.

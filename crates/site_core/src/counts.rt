@@ -6,7 +6,7 @@ ghost use Rattle.site_core.specs.EntryViews.{events_of};
 ghost use Rattle.site_core.specs.declared.history.TheConstants.{MOST_ENTRIES};
 
 use crate::entry::Entry;
-use pp_values::memory::Memory;
+use pp_values::Memory;
 use std::alloc::Global;
 use std::collections::BTreeMap;
 

@@ -5,7 +5,7 @@ ghost use Rattle.site_core.specs.EntryViews.{event_of, events_of};
 ghost use Rattle.site_core.specs.Resuming.{past_author, base_of};
 
 use crate::entry::Entry;
-use pp_values::memory::Memory;
+use pp_values::Memory;
 use std::alloc::Global;
 use std::marker::Model;
 use std::sync::Arc;

@@ -3,9 +3,8 @@ ghost use Rattle.site_core.specs.Events.{author_of};
 ghost use Rattle.site_core.specs.EntryViews.{event_of};
 
 use agent_machine::Report;
-use pp_values::text::Text;
-use pp_values::value::Value;
-use res_core::export_set::ExportSet;
+use pp_values::{Text, Value};
+use res_core::ExportSet;
 use std::sync::Arc;
 
 /// An entry of a site's history.

@@ -4,11 +4,9 @@ ghost use Rattle.pp_values.specs.Facts.{are_facts};
 
 use crate::compile_stop::CompileStop;
 use crate::site_stop::SiteStop;
-use export_store::version::Version;
-use pp_values::memory::Memory;
-use pp_values::text::Text;
-use pp_values::value::Value;
-use res_core::export_set::ExportSet;
+use export_store::Version;
+use pp_values::{Memory, Text, Value};
+use res_core::ExportSet;
 use std::alloc::Global;
 
 /// A language in which a site is written.

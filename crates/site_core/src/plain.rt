@@ -2,7 +2,7 @@ ghost use Rattle.std.specs.Prelude.{◌≡◌};
 ghost use Rattle.site_core.specs.Said.{kind_of};
 
 use agent_machine::Report;
-use pp_values::text::Text;
+use pp_values::Text;
 
 /// What is asked for by one entry, which may stand behind any others.
 #[derive(Drop)]

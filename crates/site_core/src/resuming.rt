@@ -5,8 +5,8 @@ ghost use Rattle.site_core.specs.EntryViews.{event_of, events_of};
 ghost use Rattle.site_core.specs.Sets.{sets_at, sets_after, first_of, site_in, site_at};
 
 use crate::entry::Entry;
-use export_store::version::Version;
-use pp_values::memory::Memory;
+use export_store::Version;
+use pp_values::Memory;
 use std::alloc::Global;
 use std::sync::Arc;
 

@@ -1,4 +1,4 @@
-use export_store::version::Version;
+use export_store::Version;
 use std::sync::Arc;
 
 /// What a compile sees of a history: the site and the exported sets after its first `k` entries.

@@ -9,14 +9,8 @@ ghost use Rattle.site_docs.specs.DocumentLaws.{CatalogsAreToldApart};
 ghost use Rattle.site_docs.specs.CatalogText.{held_data, edge_data, catalog_data, catalog_text};
 
 use json_documents::{JsonOutput, ended, write_value};
-use pp_values::kind::Kind;
-use pp_values::memory::Memory;
-use pp_values::printing::kind_text;
-use pp_values::text::Text;
-use res_core::attributes::Attributes;
-use res_core::catalog::Catalog;
-use res_core::edge::Edge;
-use res_core::held::Held;
+use pp_values::{Kind, Memory, Text, kind_text};
+use res_core::{Attributes, Catalog, Edge, Held};
 use std::alloc::{AllocError, Global};
 
 /// The catalog as a document: one line of compact JSON, with a line feed at its end.

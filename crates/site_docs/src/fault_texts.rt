@@ -6,12 +6,9 @@ ghost use Rattle.site_docs.specs.FaultText.{fault_text};
 
 use crate::fault_names::FAULT_NAMES;
 use json_documents::ended;
-use pp_values::fault::{Fault, Subject, What};
-use pp_values::memory::Memory;
-use pp_values::place::Place;
-use pp_values::printing::{write_kind, write_reference};
-use pp_values::reference::Reference;
-use pp_values::text::Text;
+use pp_values::{
+    Fault, Memory, Place, Reference, Subject, Text, What, write_kind, write_reference,
+};
 use std::alloc::Global;
 
 /// The line that tells a fault, as `F14 manifests/site.pp:2 Duplicate Notify[a] manifests/site.pp:1`,

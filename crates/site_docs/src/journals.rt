@@ -24,18 +24,12 @@ use crate::site_texts::site_form;
 use agent_docs::report_form;
 use agent_machine::Report;
 use json_documents::{json_text, text_forms};
-use json_values::value_forms::value_form;
-use pp_values::memory::Memory;
-use pp_values::place::Place;
-use pp_values::printing::kind_text;
-use pp_values::text::Text;
-use pp_values::value::Value;
-use res_core::export_set::ExportSet;
-use res_core::exported::Exported;
+use json_values::value_form;
+use pp_values::{Memory, Place, Text, Value, kind_text};
+use res_core::{ExportSet, Exported};
 use serde_json::{Value as Json, json};
-use site_bundle::site::Site;
-use site_core::entry::Entry;
-use site_core::history::History;
+use site_bundle::Site;
+use site_core::{Entry, History};
 use std::alloc::{AllocError, Global};
 
 /// The history as text: a line of compact JSON for each entry, and a last line with their number.

@@ -1,14 +1,14 @@
 //! The texts of documents: catalogs, logs, faults, sites, journals and replies, and those of reports and machines.
 #![tactic(auto)]
 
-pub mod catalog_texts;
-pub mod fault_names;
-pub mod fault_texts;
-pub mod journals;
-pub mod log_texts;
-pub mod replies;
+mod catalog_texts;
+mod fault_names;
+mod fault_texts;
+mod journals;
+mod log_texts;
+mod replies;
 mod resource_forms;
-pub mod site_texts;
+mod site_texts;
 
 pub use agent_docs::{
     DocStop, MachineStop, machine_of, machines_are_told_apart, read_machine, read_report,

@@ -2,10 +2,8 @@
 ghost use Rattle.std.specs.Prelude.{◌≡◌, ◌++◌, string_bytes, IfOk, OnOk};
 ghost use Rattle.site_docs.specs.LogText.{log_line, log_text};
 
-use pp_values::memory::Memory;
-use pp_values::text::Text;
-use res_core::log_line::LogLine;
-use res_core::log_lines::LogLines;
+use pp_values::{Memory, Text};
+use res_core::{LogLine, LogLines};
 use std::alloc::Global;
 
 /// The log as text: for each line, in the order in which they were written, one such as `notice: hello` with a line

@@ -12,12 +12,10 @@ ghost use Rattle.site_docs.specs.ReplyText.{reported_object as object_of_reporte
 ghost use Rattle.site_docs.specs.ReplyText.{reply_text, reply_line};
 
 use json_documents::json_text;
-use pp_values::memory::Memory;
-use pp_values::text::Text;
-use res_core::request::Request;
+use pp_values::{Memory, Text};
+use res_core::Request;
 use serde_json::{Value as Json, json};
-use site_core::language::Language;
-use site_core::reply::{Reply, ReplyOf};
+use site_core::{Language, Reply, ReplyOf};
 use std::alloc::{AllocError, Global};
 
 /// The line that tells what the request was answered, with its line feed. Replies are numbered as their requests are.

@@ -4,9 +4,9 @@ ghost use Rattle.serde_json.specs.Data.{object};
 ghost use Rattle.serde_json.specs.View.{view as json_view};
 ghost use Rattle.json_values.specs.ValueForm.{setting_members};
 
-use json_values::value_forms::value_form;
-use pp_values::memory::Memory;
-use res_core::attributes::Attributes;
+use json_values::value_form;
+use pp_values::Memory;
+use res_core::Attributes;
 use serde_json::{Map, Value as Json};
 use std::alloc::Global;
 

@@ -8,15 +8,13 @@ ghost use Rattle.site_bundle.specs.Listing.{filed, listed};
 ghost use Rattle.site_docs.specs.SiteText.{site_object as object_of_site, file_settings, file_members, site_data};
 ghost use Rattle.site_docs.specs.SiteText.{site_text};
 
-use hiera_config::site_data::DataFile;
+use hiera_config::DataFile;
 use json_documents::json_text;
-use json_values::value_forms::value_form;
-use pp_tree::manifest_file::ManifestFile;
-use pp_values::memory::Memory;
-use pp_values::text::Text;
-use pp_values::value::Value;
+use json_values::value_form;
+use pp_tree::ManifestFile;
+use pp_values::{Memory, Text, Value};
 use serde_json::{Map, Value as Json, json};
-use site_bundle::site::{Site, data_of};
+use site_bundle::{Site, data_of};
 use std::alloc::{AllocError, Global};
 use std::collections::BTreeMap;
 

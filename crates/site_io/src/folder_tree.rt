@@ -4,9 +4,7 @@ ghost use Rattle.site_io.specs.Folders.{Lists, Reads, untold_folder};
 
 use super::names::{folder_name, texts_of};
 use super::{Bytes, Content, Listed, ReadStop, ReaderSource, Tree, read_all};
-use pp_values::memory::Memory;
-use pp_values::text::Text;
-use pp_values::texts::Texts;
+use pp_values::{Memory, Text, Texts};
 use std::alloc::Global;
 use std::collections::BTreeSet;
 use std::fs::{DirEntry, Files, ReadDir};

@@ -4,9 +4,7 @@ ghost use Rattle.site_io.specs.ScriptedFolder.{folder_of, new_folder, holding, i
 
 use super::names::{folder_front, put_name, texts_of};
 use super::{Bytes, Content, Listed, Tree};
-use pp_values::memory::Memory;
-use pp_values::text::Text;
-use pp_values::texts::Texts;
+use pp_values::{Memory, Text, Texts};
 use std::alloc::{AllocError, Global};
 use std::collections::{BTreeMap, BTreeSet};
 use std::marker::Model;

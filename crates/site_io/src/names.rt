@@ -3,9 +3,7 @@ ghost use Rattle.std.specs.Prelude.{◌≡◌, ◌++◌, codes, option_map, IfOk
 ghost use Rattle.pp_values.specs.Rising.{with_texts};
 ghost use Rattle.site_io.specs.Folders.{ends_in_slash, folder_front, after_front, first_name, name_in, name_behind};
 
-use pp_values::memory::Memory;
-use pp_values::text::Text;
-use pp_values::texts::Texts;
+use pp_values::{Memory, Text, Texts};
 use std::alloc::Global;
 use std::collections::BTreeSet;
 

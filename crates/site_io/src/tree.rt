@@ -1,8 +1,7 @@
 ghost use Rattle.site_io.specs.Folders.{Folder, Lists, Reads};
 
 use super::Bytes;
-use pp_values::text::Text;
-use pp_values::texts::Texts;
+use pp_values::{Text, Texts};
 use std::alloc::Global;
 
 /// What lies in a folder.

@@ -1,6 +1,6 @@
 //! Replies to requests, in the order of their requests.
 #![tactic(auto)]
 
-pub mod replies;
+mod replies;
 
 pub use replies::Replies;

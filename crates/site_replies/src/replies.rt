@@ -1,8 +1,7 @@
 ghost use Rattle.std.specs.Prelude.{◌≡◌, [], ◌∷◌, ◌++◌, ◌↔◌, length, is_ok, if◌then◌else◌, IsTrue};
 
-use pp_values::memory::Memory;
-use site_core::language::Language;
-use site_core::reply::Reply;
+use pp_values::Memory;
+use site_core::{Language, Reply};
 use std::alloc::Global;
 use std::marker::Model;
 

@@ -2,7 +2,7 @@
 ghost use Rattle.site_core.specs.declared.history.TheConstants.{MOST_ENTRIES};
 ghost use Rattle.site_sequence.specs.SequenceLaws.{AnswersAreMeant, MeantIsAnswered, RepliesNameEntries, PublicationsAreInTurn, TurnsAreWhole, WholeIsInTurn, OneResult};
 
-use site_core::language::Language;
+use site_core::Language;
 
 /// Where no reply is want of memory, requests have one result.
 pub fn results_are_determined<L: Language>()

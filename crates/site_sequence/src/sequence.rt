@@ -9,17 +9,12 @@ ghost use Rattle.site_core.specs.Runs.{Whole};
 ghost use Rattle.site_core.specs.declared.plain.Plain.TheVariants as ask;
 ghost use Rattle.site_sequence.specs.Sequence.{Takes, AnsweredInTurn};
 
-use pp_values::memory::Memory;
-use pp_values::text::Text;
-use res_core::request::{CompileRequest, Request};
-use res_core::requests::Requests;
-use site_core::addition::add;
-use site_core::compiling::{added, compile_under, served};
-use site_core::history::{History, MOST_ENTRIES};
-use site_core::language::Language;
-use site_core::plain::PlainKind;
-use site_core::reply::{Reply, ReplyOf};
-use site_core::state::CoreState;
+use pp_values::{Memory, Text};
+use res_core::{CompileRequest, Request, Requests};
+use site_core::{
+    CoreState, History, Language, MOST_ENTRIES, PlainKind, Reply, ReplyOf, add, added,
+    compile_under, served,
+};
 use site_replies::Replies;
 use std::alloc::Global;
 

@@ -4,7 +4,7 @@ ghost use Rattle.site_serve.specs.Steps.{asked};
 
 use agent_machine::Report;
 use pp_values::Text;
-use res_core::request::CompileRequest;
+use res_core::CompileRequest;
 
 /// What a request asks of a site.
 #[derive(Drop)]

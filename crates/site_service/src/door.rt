@@ -4,7 +4,7 @@ ghost use Rattle.std.specs.Prelude.{◌≡◌, ◌≤◌};
 use crate::service_stop::ServiceStop;
 use crate::visit::Visit;
 use shared_site::{SharedSite, SitePass};
-use site_core::language::Language;
+use site_core::Language;
 use site_io::{Accept, Gate, Listener};
 use std::alloc::Global;
 use std::sync::Wait;

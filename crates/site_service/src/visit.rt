@@ -2,7 +2,7 @@
 ghost use Rattle.std.specs.Prelude.{◌≡◌};
 
 use shared_site::{SharedSite, SitePass};
-use site_core::language::Language;
+use site_core::Language;
 use site_io::{Connection, Gate};
 use site_serve::{ConnEnd, serve_connection};
 use std::alloc::Global;

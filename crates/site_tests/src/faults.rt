@@ -1,11 +1,7 @@
 //! Copies and lines of faults that no manifest comes to yet.
-use pp_values::fault::{Fault, Subject, What};
-use pp_values::memory::Memory;
-use pp_values::place::Place;
-use pp_values::refs::Refs;
-use pp_values::text::Text;
+use pp_values::{Fault, Memory, Place, Refs, Subject, Text, What};
 use sample_values::{kind, reference};
-use site_docs::fault_texts::fault_text;
+use site_docs::fault_text;
 use std::alloc::Global;
 use std::test::Fail;
 

@@ -1,10 +1,9 @@
 //! Variables and operands that no manifest has: a name with a capital letter, `trusted` before the evaluator has set it, and
 //! an index that stands in no list.
 use expr_eval::{combine, type_value};
-use pp_ops::op::Op;
+use pp_ops::Op;
 use pp_types::is_type_name;
-use pp_values::fault::{Stop, What};
-use pp_values::{Memory, Place, Text, Value};
+use pp_values::{Memory, Place, Stop, Text, Value, What};
 use scope_core::{ScopeId, ScopeKind, Scopes};
 use std::alloc::Global;
 use std::test::Fail;

@@ -1,10 +1,9 @@
-use compile_core::language::PuppetLanguage;
-use pp_values::memory::Memory;
-use pp_values::text::Text;
-use res_core::request::Request;
+use compile_core::PuppetLanguage;
+use pp_values::{Memory, Text};
+use res_core::Request;
 use sample_values::says;
-use site_core::reply::{Reply, ReplyOf};
-use site_docs::replies::write_reply;
+use site_core::{Reply, ReplyOf};
+use site_docs::write_reply;
 use std::alloc::Global;
 use std::test::Fail;
 

@@ -2,17 +2,11 @@
 ghost use Rattle.std.specs.Prelude.{◌≤◌, length, IfOk, IsTrue};
 ghost use Rattle.res_core.specs.AskedFacts.{give_facts};
 
-use export_store::version::Version;
-use pp_values::memory::Memory;
-use pp_values::text::Text;
-use pp_values::value::Value;
-use res_core::export_set::ExportSet;
-use res_core::exports::Exports;
-use res_core::requests::Requests;
+use export_store::Version;
+use pp_values::{Memory, Text, Value};
+use res_core::{ExportSet, Exports, Requests};
 use site_batch::{BatchResult, resume_batch, run_batch};
-use site_core::compile_stop::CompileStop;
-use site_core::language::Language;
-use site_core::site_stop::SiteStop;
+use site_core::{CompileStop, Language, SiteStop};
 use site_io::OpenGate;
 use std::alloc::Global;
 use std::sync::atomic::{AtomicU64, Ordering};

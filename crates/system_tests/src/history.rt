@@ -2,15 +2,9 @@ ghost use Rattle.std.specs.Prelude.{◌≤◌};
 ghost use Rattle.site_core.specs.declared.history.TheConstants.{MOST_ENTRIES};
 ghost use Rattle.site_core.specs.Snapshots.{Of};
 
-use pp_values::memory::Memory;
-use pp_values::text::Text;
+use pp_values::{Memory, Text};
 use sample_values::no_facts;
-use site_core::compile_stop::CompileStop;
-use site_core::done_stop::DoneStop;
-use site_core::language::Language;
-use site_core::reply::{Reply, ReplyOf};
-use site_core::snapshot::Snapshot;
-use site_core::state::CoreState;
+use site_core::{CompileStop, CoreState, DoneStop, Language, Reply, ReplyOf, Snapshot};
 use std::alloc::Global;
 use std::test::Fail;
 use toy_language::{Toy, toy_site, write_entries, write_reply};

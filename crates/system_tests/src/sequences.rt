@@ -1,8 +1,6 @@
-use pp_values::memory::Memory;
-use site_core::reply::Reply;
-use site_core::state::CoreState;
-use site_sequence::run_sequence;
-use site_sequence::sequence::answer;
+use pp_values::Memory;
+use site_core::{CoreState, Reply};
+use site_sequence::{answer, run_sequence};
 use std::alloc::Global;
 use std::test::Fail;
 use toy_language::{Toy, request, requests, toy_site, write_entries, write_reply};

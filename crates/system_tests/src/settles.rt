@@ -2,9 +2,7 @@
 ghost use Rattle.std.specs.Prelude.{◌≡◌, [], ◌∷◌, codes, IfOk};
 
 use history_tools::{SettleEnd, SettleResult, settle};
-use pp_values::Texts;
-use pp_values::memory::Memory;
-use pp_values::text::Text;
+use pp_values::{Memory, Text, Texts};
 use site_io::OpenGate;
 use std::alloc::Global;
 use std::sync::Wait;

@@ -7,10 +7,8 @@ ghost use Rattle.site_core.specs.declared.history.TheConstants.{MOST_ENTRIES};
 ghost use Rattle.shared_site.specs.Known.{held};
 
 use agent_machine::{Report, ReportLines};
-use pp_values::memory::Memory;
-use pp_values::text::Text;
-use pp_values::value::Value;
-use res_core::request::CompileRequest;
+use pp_values::{Memory, Text, Value};
+use res_core::CompileRequest;
 use sample_values::no_facts;
 use shared_site::{Reply, ReplyOf, SharedSite, SitePass};
 use site_io::{Gate, OpenGate};

@@ -4,11 +4,8 @@ ghost use Rattle.res_core.specs.RequestViews.{asked};
 ghost use Rattle.pp_values.specs.Views.{view};
 ghost use Rattle.res_core.specs.AskedFacts.{has_facts, asks_with_facts, give_facts};
 
-use pp_values::memory::Memory;
-use pp_values::text::Text;
-use pp_values::value::Value;
-use res_core::request::{CompileRequest, Request};
-use res_core::requests::Requests;
+use pp_values::{Memory, Text, Value};
+use res_core::{CompileRequest, Request, Requests};
 use sample_values::no_facts;
 use std::alloc::Global;
 

@@ -1,7 +1,6 @@
 //! Replies and entries of histories over the toy language, as words.
 use crate::toy::{Toy, ToySite};
-use site_core::entry::Entry;
-use site_core::reply::{Reply, ReplyOf};
+use site_core::{Entry, Reply, ReplyOf};
 use std::alloc::AllocError;
 
 /// A reply, such as `served 1 1 false;`.

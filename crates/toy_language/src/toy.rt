@@ -3,16 +3,10 @@ ghost use Rattle.std.specs.Prelude.{IsTrue};
 ghost use Rattle.pp_values.specs.Views.{view};
 ghost use Rattle.pp_values.specs.Facts.{are_facts};
 
-use export_store::version::Version;
-use pp_values::memory::Memory;
-use pp_values::pairs::Pairs;
-use pp_values::text::Text;
-use pp_values::value::Value;
-use res_core::export_set::ExportSet;
-use res_core::exports::Exports;
-use site_core::compile_stop::CompileStop;
-use site_core::language::Language;
-use site_core::site_stop::SiteStop;
+use export_store::Version;
+use pp_values::{Memory, Pairs, Text, Value};
+use res_core::{ExportSet, Exports};
+use site_core::{CompileStop, Language, SiteStop};
 use std::alloc::Global;
 
 /// Lists these facts for node `a`. A strict one refuses node `b`.

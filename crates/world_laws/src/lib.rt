@@ -1,4 +1,6 @@
 //! Laws of evaluation, over the definitions that the evaluator equals; no code.
 #![tactic(auto)]
 
-pub mod growth;
+mod growth;
+
+pub use growth::{all_is_placed, calls_only_add, extending, parts_only_add};

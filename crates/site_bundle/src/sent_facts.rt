@@ -4,8 +4,7 @@ ghost use Rattle.serde_json.specs.View.{view};
 ghost use Rattle.site_bundle.specs.GivenFacts.{given_facts};
 
 use json_values::{DataStop, Numbers, from_data};
-use pp_values::memory::Memory;
-use pp_values::value::Value;
+use pp_values::{Memory, Value};
 use serde_json::Value as Json;
 use std::alloc::Global;
 

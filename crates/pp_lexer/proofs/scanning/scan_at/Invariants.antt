@@ -1,6 +1,6 @@
 use Rattle.std.proofs.Common.{◌≡◌, ◌+◌, ◌≤◌, ◌++◌, length, IsUtf8}
 use Rattle.pp_lexer.specs.Tokens.{tokens_at, tokens_from}
-use Rattle.pp_lexer.proofs.scan.scan_at.Given as goal
+use Rattle.pp_lexer.proofs.scanning.scan_at.Given as goal
 
 abbrev pub invariant-loop-rest : goal.invariant-loop-rest
 invariant-loop-rest l = record {

@@ -21,7 +21,7 @@ use crate::texts::{in_text, quoted};
 use crate::token::Token;
 use crate::tokens::Tokens;
 use crate::words::{WordSort, begins_word, name, type_name, variable};
-use pp_values::memory::Memory;
+use pp_values::Memory;
 use std::alloc::Global;
 
 /// The token at a place outside of texts, where neither white space nor a comment stands.

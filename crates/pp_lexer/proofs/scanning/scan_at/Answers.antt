@@ -3,7 +3,7 @@ use Rattle.std.proofs.lemmas.Str.{IsUtf8-drop}
 use Rattle.pp_lexer.specs.Tokens.{tokens_at}
 use Rattle.pp_lexer.proofs.LineLemmas.{lines_cut}
 use Rattle.pp_lexer.proofs.ScanLemmas.{found_turn, ends_cut, some_cut}
-use Rattle.pp_lexer.proofs.scan.scan_at.Goals as goal
+use Rattle.pp_lexer.proofs.scanning.scan_at.Goals as goal
 
 pub loop-rest-init : goal.loop-rest-init
 unfolding tokens_at

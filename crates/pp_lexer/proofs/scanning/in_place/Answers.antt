@@ -1,5 +1,5 @@
 use Rattle.pp_lexer.proofs.PartLemmas.{in_place_is_part}
-use Rattle.pp_lexer.proofs.scan.in_place.Goals as goal
+use Rattle.pp_lexer.proofs.scanning.in_place.Goals as goal
 
 pub returns-clause-part : goal.returns-clause-part
 returns-clause-part c =

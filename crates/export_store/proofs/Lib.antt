@@ -1,4 +1,6 @@
 pub mod SetLemmas
+pub mod SameSets
+mod SameValues
 pub mod Sent
 mod MapLemmas
 mod EntryLemmas

@@ -8,7 +8,7 @@ use Rattle.res_core.specs.declared.export_set.ExportSet.{ExportSet}
 use Rattle.site_core.specs.Meaning.{Meaning}
 use Rattle.site_core.specs.Events.{Event, opens, publishes, adds}
 use Rattle.site_core.specs.declared.plain.Plain.TheVariants as ask
-use Rattle.history_audit.specs.Sameness.{same_set}
+use Rattle.export_store.specs.Sameness.{same_set}
 use Rattle.history_audit.specs.Audits.{audited_from, audited}
 use Rattle.history_audit.specs.VerdictTexts.{verdict_form}
 use Rattle.history_audit.specs.declared.verdict.Part.TheVariants as part

@@ -1,5 +1,3 @@
-mod SameValues
-mod SameSets
 mod Rules
 mod Exact
 mod First

@@ -10,12 +10,12 @@ use Rattle.site_core.specs.Events.{Publication, Event, opens, publishes, adds, c
 use Rattle.site_core.specs.Sets.{sets_at, latest_site, site_at}
 use Rattle.site_core.specs.Legal.{meaning_at, MayFollow, Legal}
 use Rattle.site_core.proofs.Legal.{prefixes, some_site}
-use Rattle.history_audit.specs.Sameness.{same_set}
+use Rattle.export_store.specs.Sameness.{same_set}
 use Rattle.history_audit.specs.Audits.{first_broken, wrong_call, is_earlier, wrong_exports, wrong_exports_at, broken_part}
 use Rattle.history_audit.specs.Laws.{PublicationBreaks, BreaksFirst}
 use Rattle.history_audit.specs.declared.verdict.Part.{Part}
 use Rattle.history_audit.specs.declared.verdict.Part.TheVariants as part
-use Rattle.history_audit.proofs.SameSets.{set_Decides}
+use Rattle.export_store.proofs.SameSets.{set_Decides}
 
 -- what makes none of two parts broken, and what makes this one the first
 none_broken : (first later : Option Part) → first_broken first later ≡ None → (first ≡ None) × (later ≡ None)

@@ -5,7 +5,7 @@ use Rattle.res_core.specs.declared.export_set.ExportSet.{ExportSet}
 use Rattle.site_core.specs.Meaning.{Meaning}
 use Rattle.site_core.specs.Events.{Publication, Event, opens, publishes, adds, calls_of}
 use Rattle.site_core.specs.Legal.{meaning_at}
-use Rattle.history_audit.specs.Sameness.{same_set}
+use Rattle.export_store.specs.Sameness.{same_set}
 use Rattle.history_audit.specs.declared.verdict.Part.{Part}
 use Rattle.history_audit.specs.declared.verdict.Part.TheVariants as part
 use Rattle.history_audit.specs.declared.verdict.Verdict.{Verdict}

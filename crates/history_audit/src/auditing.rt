@@ -10,9 +10,9 @@ ghost use Rattle.history_audit.specs.Audits.{wrong_call, wrong_exports, broken_p
 ghost use Rattle.history_audit.specs.Pasts.{Keeps};
 
 use crate::past::Past;
-use crate::sameness::is_same_set;
 use crate::stage::Stage;
 use crate::verdict::{Part, Verdict};
+use export_store::is_same_set;
 use pp_values::{Memory, Text, Value};
 use res_core::ExportSet;
 use site_core::{CompileStop, Entry, History, Language};

@@ -4,7 +4,6 @@
 mod auditing;
 mod laws;
 mod past;
-mod sameness;
 mod stage;
 mod verdict;
 

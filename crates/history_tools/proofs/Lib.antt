@@ -11,7 +11,6 @@ pub mod Opening
 pub mod Replied
 pub mod Rounded
 pub mod SameSets
-pub mod SameValues
 pub mod SetSteps
 mod SettleExamples
 pub mod Settled

@@ -1,30 +1,7 @@
--- When two export sets are the same, in every part and letter by letter.
-use Rattle.std.specs.Prelude.{◌==◌, Bool, true, false, ◌&&◌, Option, None, Some}
-use Rattle.std.specs.Cmp.Lexicographic.{pointwise}
-use Rattle.std.specs.Str.{bytes_eq}
-use Rattle.pp_values.specs.declared.place.Place.{Place}
-use Rattle.pp_values.specs.Settings.{Setting}
-use Rattle.pp_ops.specs.Same.{same}
-use Rattle.res_core.specs.declared.exported.Exported.{Exported}
+-- When two nodes export the same.
+use Rattle.std.specs.Prelude.{Bool, true, false, Option, None, Some}
 use Rattle.res_core.specs.declared.export_set.ExportSet.{ExportSet}
-use Rattle.res_core.specs.declared.resource.Resource.{Resource}
-
-abbrev pub same_setting : Setting → Setting → Bool
-same_setting a b = bytes_eq a.0 b.0 && same a.1 b.1
-
-abbrev pub same_resource : Resource → Resource → Bool
-same_resource a b =
-    bytes_eq a.kind b.kind && (bytes_eq a.title b.title
-    && (pointwise same_setting a.attributes b.attributes && pointwise bytes_eq a.tags b.tags))
-
-abbrev pub same_place : Place → Place → Bool
-same_place a b = bytes_eq a.file b.file && (a.line == b.line)
-
-abbrev pub same_exported : Exported → Exported → Bool
-same_exported a b = same_place a.node_place b.node_place && same_resource a.item b.item
-
-abbrev pub same_set : ExportSet → ExportSet → Bool
-same_set a b = pointwise same_exported a.items b.items
+use Rattle.export_store.specs.Sameness.{same_set}
 
 -- two nodes have the same set, or neither has one
 abbrev pub same_choice : Option ExportSet → Option ExportSet → Bool

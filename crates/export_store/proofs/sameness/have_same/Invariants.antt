@@ -2,8 +2,8 @@
 use Rattle.std.proofs.Common.{◌≡◌, drop}
 use Rattle.std.specs.Cmp.Lexicographic.{pointwise}
 use Rattle.res_core.specs.AttributeViews.{settings}
-use Rattle.history_audit.specs.Sameness.{same_setting}
-use Rattle.history_audit.proofs.sameness.have_same.Given as goal
+use Rattle.export_store.specs.Sameness.{same_setting}
+use Rattle.export_store.proofs.sameness.have_same.Given as goal
 
 abbrev pub invariant-loop-i : goal.invariant-loop-i
 invariant-loop-i l =

@@ -2,7 +2,7 @@
 ghost use Rattle.std.specs.Prelude.{◌≡◌};
 ghost use Rattle.std.specs.Cmp.Lexicographic.{pointwise};
 ghost use Rattle.res_core.specs.AttributeViews.{setting, settings};
-ghost use Rattle.history_audit.specs.Sameness.{same_setting, same_resource, same_place, same_exported, same_set};
+ghost use Rattle.export_store.specs.Sameness.{same_setting, same_resource, same_place, same_exported, same_set};
 
 use pp_ops::is_same;
 use pp_values::Place;

@@ -10,8 +10,8 @@ use Rattle.pp_values.specs.declared.place.Place.{Place}
 use Rattle.res_core.specs.declared.export_set.ExportSet.{ExportSet}
 use Rattle.res_core.specs.declared.exported.Exported.{Exported}
 use Rattle.res_core.specs.declared.resource.Resource.{Resource}
-use Rattle.history_audit.specs.Sameness.{same_setting, same_resource, same_place, same_exported, same_set}
-use Rattle.history_audit.proofs.SameValues.{same_Decides}
+use Rattle.export_store.specs.Sameness.{same_setting, same_resource, same_place, same_exported, same_set}
+use Rattle.export_store.proofs.SameValues.{same_Decides}
 
 -- a test of two parts, which make up the whole
 both : {A B C : Type 0} (make : A → B → C) (a x : A) (b y : B) (r s : Bool) → Decides r (a ≡ x) → Decides s (b ≡ y) →

@@ -9,9 +9,9 @@ use Rattle.site_words.specs.declared.ids.TheConstants.{NODE, KEY, NODES, ROUNDS,
 abbrev pub positional : Text → Rule
 positional id = record (new_rule id) { required = true; action = Some Set }
 
--- an option with a value; it may be left out
+-- an option with a value, which the usage names; it may be left out
 abbrev pub optional : Text → Rule
-optional id = record (new_rule id) { long = Some id; action = Some Set }
+optional id = record (new_rule id) { long = Some id; action = Some Set; value_names = 1 }
 
 -- an option with a value; it has to be there
 abbrev pub needed : Text → Rule

@@ -20,6 +20,13 @@ const PORT_HELP: &str = "The port on 127.0.0.1, 1 to 65535";
 
 const COUNT_HELP: &str = "How many connections are served before the service ends, 1 to 1024";
 
+/// What the usage calls the values of options, as the pages do.
+const DIR_VALUE: &str = "DIR";
+
+const MERGE_VALUE: &str = "M";
+
+const WORKERS_VALUE: &str = "W";
+
 const MERGE_HELP: &str = "first, unique, hash or deep, in the place of lookup_options";
 
 const DIR_HELP: &str = "The site's folder, in the place of a bundle on standard input";
@@ -108,7 +115,7 @@ fn check_line<'a>(alloc: Global) -> Result<Command<'a>, AllocError>
         "site check",
         "Reads a site's manifests and tells which can't be read",
     )?
-    .arg(optional(alloc, DIR, DIR_HELP))
+    .arg(optional(alloc, DIR, DIR_VALUE, DIR_HELP))
 }
 
 fn compile_line<'a>(alloc: Global) -> Result<Command<'a>, AllocError>
@@ -123,7 +130,7 @@ fn compile_line<'a>(alloc: Global) -> Result<Command<'a>, AllocError>
         "Compiles a node's catalog",
     )?
     .arg(positional(alloc, NODE, NODE_HELP))?
-    .arg(optional(alloc, DIR, DIR_HELP))
+    .arg(optional(alloc, DIR, DIR_VALUE, DIR_HELP))
 }
 
 fn sequence_line<'a>(alloc: Global) -> Result<Command<'a>, AllocError>
@@ -152,8 +159,8 @@ fn lookup_line<'a>(alloc: Global) -> Result<Command<'a>, AllocError>
     )?
     .arg(positional(alloc, NODE, NODE_HELP))?
     .arg(positional(alloc, KEY, KEY_HELP))?
-    .arg(optional(alloc, MERGE, MERGE_HELP))?
-    .arg(optional(alloc, DIR, DIR_HELP))
+    .arg(optional(alloc, MERGE, MERGE_VALUE, MERGE_HELP))?
+    .arg(optional(alloc, DIR, DIR_VALUE, DIR_HELP))
 }
 
 fn apply_line<'a>(alloc: Global) -> Result<Command<'a>, AllocError>
@@ -168,8 +175,8 @@ fn apply_line<'a>(alloc: Global) -> Result<Command<'a>, AllocError>
         "Applies a node's catalog to a machine, and reports",
     )?
     .arg(positional(alloc, NODE, NODE_HELP))?
-    .arg(optional(alloc, DIR, DIR_HELP))?
-    .arg(optional(alloc, WORKERS, WORKERS_HELP))
+    .arg(optional(alloc, DIR, DIR_VALUE, DIR_HELP))?
+    .arg(optional(alloc, WORKERS, WORKERS_VALUE, WORKERS_HELP))
 }
 
 fn demo_line<'a>(alloc: Global) -> Result<Command<'a>, AllocError>
@@ -197,7 +204,7 @@ fn batch_line<'a>(alloc: Global) -> Result<Command<'a>, AllocError>
         "site batch",
         "Answers a bundle's requests by several workers",
     )?
-    .arg(optional(alloc, WORKERS, WORKERS_HELP))
+    .arg(optional(alloc, WORKERS, WORKERS_VALUE, WORKERS_HELP))
 }
 
 fn serve_line<'a>(alloc: Global) -> Result<Command<'a>, AllocError>
@@ -213,7 +220,7 @@ fn serve_line<'a>(alloc: Global) -> Result<Command<'a>, AllocError>
     )?
     .arg(positional(alloc, PORT, PORT_HELP))?
     .arg(positional(alloc, COUNT, COUNT_HELP))?
-    .arg(needed(alloc, DIR, DIR_HELP))
+    .arg(needed(alloc, DIR, DIR_VALUE, DIR_HELP))
 }
 
 fn audit_line<'a>(alloc: Global) -> Result<Command<'a>, AllocError>
@@ -253,7 +260,7 @@ fn resume_line<'a>(alloc: Global) -> Result<Command<'a>, AllocError>
         "site resume",
         "Goes on from a journal with the requests behind it",
     )?
-    .arg(optional(alloc, WORKERS, WORKERS_HELP))
+    .arg(optional(alloc, WORKERS, WORKERS_VALUE, WORKERS_HELP))
 }
 
 fn settle_line<'a>(alloc: Global) -> Result<Command<'a>, AllocError>
@@ -268,7 +275,7 @@ fn settle_line<'a>(alloc: Global) -> Result<Command<'a>, AllocError>
         "Compiles all nodes again and again, until what they export stays",
     )?
     .arg(positional(alloc, ROUNDS, ROUNDS_HELP))?
-    .arg(optional(alloc, WORKERS, WORKERS_HELP))
+    .arg(optional(alloc, WORKERS, WORKERS_VALUE, WORKERS_HELP))
 }
 
 /// A command: its name, its place in the list of commands, how its usage line begins, and what it does.
@@ -298,19 +305,20 @@ fn positional<'a>(alloc: Global, id: &'a str, help: &'a str) -> Arg<'a>
         .help(help)
 }
 
-fn optional<'a>(alloc: Global, id: &'a str, help: &'a str) -> Arg<'a>
+fn optional<'a>(alloc: Global, id: &'a str, value: &'a str, help: &'a str) -> Arg<'a>
     ensures rule { rule_of result ≡ spec.optional id.entry.now }
     ensures local { result.global ≡ false }
 {
     Arg::new(alloc, id)
         .long(id)
         .action(ArgAction::Set)
+        .value_name(value)
         .help(help)
 }
 
-fn needed<'a>(alloc: Global, id: &'a str, help: &'a str) -> Arg<'a>
+fn needed<'a>(alloc: Global, id: &'a str, value: &'a str, help: &'a str) -> Arg<'a>
     ensures rule { rule_of result ≡ spec.needed id.entry.now }
     ensures local { result.global ≡ false }
 {
-    optional(alloc, id, help).required(true)
+    optional(alloc, id, value, help).required(true)
 }

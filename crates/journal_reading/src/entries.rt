@@ -10,7 +10,6 @@ ghost use Rattle.journal_reading.specs.EntryReading.{removal_said, deployment_sa
 ghost use Rattle.journal_reading.specs.EntryReading.{said_as, entry_said};
 
 use crate::cuts::{after_prefix, before_suffix};
-use crate::entry_lines::unfiled_line;
 use crate::exports::exports_said;
 use crate::facts::facts_said;
 use crate::sites::site_said;
@@ -22,6 +21,7 @@ use res_core::{ExportSet, Exports};
 use serde_json::Value as Json;
 use site_bundle::Site;
 use site_core::Entry;
+use site_docs::unfiled_line;
 use std::alloc::Global;
 use std::sync::Arc;
 
@@ -156,7 +156,7 @@ fn filing_in(
     ensures { IfOk result (λ o. option_map event_of o ≡ filing_in number line.now (maker, node)) }
 {
     let (author, call) = maker;
-    let unfiled = unfiled_line(alloc, author, call, number, node.as_str())?;
+    let unfiled = unfiled_line(alloc, author, call, number as usize, node.as_str())?;
     let Some(text) = within(unfiled.as_str(), line) else {
         return Ok(None);
     };

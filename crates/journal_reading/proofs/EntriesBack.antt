@@ -30,7 +30,7 @@ use Rattle.json_documents.proofs.ReadData.{Each, any, all, each_then, each_if, e
 use Rattle.json_documents.proofs.SmallForms.{form_small, form_rises, all_small, all_rise}
 use Rattle.agent_docs.specs.ReportText.{has_changed, has_failed, was_noop, fault_data, line_object, line_data, report_object, report_data, report_text, IsReport}
 use Rattle.agent_docs.specs.ReportReading.{text_at, items_at, report_in}
-use Rattle.agent_docs.proofs.ReportsRead.{Holds, holds_then, report_complete, report_sound}
+use Rattle.agent_docs.proofs.ReportsRead.{Holds, holds_then, holds_if, is_same, same_bytes, report_complete, report_sound}
 use Rattle.site_bundle.specs.SiteView.{SiteView}
 use Rattle.site_docs.specs.SiteText.{site_data}
 use Rattle.site_docs.specs.JournalText.{export_data, publication_object, deactivation_object, deployment_object, filing_object, plain_data, entry_data}
@@ -148,17 +148,23 @@ report_shorter a c n node r =
       length-append (report_text r) (codes "}"),
     )
 
-filing_back : (n a c : ℕ) (node : List ℕ) (r : Report) → (is_count a && is_count c) ≡ true → IsReport r →
+own_filing : (a c : ℕ) (node : List ℕ) (r : Report) → r.node ≡ node →
+    filing_of ((a, c), node) r ≡ Some (adds a c (ask.Report node r))
+own_filing a c node r e =
+    ap (λ own. if own then Some (adds a c (ask.Report node r)) else None) (is_same r.node node (sym e))
+
+filing_back : (n a c : ℕ) (node : List ℕ) (r : Report) → (is_count a && is_count c) ≡ true → IsReport r → r.node ≡ node →
     length (compact_text (filing_object a c n node (report_data r))) < 2 ^ 64 →
     filing_said n (compact_text (filing_object a c n node (report_data r))) (entry_data n (adds a c (ask.Report node r)))
     ≡ Some (adds a c (ask.Report node r))
 unfolding filing_said entry_data plain_data filing_object serde_json_on_literals
-filing_back n a c node r h report short =
+filing_back n a c node r h report own short =
     ap (λ o. option_and_then (filing_in n (compact_text (filing_object a c n node (report_data r))))
     (both (λ maker text. (maker, text)) o (Some node))) (maker_of a c h)
-    ∙ ap (λ o. option_map (filing_of ((a, c), node)) (option_and_then report_in o)) (report_within a c n node r)
-    ∙ ap (option_map (filing_of ((a, c), node)))
+    ∙ ap (λ o. option_and_then (filing_of ((a, c), node)) (option_and_then report_in o)) (report_within a c n node r)
+    ∙ ap (option_and_then (filing_of ((a, c), node)))
     (report_complete r (report_text r) (omega (arith, report_shorter a c n node r, short)) (report, inl refl))
+    ∙ own_filing a c node r own
 
 small_count : {X : Type 0} (p : X → Bool) (xs : List X) → length xs < 2 ^ 64 → nat_lt (count_by p xs) (2 ^ 64) ≡ true
 small_count p xs h = lt-ltb (count_by p xs) (2 ^ 64) (omega (arith, count_by-le-length p xs, h))
@@ -244,7 +250,7 @@ entry_back n (adds a c (ask.Deploy s)) later h short =
     says_deployment n a c (compact_text (entry_data n (adds a c (ask.Deploy s)))) s ∙ deployment_back n a c s h.0 h.1
 entry_back n (adds a c (ask.Report node r)) later h short =
     filing_line n a c node r (says_filing n a c (compact_text (filing_object a c n node (report_data r))) node r)
-    ∙ filing_back n a c node r h.0 h.1 (short_filing n a c node r short)
+    ∙ filing_back n a c node r h.0 h.1.0 h.1.1 (short_filing n a c node r short)
 
 -- ---- small numbers and rising names
 
@@ -398,16 +404,14 @@ report_holds t short =
       | Some r ↦ λ e. (report_sound r t short e).0
     ] refl
 
-holds_made : {A B : Type 0} (Q : A → Type 0) (P : B → Type 0) (make : A → B) → ((a : A) → Q a → P (make a)) →
-    (o : Option A) → Holds Q o → Holds P (option_map make o)
-holds_made Q P make step None h = tt
-holds_made Q P make step (Some a) h = step a h
-
 filing_holds_in : (n : ℕ) (line : List ℕ) → length line < 2 ^ 64 → (named : (ℕ × ℕ) × List ℕ) → good_named named ≡ true →
     Holds IsEntry (filing_in n line named)
 filing_holds_in n line short named h =
     let without = compact_text (filing_object named.0.0 named.0.1 n named.1 null) in
-    holds_made IsReport IsEntry (filing_of named) (λ r g. (h, g)) (option_and_then report_in (within without line))
+    holds_step IsReport IsEntry (filing_of named)
+    (λ r g. holds_if IsEntry (bytes_eq r.node named.1) (adds named.0.0 named.0.1 (ask.Report named.1 r))
+    (λ own. (h, (g, sym (same_bytes r.node named.1 own)))))
+    (option_and_then report_in (within without line))
     (holds_step (λ t. length t ≤ length line) IsReport report_in (λ t le. report_holds t (omega (arith, le, short)))
     (within without line) (within_short without line))
 

@@ -121,6 +121,14 @@ reports : (journal_read (second ++ (filed ++ counted (codes "2")))
 unfolding when_read serde_json_on_literals
 reports = (refl, refl)
 
+-- the same for another node than the report's
+abbrev filed_for_another : List ℕ
+filed_for_another = line (codes "{\"author\":0,\"call\":0,\"entry\":1,\"kind\":\"report\",\"node\":\"m\",\"report\":{\"changed\":0,\"failed\":0,\"node\":\"n\",\"noop\":0,\"report\":2,\"resources\":[]}}")
+
+reports_of_another : journal_read (second ++ (filed_for_another ++ counted (codes "2"))) ≡ Err 2
+unfolding when_read serde_json_on_literals
+reports_of_another = refl
+
 -- ---- which line is bad
 
 -- nothing; a text that is cut within its first line, behind it, within its second one, behind that, and before its last

@@ -153,12 +153,14 @@ within without line =
     option_and_then (before_suffix (codes "}"))
     (option_and_then (λ front. after_prefix front line) (before_suffix (codes "null}") without))
 
-abbrev pub filing_of : (ℕ × ℕ) × List ℕ → Report → Event SiteView
-filing_of named report = adds named.0.0 named.0.1 (ask.Report named.1 report)
+-- a report is filed for its own node
+abbrev pub filing_of : (ℕ × ℕ) × List ℕ → Report → Option (Event SiteView)
+filing_of named report =
+    if bytes_eq report.node named.1 then Some (adds named.0.0 named.0.1 (ask.Report named.1 report)) else None
 
 abbrev pub filing_in : ℕ → List ℕ → (ℕ × ℕ) × List ℕ → Option (Event SiteView)
 filing_in n line named =
-    option_map (filing_of named) (option_and_then report_in
+    option_and_then (filing_of named) (option_and_then report_in
     (within (compact_text (filing_object named.0.0 named.0.1 n named.1 null)) line))
 
 unfoldable pub filing_said : ℕ → List ℕ → Data → Option (Event SiteView)

@@ -56,7 +56,7 @@ is_publication p =
 abbrev pub IsPlain : Plain SiteView → Type 0
 IsPlain (ask.Deactivate node) = Unit {0}
 IsPlain (ask.Deploy site) = IsSite site
-IsPlain (ask.Report node report) = IsReport report
+IsPlain (ask.Report node report) = IsReport report × (report.node ≡ node)
 
 abbrev pub IsEntry : Event SiteView → Type 0
 IsEntry (opens site) = IsSite site

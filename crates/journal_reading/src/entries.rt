@@ -6,11 +6,10 @@ ghost use Rattle.serde_json.specs.View.{view as json_view};
 ghost use Rattle.site_core.specs.EntryViews.{event_of};
 ghost use Rattle.agent_docs.specs.ReportReading.{report_in as report_of_line};
 ghost use Rattle.journal_reading.specs.EntryReading.{number_at, maker_said, work_said, named_said, publication_said};
-ghost use Rattle.journal_reading.specs.EntryReading.{removal_said, deployment_said, within, filing_in, filing_said};
+ghost use Rattle.journal_reading.specs.EntryReading.{removal_said, deployment_said, within, filing_of, filing_in, filing_said};
 ghost use Rattle.journal_reading.specs.EntryReading.{said_as, entry_said};
 
 use crate::cuts::{after_prefix, before_suffix};
-use crate::entry_lines::unfiled_line;
 use crate::exports::exports_said;
 use crate::facts::facts_said;
 use crate::sites::site_said;
@@ -22,6 +21,7 @@ use res_core::{ExportSet, Exports};
 use serde_json::Value as Json;
 use site_bundle::Site;
 use site_core::Entry;
+use site_docs::unfiled_line;
 use std::alloc::Global;
 use std::sync::Arc;
 
@@ -156,22 +156,36 @@ fn filing_in(
     ensures { IfOk result (λ o. option_map event_of o ≡ filing_in number line.now (maker, node)) }
 {
     let (author, call) = maker;
-    let unfiled = unfiled_line(alloc, author, call, number, node.as_str())?;
+    let unfiled = unfiled_line(alloc, author, call, number as usize, node.as_str())?;
     let Some(text) = within(unfiled.as_str(), line) else {
         return Ok(None);
     };
     match report_in(alloc, text)? {
-        Some(report) => {
-            let report = Arc::new(alloc, report)?;
-            Ok(Some(Entry::Report {
-                author,
-                call,
-                node,
-                report,
-            }))
-        }
+        Some(report) => filing_of(alloc, maker, node, report),
         None => Ok(None),
     }
+}
+
+/// The entry by which a report is filed, which is for the report's own node.
+fn filing_of(
+    alloc: Global,
+    maker: (u32, u32),
+    node: Text,
+    report: Report,
+) -> Result<Option<Entry<Site>>, Memory>
+    ensures { IfOk result (λ o. option_map event_of o ≡ filing_of (maker, node) report) }
+{
+    let (author, call) = maker;
+    if !report.node.is(node.as_str()) {
+        return Ok(None);
+    }
+    let report = Arc::new(alloc, report)?;
+    Ok(Some(Entry::Report {
+        author,
+        call,
+        node,
+        report,
+    }))
 }
 
 /// What a line has in the place of the `null` in another one.

@@ -3,10 +3,10 @@
 
 mod cuts;
 mod entries;
-mod entry_lines;
 mod exports;
 mod facts;
 mod laws;
+mod opening_lines;
 mod reading;
 mod sites;
 

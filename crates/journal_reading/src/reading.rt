@@ -11,13 +11,14 @@ ghost use Rattle.journal_reading.specs.JournalLines.{entry_written, entry_in, is
 ghost use Rattle.journal_reading.specs.JournalLines.{Gives};
 
 use crate::entries::entry_said;
-use crate::entry_lines::{count_line, entry_line, opening_line};
+use crate::opening_lines::opening_line;
 use crate::sites::site_said;
 use json_documents::{DocStop, cut_line, read_json};
 use pp_values::Memory;
 use serde_json::Value as Json;
 use site_bundle::Site;
 use site_core::{Entries, Entry, History};
+use site_docs::{count_line, entry_line};
 use std::alloc::Global;
 use std::sync::Arc;
 
@@ -148,7 +149,7 @@ fn says_first(json: &Json) -> bool
 fn is_last(alloc: Global, count: u32, line: &str) -> Result<bool, Memory>
     ensures { IfOk result (λ b. b ≡ is_last count line.now) }
 {
-    Ok(count_line(alloc, count)?.is(line))
+    Ok(count_line(alloc, count as usize)?.is(line))
 }
 
 /// Entry `number`, whose line this is.
@@ -211,7 +212,7 @@ fn is_written(
     if !may_stand(first, entry) {
         return Ok(false);
     }
-    Ok(entry_line(alloc, number, entry)?.is(line))
+    Ok(entry_line(alloc, number as usize, entry)?.is(line))
 }
 
 /// Whether the entry may stand behind others in that version.

@@ -22,7 +22,7 @@ use Rattle.site_io.specs.Transfer.{HasReadAll}
 use Rattle.site_io.specs.declared.transfer.ReadStop.TheVariants as r
 use Rattle.site_commands.proofs.Told.{left_is_longer, read_is_left}
 use Rattle.site_commands.specs.Inputs as read
-use Rattle.site_commands.specs.Inputs.{Reading, Input, HasInput, HasReadSaid, HasReadWrong, HasStoppedBy, IsBadLine, IsWritten, IsJournal, IsWrong, ReadsAsking, ReadsJournal, TellsLine, stop_ending}
+use Rattle.site_commands.specs.Inputs.{Reading, Input, HasInput, HasReadSaid, HasReadWrong, HasStoppedBy, BreaksBehind, IsBadLine, IsWritten, IsJournal, IsWrong, ReadsAsking, ReadsJournal, TellsBreak, TellsLine, stop_ending}
 use Rattle.site_commands.specs.JournalParts.{asked_in_line, journal_part, requests_part, requests_said}
 use Rattle.site_commands.specs.Settled.{IsNoList, IsNoneSaid}
 use Rattle.site_commands.specs.declared.ending.Ending.TheVariants as e
@@ -158,6 +158,28 @@ told_wrong (i.Refused (b.TreeFault path)) n bytes told bad = absurd told
 told_wrong (i.Refused b.Memory) n bytes told bad = tt
 told_wrong (i.BadLine number) n bytes told bad = (n, (told, bad))
 told_wrong i.TooManyEntries n bytes told bad = absurd told
+
+-- and so is the first bad line of bytes that are no text
+pub told_break : (stop : InputStop) (n : ℕ) (text : List ℕ) → TellsLine stop n → BreaksBehind n text → TellsBreak stop text
+told_break (i.Unread stop) n text told bad = absurd told
+told_break (i.Refused b.NotJson) n text told bad = absurd told
+told_break (i.Refused (b.BadShape path)) n text told bad = absurd told
+told_break (i.Refused (b.TooLarge path)) n text told bad = absurd told
+told_break (i.Refused (b.TreeFault path)) n text told bad = absurd told
+told_break (i.Refused b.Memory) n text told bad = tt
+told_break (i.BadLine number) n text told bad = (n, (told, bad))
+told_break i.TooManyEntries n text told bad = absurd told
+
+pub broken_wrong : (stop : InputStop) (bytes : List ℕ) (m : ℕ) → IsValidUpTo bytes m → TellsBreak stop (take m bytes) →
+    IsWrong stop read.journal bytes
+broken_wrong (i.Unread stop) bytes m valid told = absurd told
+broken_wrong (i.Refused b.NotJson) bytes m valid told = absurd told
+broken_wrong (i.Refused (b.BadShape path)) bytes m valid told = absurd told
+broken_wrong (i.Refused (b.TooLarge path)) bytes m valid told = absurd told
+broken_wrong (i.Refused (b.TreeFault path)) bytes m valid told = absurd told
+broken_wrong (i.Refused b.Memory) bytes m valid told = tt
+broken_wrong (i.BadLine number) bytes m valid (n, (told, bad)) = (n, (told, inr (m, (valid, bad))))
+broken_wrong i.TooManyEntries bytes m valid told = absurd told
 
 -- what was read stopped so, where it was read whole and is no journal
 pub stopped_said : (had : Result (History SiteView) InputStop) (bytes : List ℕ) (s s' : Stream) →

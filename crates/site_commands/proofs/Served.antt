@@ -1,5 +1,5 @@
 -- From the parts of a service to how the run ended, and its status.
-use Rattle.std.proofs.Common.{◌≡◌, ◌⊎◌, ℕ, Bool, true, false, List, sym, ap, ◌∙◌, subst, refl, inl, inr}
+use Rattle.std.proofs.Common.{◌≡◌, ◌⊎◌, ◌≤◌, ℕ, Bool, true, false, List, sym, ap, subst, refl, inl, inr, arith}
 use Rattle.std.specs.Prelude.{if◌then◌else◌, [], ◌∷◌, codes}
 use Rattle.std.specs.List.{list_any}
 use Rattle.command_outputs.specs.Lines.{line}
@@ -13,6 +13,7 @@ use Rattle.site_docs.specs.FaultText.{fault_text}
 use Rattle.site_docs.specs.JournalText.{journal_text}
 use Rattle.site_io.specs.Net.{Net}
 use Rattle.site_io.specs.Stream.{Stream, Rose, HasWritten}
+use Rattle.site_io.proofs.Streams.{Rose-after}
 use Rattle.site_serve.specs.Ends.{dialect}
 use Rattle.site_serve.specs.declared.conn_end.ConnEnd.{ConnEnd}
 use Rattle.site_service.specs.Served.{HasServedAll, IsWhy}
@@ -22,7 +23,7 @@ use Rattle.site_words.specs.Asked as a
 use Rattle.site_commands.proofs.Worked.{IsOfWork, either_of_work, ends_worked}
 use Rattle.site_commands.specs.Endings.{Ends}
 use Rattle.site_commands.specs.Inputs.{folder, site, HasInput}
-use Rattle.site_commands.specs.Serving.{is_memory, stop_ending, service_ending, end_lines, SaysLast, TellsWhole, TellsService, TellsServed, Serves}
+use Rattle.site_commands.specs.Serving.{is_memory, stop_ending, service_ending, end_lines, EndsSaying, TellsService, TellsServed, Serves}
 use Rattle.site_commands.specs.Settled.{IsFaultStatus}
 use Rattle.site_commands.specs.Status.{status_of}
 use Rattle.site_commands.specs.Work.{HasLogged}
@@ -32,29 +33,34 @@ use Rattle.site_commands.specs.declared.ending.Ending.TheVariants as e
 
 -- ---- what is told
 
--- what is told of a service whole, by whether memory was wanting, and why no more connections were taken
-told_by : (short : Bool) (why : ServiceStop) (journal lines : List ℕ) (out out' err err' : Stream) →
-    TellsWhole (if short then e.Memory else stop_ending why) journal lines out out' err err' →
-    TellsService (if short then e.Memory else stop_ending why) (if short then e.Memory else stop_ending why) journal lines
-    out out' err err'
-told_by true why journal lines out out' err err' did = (refl, did)
-told_by false s.Counted journal lines out out' err err' did = (refl, did)
-told_by false s.Closed journal lines out out' err err' did = (refl, did)
-told_by false s.NetFault journal lines out out' err err' did = (refl, did)
+-- what is told of a service behind the journal and the lines, by whether memory was wanting, and why no more connections
+-- were taken
+told_by : (ending : Ending) (short : Bool) (why : ServiceStop) (journal lines : List ℕ)
+    (out out' err logged err' : Stream) → HasWritten journal out out' → HasLogged lines err logged →
+    EndsSaying ending (if short then e.Memory else stop_ending why) logged err' →
+    TellsService ending (if short then e.Memory else stop_ending why) journal lines out out' err err'
+told_by ending true why journal lines out out' err logged err' wrote log (is, last) =
+    subst (λ x. TellsService x e.Memory journal lines out out' err err') (sym is)
+    (refl, record { journal_is = wrote; logged = logged; lines_are = log; last = last })
+told_by ending false s.Counted journal lines out out' err logged err' wrote log (is, last) =
+    subst (λ x. TellsService x e.Done journal lines out out' err err') (sym is)
+    (refl, record { journal_is = wrote; logged = logged; lines_are = log; last = last })
+told_by ending false s.Closed journal lines out out' err logged err' wrote log (is, last) =
+    subst (λ x. TellsService x e.Done journal lines out out' err err') (sym is)
+    (refl, record { journal_is = wrote; logged = logged; lines_are = log; last = last })
+told_by e.WriteFault false s.NetFault journal lines out out' err logged err' wrote log lost =
+    inr (inr (record { whole_is = refl; journal_is = wrote; logged = logged; lines_are = log; lost = lost }))
+told_by ending false s.NetFault journal lines out out' err logged err' wrote log (is, last) =
+    subst (λ x. TellsService x e.NetFault journal lines out out' err err') (sym is)
+    (refl, record { journal_is = wrote; logged = logged; lines_are = log; last = last })
 
-pub tells_whole : (ending whole : Ending) (ends : List ConnEnd) (why : ServiceStop) (journal lines : List ℕ)
-    (out out' err logged err' : Stream) → ending ≡ whole → whole ≡ service_ending ends why → HasWritten journal out out' →
-    HasLogged lines err logged → SaysLast whole logged err' →
+pub tells_last : (ending whole : Ending) (ends : List ConnEnd) (why : ServiceStop) (journal lines : List ℕ)
+    (out out' err logged err' : Stream) → whole ≡ service_ending ends why → HasWritten journal out out' →
+    HasLogged lines err logged → EndsSaying ending whole logged err' →
     TellsService ending (service_ending ends why) journal lines out out' err err'
-tells_whole ending whole ends why journal lines out out' err logged err' is same wrote log last =
-    subst (λ x. TellsService x (service_ending ends why) journal lines out out' err err') (sym (is ∙ same))
-    (told_by (list_any is_memory ends) why journal lines out out' err err'
-    (record {
-      journal_is = wrote;
-      logged = logged;
-      lines_are = log;
-      last = subst (λ x. SaysLast x logged err') same last;
-    }))
+tells_last ending whole ends why journal lines out out' err logged err' same wrote log last =
+    told_by ending (list_any is_memory ends) why journal lines out out' err logged err' wrote log
+    (subst (λ x. EndsSaying ending x logged err') same last)
 
 tells_ending : (ending whole : Ending) (journal lines : List ℕ) (out out' err err' : Stream) →
     TellsService ending whole journal lines out out' err err' → (ending ≡ whole) ⊎ (ending ≡ e.WriteFault)
@@ -144,12 +150,21 @@ served_status ending view count out out' err err' n n' did =
 
 -- ---- its faults
 
+-- no fault is taken back by a log
+logged_later : (text : List ℕ) (before after : Stream) → HasLogged text before after → before.faults ≤ after.faults
+logged_later [] before after same = omega (arith, ap (λ x. x.faults) same)
+logged_later (b ∷ bs) before after wrote = wrote.later
+
 pub served_sinks : (view : SiteView) (count : ℕ) (out out' err err' : Stream) (n n' : Net) →
     Serves e.WriteFault view count out out' err err' n n' → Rose out.faults out'.faults ⊎ Rose err.faults err'.faults
 served_sinks view count out out' err err' n n' did =
     elim did.told [
       | inl wrote ↦ inl wrote.0.0
-      | inr wrote ↦ inr wrote.1.0
+      | inr rest ↦ elim rest [
+        | inl wrote ↦ inr wrote.1.0
+        | inr lost ↦ inr (Rose-after err.faults lost.logged.faults err'.faults
+            (logged_later (end_lines 1 did.served.ends) err lost.logged lost.lines_are) lost.lost.0)
+      ]
     ]
 
 net_by : (short : Bool) (why : ServiceStop) → e.NetFault ≡ (if short then e.Memory else stop_ending why) → why ≡ s.NetFault

@@ -1,5 +1,5 @@
 -- What a command reads, what it has then, and what stands in the way.
-use Rattle.std.specs.Prelude.{◌≡◌, ◌⊎◌, ℕ, ◌+◌, ◌≤◌, ◌<◌, Bool, nat_eq, List, ◌++◌, length, take, codes, decimal}
+use Rattle.std.specs.Prelude.{◌≡◌, ◌⊎◌, ℕ, ◌+◌, ◌≤◌, ◌<◌, Bool, nat_eq, List, ◌++◌, length, min, take, codes, decimal}
 use Rattle.std.specs.Prelude.{Option, None, Some, Result, Ok, Err}
 use Rattle.std.specs.List.{count_by}
 use Rattle.std.specs.Str.{IsUtf8, IsValidUpTo}
@@ -103,12 +103,20 @@ is_feed b = nat_eq b 10
 abbrev pub line_behind : List ℕ → ℕ
 line_behind said = count_by is_feed said + 1
 
--- Line n is the first up to which a text begins as no journal does. Bytes that are no text are bad in the line of the
--- first byte that is none.
+-- line n is the first up to which a text begins as no journal does
+abbrev pub IsBadOfText : ℕ → List ℕ → Type 0
+IsBadOfText n text = IsFirstBad (λ (h : History SiteView). IsJournalText h.entries) n text
+
+-- Behind this text stands a byte that is none. Its line is bad, unless a line before it is.
+abbrev pub BreaksBehind : ℕ → List ℕ → Type 0
+BreaksBehind n text =
+    ((h : List (Event SiteView)) × IsJournalText h text × (n ≡ line_behind text))
+    ⊎ ((k : ℕ) × IsBadOfText k text × (n ≡ min k (line_behind text)))
+
+-- the first line that is not as journals have it, for its bytes are no text or no line of one
 abbrev pub IsBadLine : ℕ → List ℕ → Type 0
 IsBadLine n said =
-    (IsUtf8 said × IsFirstBad (λ (h : History SiteView). IsJournalText h.entries) n said)
-    ⊎ ((m : ℕ) × (IsValidUpTo said m × (n ≡ line_behind (take m said))))
+    (IsUtf8 said × IsBadOfText n said) ⊎ ((m : ℕ) × (IsValidUpTo said m × BreaksBehind n (take m said)))
 
 -- what the bytes of a source say
 abbrev pub IsSaidBy : Reading → Input → List ℕ → Type 0
@@ -242,6 +250,12 @@ abbrev pub TellsLine : InputStop → ℕ → Type 0
 TellsLine (i.Refused b.Memory) n = Unit {0}
 TellsLine (i.BadLine number) n = number ≡ decimal n
 TellsLine stop n = ⊥
+
+-- the first bad line of bytes that begin with this text, behind which stands a byte that is none
+abbrev pub TellsBreak : InputStop → List ℕ → Type 0
+TellsBreak (i.Refused b.Memory) text = Unit {0}
+TellsBreak (i.BadLine number) text = (n : ℕ) × ((number ≡ decimal n) × BreaksBehind n text)
+TellsBreak stop text = ⊥
 
 -- what is made of the bytes of a source that are to say a journal
 abbrev pub ReadsJournal : Result (History SiteView) InputStop → List ℕ → Type 0

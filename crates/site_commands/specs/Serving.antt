@@ -20,7 +20,7 @@ use Rattle.site_serve.specs.declared.conn_end.ConnEnd.TheVariants as c
 use Rattle.site_service.specs.Served.{HasServedAll}
 use Rattle.site_service.specs.declared.service_stop.ServiceStop.{ServiceStop}
 use Rattle.site_service.specs.declared.service_stop.ServiceStop.TheVariants as s
-use Rattle.site_commands.specs.Work.{SaysOnly, HasLogged}
+use Rattle.site_commands.specs.Work.{SaysOnly, WritesOr, HasLogged}
 use Rattle.site_commands.specs.World.{Says, FailsToSay}
 use Rattle.site_commands.specs.declared.ending.Ending.{Ending}
 use Rattle.site_commands.specs.declared.ending.Ending.TheVariants as e
@@ -74,11 +74,17 @@ service_ending ends why = if list_any is_memory ends then e.Memory else stop_end
 
 -- ---- what is told
 
--- the last line, by how the run ends
+-- The last line, by what came of the service. That the listener failed is told whole.
 abbrev pub SaysLast : Ending → Stream → Stream → Type 0
 SaysLast e.Memory before after = Says (line (codes "memory")) before after
-SaysLast e.NetFault before after = Says (line (codes "net fault")) before after
+SaysLast e.NetFault before after = HasWritten (line (codes "net fault")) before after
 SaysLast ending before after = after ≡ before
+
+-- by how the run ends and what came of the service; a run whose last line is lost ends by that
+abbrev pub EndsSaying : Ending → Ending → Stream → Stream → Type 0
+EndsSaying ending e.Memory before after = (ending ≡ e.Memory) × Says (line (codes "memory")) before after
+EndsSaying ending e.NetFault before after = WritesOr ending e.NetFault (line (codes "net fault")) before after
+EndsSaying ending whole before after = (ending ≡ whole) × (after ≡ before)
 
 -- the journal was written whole, then the lines of the connections, and then the last line
 pub record TellsWhole (whole : Ending) (journal lines : List ℕ) (out out' err err' : Stream) : Type 0 where
@@ -87,10 +93,19 @@ pub record TellsWhole (whole : Ending) (journal lines : List ℕ) (out out' err 
   pub lines_are : HasLogged lines err logged
   pub last : SaysLast whole logged err'
 
--- or a front of the journal, and then nothing of the lines; or the journal, and a front of the lines
+-- the journal was written whole, then the lines, and then a front of the line that the listener failed
+pub record LosesLast (whole : Ending) (journal lines : List ℕ) (out out' err err' : Stream) : Type 0 where
+  pub whole_is : whole ≡ e.NetFault
+  pub journal_is : HasWritten journal out out'
+  pub logged : Stream
+  pub lines_are : HasLogged lines err logged
+  pub lost : FailsToSay (line (codes "net fault")) logged err'
+
+-- or a front of the journal, and then nothing of the lines; or the journal, and a front of the lines, or of the last one
 abbrev pub TellsService : Ending → Ending → List ℕ → List ℕ → Stream → Stream → Stream → Stream → Type 0
 TellsService e.WriteFault whole journal lines out out' err err' =
-    (FailsToSay journal out out' × (err' ≡ err)) ⊎ (HasWritten journal out out' × FailsToSay lines err err')
+    (FailsToSay journal out out' × (err' ≡ err))
+    ⊎ ((HasWritten journal out out' × FailsToSay lines err err') ⊎ LosesLast whole journal lines out out' err err')
 TellsService ending whole journal lines out out' err err' =
     (ending ≡ whole) × TellsWhole whole journal lines out out' err err'
 

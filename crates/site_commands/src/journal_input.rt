@@ -3,7 +3,8 @@ ghost use Rattle.std.specs.Prelude.{◌≡◌, ◌≤◌, IfOk, IfErr, decimal, 
 ghost use Rattle.std.specs.List.{count_by};
 ghost use Rattle.std.specs.Str.{IsUtf8};
 ghost use Rattle.site_core.specs.declared.history.TheConstants.{MOST_ENTRIES};
-ghost use Rattle.site_commands.specs.Inputs.{HasInput, HasStoppedBy, ReadsJournal, TellsLine, is_feed, line_behind};
+ghost use Rattle.site_commands.specs.Inputs.{HasInput, HasStoppedBy, ReadsJournal, TellsBreak, TellsLine, is_feed};
+ghost use Rattle.site_commands.specs.Inputs.{line_behind};
 ghost use Rattle.site_commands.specs.Inputs as read;
 
 use crate::input::InputStop;
@@ -59,13 +60,39 @@ fn parse_text(alloc: Global, text: &str) -> Result<History<Site>, InputStop>
 
 /// So many of the bytes are text, and the next one is none.
 fn bad_text(alloc: Global, bytes: &[u8], front: usize) -> InputStop
-    requires { front ≤ length bytes.now }
-    ensures { TellsLine result (line_behind (take front bytes.now)) }
+    requires within { front ≤ length bytes.now }
+    requires text { IsUtf8 (take front bytes.now) }
+    ensures { TellsBreak result (take front bytes.now) }
 {
-    match count_feeds(&bytes[..front]).checked_add(1) {
-        Some(line) => bad_line(alloc, line),
+    match str::from_utf8(&bytes[..front]) {
+        Ok(text) => broken_text(alloc, text),
+        Err(_) => unreachable!(),
+    }
+}
+
+/// Behind the text stands a byte that is none.
+fn broken_text(alloc: Global, text: &str) -> InputStop
+    ensures { TellsBreak result text.now }
+{
+    match count_feeds(text.as_bytes()).checked_add(1) {
+        Some(line) => first_bad(alloc, text, line),
         // More lines than can be counted find no room.
         None => InputStop::Refused(BundleStop::Memory),
+    }
+}
+
+/// The byte that is none stands in the line with this number.
+fn first_bad(alloc: Global, text: &str, line: usize) -> InputStop
+    requires { line ≡ line_behind text.now }
+    ensures { TellsBreak result text.now }
+{
+    match read_journal(alloc, text) {
+        Ok(history) => {
+            drop(history);
+            bad_line(alloc, line)
+        }
+        Err(DocStop::Bad(before)) => bad_line(alloc, (before as usize).min(line)),
+        Err(DocStop::Memory) => InputStop::Refused(BundleStop::Memory),
     }
 }
 

@@ -6,7 +6,7 @@ ghost use Rattle.site_service.specs.declared.service.TheConstants.{MOST_CONNECTI
 ghost use Rattle.site_words.specs.Asked as asked;
 ghost use Rattle.site_commands.specs.Endings.{Ends};
 ghost use Rattle.site_commands.specs.Serving as spec;
-ghost use Rattle.site_commands.specs.Serving.{SaysLast, Serves, TellsServed, TellsService, end_lines, service_ending};
+ghost use Rattle.site_commands.specs.Serving.{EndsSaying, Serves, TellsServed, TellsService, end_lines, service_ending};
 ghost use Rattle.site_commands.specs.World.{world};
 
 use crate::commands::BUNDLE;
@@ -152,14 +152,17 @@ fn write_told<K: Sink, E: Sink>(
     }
 }
 
-/// Says why the run ends so, where it has to.
+/// Says why the run ends so, where it has to. That the listener failed is a part of the work: where it can't be said the
+/// run ends by that.
 fn say_last<E: Sink>(ending: Ending, err: &mut E) -> Ending
-    ensures ending { result ≡ ending }
-    ensures last { SaysLast ending (E.stream err.old) (E.stream err.new) }
+    ensures { EndsSaying result ending (E.stream err.old) (E.stream err.new) }
 {
     match ending {
         Ending::Memory => refuse(err, ending, "memory\n"),
-        Ending::NetFault => refuse(err, ending, "net fault\n"),
+        Ending::NetFault => match write_all(err, "net fault\n".as_bytes()) {
+            Ok(()) => ending,
+            Err(_fault) => Ending::WriteFault,
+        },
         _ => ending,
     }
 }

@@ -1,9 +1,9 @@
 -- No document that is made as a tree has a float, so that its text is exact.
-use Rattle.std.proofs.Common.{◌≡◌, ℕ, Bool, true, false, ◌||◌, List, [], ◌∷◌, Option, Some, None, map, refl}
+use Rattle.std.proofs.Common.{◌≡◌, ℕ, Bool, true, false, ◌||◌, List, [], ◌∷◌, Option, Some, None, map, refl, ap, ◌∙◌}
 use Rattle.std.specs.declared.cmp.Ordering.TheVariants.{Less, Equal, Greater}
 use Rattle.std.specs.Cmp.Lexicographic.{slice_cmp}
 use Rattle.std.specs.Ordering.{nat_cmp, match_ordering}
-use Rattle.serde_json.specs.Data.{Data, Members, no_members, member, put, string, array}
+use Rattle.serde_json.specs.Data.{Data, null, Members, no_members, member, put, string, array}
 use Rattle.serde_json.specs.View.{items_of}
 use Rattle.serde_json.specs.Written.{has_float, members_have_float}
 use Rattle.pp_values.specs.Datum.{Datum}
@@ -89,6 +89,12 @@ filing_no_float : (author call entry : ℕ) (node : List ℕ) (r : Report) →
     has_float (filing_object author call entry node (report_data r)) ≡ false
 unfolding filing_object
 filing_no_float author call entry node r = either _ _ (report_no_float r) refl
+
+-- what is there in the place of a report has none
+pub unfiled_form : (author call entry : ℕ) (node : List ℕ) (f d : Data) → f ≡ filing_object author call entry node d → d ≡ null →
+    has_float f ≡ false
+unfolding filing_object
+unfiled_form author call entry node f d made none = ap has_float (made ∙ ap (filing_object author call entry node) none)
 
 plain_no_float : (author call entry : ℕ) (what : Plain SiteView) → has_float (plain_data author call entry what) ≡ false
 unfolding plain_data

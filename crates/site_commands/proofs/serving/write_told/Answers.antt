@@ -1,5 +1,5 @@
 use Rattle.std.proofs.Common.{rules}
-use Rattle.site_commands.proofs.Served.{tells_whole}
+use Rattle.site_commands.proofs.Served.{tells_last}
 use Rattle.site_commands.specs.Work.{HasLogged}
 use Rattle.site_io.specs.Stream.{HasWritten}
 use Rattle.site_commands.proofs.serving.write_told.Goals as goal
@@ -10,5 +10,5 @@ returns-in-Ok-write_log g c =
     (g.K.Outside.stream c.write_all.new.sink) = search rules in
     let logged : HasLogged c.args.told.now.lines (g.E.Outside.stream c.args.err.now)
     (g.E.Outside.stream c.write_log.new.err) = search rules in
-    tells_whole c.say_last.result c.service_ending.result c.args.ends.now c.args.stop _ _ _ _ _ _ _ c.say_last.ensures.ending
-    c.service_ending.ensures wrote logged c.say_last.ensures.last
+    tells_last c.say_last.result c.service_ending.result c.args.ends.now c.args.stop _ _ _ _ _ _ _
+    c.service_ending.ensures wrote logged c.say_last.ensures

@@ -5,10 +5,9 @@ use Rattle.serde_json.specs.Data.{Data}
 use Rattle.pp_values.specs.Datum.{undef, flag, int, text, list, hash, no_entries, data_of, entries_of}
 use Rattle.pp_values.specs.declared.place.TheConstants.{MAIN_MANIFEST}
 use Rattle.res_core.specs.Asked.{compile, deactivate}
-use Rattle.site_bundle.specs.NodeNames.{is_node_name}
 use Rattle.site_bundle.specs.SiteView.{SiteView, facts_for, file_in, main_text, text_at, put_in, site_of}
 use Rattle.site_bundle.specs.Given.{are_distinct, has_main, is_manifest_path}
-use Rattle.site_bundle.specs.declared.limits.TheConstants.{MOST_BUNDLE_BYTES, MOST_FILES, MOST_FILE_BYTES, MOST_NAME_CHARACTERS, MOST_REQUESTS}
+use Rattle.site_bundle.specs.declared.limits.TheConstants.{MOST_BUNDLE_BYTES, MOST_FILES, MOST_FILE_BYTES, MOST_REQUESTS}
 use Rattle.site_bundle.specs.Refusals.{not_json, bad_shape, too_large, result_and_then}
 use Rattle.site_bundle.specs.Bundles.{bundle_of, site_said, request_list}
 use Rattle.site_bundle.specs.Files.{content_of, has_room, with_file, with_files}
@@ -246,15 +245,6 @@ lists : (request_list (codes " [{\"deactivate\":\"a\"}]\n") ≡ Ok (deactivate (
 unfolding request_list bundle_on_literals
 lists = (refl, refl, refl, refl, refl)
 
-empty_name : is_node_name [] ≡ false
-empty_name = refl
-
-small_letters : is_node_name (codes "web-1.a_b") ≡ true
-small_letters = refl
-
-capital_letter : is_node_name (codes "Web") ≡ false
-capital_letter = refl
-
 site : SiteView
 site = record {
   manifests = (MAIN_MANIFEST.now, []) ∷ [];
@@ -341,8 +331,7 @@ given : (are_distinct {X = ℕ} ((codes "a", 0) ∷ (codes "b", 0) ∷ []) ≡ t
     × (is_manifest_path (codes "data/common.json") ≡ false)
 given = (refl, refl, refl, refl, refl, refl, refl, refl)
 
--- how much a bundle may be: 64 MiB, 4 MiB a file, 65,536 files, 1,048,576 requests; and the name of a node: 255
--- characters
+-- how much a bundle may be: 64 MiB, 4 MiB a file, 65,536 files, 1,048,576 requests
 limits : (MOST_BUNDLE_BYTES ≡ 64 * 1024 * 1024) × (MOST_FILE_BYTES ≡ 4 * 1024 * 1024)
-    × (MOST_FILES ≡ 65536) × (MOST_REQUESTS ≡ 1024 * 1024) × (MOST_NAME_CHARACTERS ≡ 255)
+    × (MOST_FILES ≡ 65536) × (MOST_REQUESTS ≡ 1024 * 1024)
 limits = (refl, refl, refl, refl, refl)

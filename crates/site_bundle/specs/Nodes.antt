@@ -6,7 +6,7 @@ use Rattle.pp_values.specs.Datum.{Datum}
 use Rattle.pp_values.specs.Rising.{text_cmp}
 use Rattle.serde_json.specs.Data.{Data, Members, no_members, member}
 use Rattle.serde_json.specs.Find.{get, as_object}
-use Rattle.site_bundle.specs.NodeNames.{is_node_name}
+use Rattle.word_rules.specs.NodeNames.{is_node_name}
 use Rattle.site_bundle.specs.Refusals.{Refusal, bad_shape, under, result_and_then}
 use Rattle.site_bundle.specs.GivenFacts.{given_facts}
 use Rattle.site_bundle.specs.SiteView.{Listed}

@@ -7,7 +7,7 @@ use Rattle.serde_json.specs.Data.{Data, Items, no_items, item}
 use Rattle.serde_json.specs.Find.{get, as_array, as_str, as_number, as_u64}
 use Rattle.res_core.specs.Asked.{Asked, compile, deactivate, Wanted}
 use Rattle.site_bundle.specs.declared.limits.TheConstants.{MOST_REQUESTS}
-use Rattle.site_bundle.specs.NodeNames.{is_node_name}
+use Rattle.word_rules.specs.NodeNames.{is_node_name}
 use Rattle.site_bundle.specs.Refusals.{Refusal, bad_shape, too_large, under, request_path, result_and_then}
 use Rattle.site_bundle.specs.GivenFacts.{given_facts}
 

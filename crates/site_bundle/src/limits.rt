@@ -1,4 +1,4 @@
-//! How much a bundle or a folder may be, and how long a name.
+//! How much a bundle or a folder may be.
 
 /// The most bytes that a bundle has, and all files that are read of a folder together: 64 MiB.
 pub const MOST_BUNDLE_BYTES: usize = 67_108_864;
@@ -8,9 +8,6 @@ pub const MOST_FILE_BYTES: usize = 4_194_304;
 
 /// The most files of a bundle, and that are read of a folder.
 pub const MOST_FILES: usize = 65_536;
-
-/// The most characters of the name of a node.
-pub const MOST_NAME_CHARACTERS: usize = 255;
 
 /// The most requests of a bundle.
 pub const MOST_REQUESTS: usize = 1_048_576;

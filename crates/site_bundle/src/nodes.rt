@@ -7,12 +7,12 @@ ghost use Rattle.site_bundle.specs.Nodes.{listed_facts, with_node, with_nodes, a
 
 use crate::bundle_stop::BundleStop;
 use crate::listed_nodes::ListedNodes;
-use crate::node_name::is_node_name;
 use crate::refusing::{bad_member, bad_shape};
 use crate::sent_facts::given_facts;
 use pp_values::{Memory, Text, Value as FactValue};
 use serde_json::{Map, Value};
 use std::alloc::Global;
+use word_rules::is_node_name;
 
 /// The nodes of a bundle.
 pub fn read_nodes(alloc: Global, bundle: &Value) -> Result<ListedNodes, BundleStop>

@@ -11,13 +11,13 @@ ghost use Rattle.res_core.specs.AskedFacts.{give_facts};
 
 use crate::bundle_stop::BundleStop;
 use crate::limits::MOST_REQUESTS;
-use crate::node_name::is_node_name;
 use crate::refusing::{bad_request, bad_request_member, bad_shape, too_large};
 use crate::sent_facts::given_facts;
 use pp_values::{Text, Value as FactValue};
 use res_core::{CompileRequest, Request, Requests};
 use serde_json::Value;
 use std::alloc::Global;
+use word_rules::is_node_name;
 
 /// What a bundle asks for.
 pub fn read_requests(alloc: Global, bundle: &Value) -> Result<Requests, BundleStop>

@@ -11,8 +11,8 @@ use Rattle.matchit.specs.Rows.{RowsOf, param_token}
 use Rattle.matchit.specs.Router.{RouteOf}
 use Rattle.matchit.specs.Seek.{first, seek, step, own, or_else as or_route, has_slash, slash, param_step}
 use Rattle.site_io.specs.Folders.{after_front}
-use Rattle.site_bundle.specs.NodeNames.{is_node_name, is_node_name_byte}
-use Rattle.site_bundle.specs.declared.limits.TheConstants.{MOST_NAME_CHARACTERS}
+use Rattle.word_rules.specs.NodeNames.{is_node_name, is_node_name_byte}
+use Rattle.word_rules.specs.declared.limits.TheConstants.{MOST_NAME_CHARACTERS}
 use Rattle.site_bundle.specs.RequestsOf.{if_node_name}
 use Rattle.site_serve.specs.Endpoints.{node_behind, or_else, site_at, endpoint_of}
 use Rattle.site_serve.specs.Steps.{node_route, site_route, known_routes, route_of, named_by}

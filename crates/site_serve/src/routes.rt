@@ -6,9 +6,9 @@ ghost use Rattle.site_serve.specs.Steps.{known_routes, route_of, named_by};
 use crate::endpoint::Endpoint;
 use matchit::{InsertError, Router};
 use pp_values::{Memory, Text};
-use site_bundle::is_node_name;
 use site_io::after_front;
 use std::alloc::Global;
+use word_rules::is_node_name;
 
 /// Which form a path has.
 #[derive(Clone, Copy, Debug, PartialEq, Eq)]

@@ -1,5 +1,5 @@
 -- Documents, and their texts.
-use Rattle.std.proofs.Common.{◌≡◌, ℕ, Bool, true, false, List, [], ◌∷◌, ◌++◌, Option, Some, None, map, refl, codes}
+use Rattle.std.proofs.Common.{◌≡◌, ℕ, true, List, [], ◌∷◌, ◌++◌, None, map, refl, codes}
 use Rattle.std.specs.Fmt.{digits}
 use Rattle.serde_json.proofs.OnLiterals.{serde_json_on_literals}
 use Rattle.pp_values.specs.Datum as d
@@ -8,7 +8,6 @@ use Rattle.pp_values.specs.declared.fault.What.{What}
 use Rattle.pp_values.specs.declared.fault.What.TheVariants.{Syntax, Failed, Cycle, AlreadySet, Duplicate}
 use Rattle.pp_values.specs.declared.fault.Subject.TheVariants as subject
 use Rattle.pp_values.specs.declared.place.TheConstants.{MAIN_MANIFEST}
-use Rattle.pp_values.specs.declared.reference.Reference.{Reference}
 use Rattle.pp_values.specs.Settings.{Setting}
 use Rattle.res_core.specs.declared.held.Held.{Held}
 use Rattle.res_core.specs.declared.catalog.Catalog.{Catalog}

@@ -1,7 +1,7 @@
 -- The command line as `clap` is told of it: each command with its positional words in order, and its options, which
 -- have one value each and may stand once.
-use Rattle.std.specs.Prelude.{List, ℕ, Option, Some, true, codes}
-use Rattle.clap.specs.Words.{App, Rule, Shape, Text, new_app, new_rule, with_rule, with_subcommand}
+use Rattle.std.specs.Prelude.{Some, true, codes}
+use Rattle.clap.specs.Words.{App, Rule, Text, new_app, new_rule, with_rule, with_subcommand}
 use Rattle.clap.specs.declared.builder.action.ArgAction.TheVariants.{Set}
 use Rattle.site_words.specs.declared.ids.TheConstants.{NODE, KEY, NODES, ROUNDS, PORT, COUNT, MERGE, DIR, WORKERS}
 

@@ -75,19 +75,21 @@ fn bundle_line<'a>(alloc: Global) -> Result<Command<'a>, AllocError>
 fn reading_line<'a>(alloc: Global) -> Result<Command<'a>, AllocError>
     ensures { IfOk result (λ c. app_of c ≡ spec.reading_line) }
 {
-    bare_line(alloc)
+    bare_line(alloc)?
         .subcommand(manifest_line(alloc)?)?
         .subcommand(check_line(alloc)?)?
         .subcommand(compile_line(alloc)?)
 }
 
-fn bare_line<'a>(alloc: Global) -> Command<'a>
-    ensures { app_of result ≡ spec.bare_line }
+/// Usage lines begin with the program's name.
+fn bare_line<'a>(alloc: Global) -> Result<Command<'a>, AllocError>
+    ensures { IfOk result (λ c. app_of c ≡ spec.bare_line) }
 {
     Command::new(alloc, "site")
         .no_binary_name(true)
         .disable_help_subcommand(true)
         .subcommand_required(true)
+        .bin_name("site")
 }
 
 fn manifest_line<'a>(alloc: Global) -> Result<Command<'a>, AllocError>
@@ -98,9 +100,8 @@ fn manifest_line<'a>(alloc: Global) -> Result<Command<'a>, AllocError>
         alloc,
         "manifest",
         5,
-        "site manifest",
         "Compiles a catalog from one manifest on standard input",
-    )?
+    )
     .arg(positional(alloc, NODE, NODE_HELP))
 }
 
@@ -112,9 +113,8 @@ fn check_line<'a>(alloc: Global) -> Result<Command<'a>, AllocError>
         alloc,
         "check",
         1,
-        "site check",
         "Reads a site's manifests and tells which can't be read",
-    )?
+    )
     .arg(optional(alloc, DIR, DIR_VALUE, DIR_HELP))
 }
 
@@ -122,45 +122,32 @@ fn compile_line<'a>(alloc: Global) -> Result<Command<'a>, AllocError>
     ensures line { IfOk result (λ c. app_of c ≡ spec.compile_line) }
     ensures local { IfOk result (λ c. (out-Command c).has_globals ≡ false) }
 {
-    command(
-        alloc,
-        "compile",
-        2,
-        "site compile",
-        "Compiles a node's catalog",
-    )?
-    .arg(positional(alloc, NODE, NODE_HELP))?
-    .arg(optional(alloc, DIR, DIR_VALUE, DIR_HELP))
+    command(alloc, "compile", 2, "Compiles a node's catalog")
+        .arg(positional(alloc, NODE, NODE_HELP))?
+        .arg(optional(alloc, DIR, DIR_VALUE, DIR_HELP))
 }
 
 fn sequence_line<'a>(alloc: Global) -> Result<Command<'a>, AllocError>
     ensures line { IfOk result (λ c. app_of c ≡ spec.sequence_line) }
     ensures local { IfOk result (λ c. (out-Command c).has_globals ≡ false) }
 {
-    command(
+    Ok(command(
         alloc,
         "sequence",
         10,
-        "site sequence",
         "Answers a bundle's requests one after another",
-    )
+    ))
 }
 
 fn lookup_line<'a>(alloc: Global) -> Result<Command<'a>, AllocError>
     ensures line { IfOk result (λ c. app_of c ≡ spec.lookup_line) }
     ensures local { IfOk result (λ c. (out-Command c).has_globals ≡ false) }
 {
-    command(
-        alloc,
-        "lookup",
-        3,
-        "site lookup",
-        "Looks a key up in the site's data",
-    )?
-    .arg(positional(alloc, NODE, NODE_HELP))?
-    .arg(positional(alloc, KEY, KEY_HELP))?
-    .arg(optional(alloc, MERGE, MERGE_VALUE, MERGE_HELP))?
-    .arg(optional(alloc, DIR, DIR_VALUE, DIR_HELP))
+    command(alloc, "lookup", 3, "Looks a key up in the site's data")
+        .arg(positional(alloc, NODE, NODE_HELP))?
+        .arg(positional(alloc, KEY, KEY_HELP))?
+        .arg(optional(alloc, MERGE, MERGE_VALUE, MERGE_HELP))?
+        .arg(optional(alloc, DIR, DIR_VALUE, DIR_HELP))
 }
 
 fn apply_line<'a>(alloc: Global) -> Result<Command<'a>, AllocError>
@@ -171,9 +158,8 @@ fn apply_line<'a>(alloc: Global) -> Result<Command<'a>, AllocError>
         alloc,
         "apply",
         4,
-        "site apply",
         "Applies a node's catalog to a machine, and reports",
-    )?
+    )
     .arg(positional(alloc, NODE, NODE_HELP))?
     .arg(optional(alloc, DIR, DIR_VALUE, DIR_HELP))?
     .arg(optional(alloc, WORKERS, WORKERS_VALUE, WORKERS_HELP))
@@ -183,14 +169,9 @@ fn demo_line<'a>(alloc: Global) -> Result<Command<'a>, AllocError>
     ensures line { IfOk result (λ c. app_of c ≡ spec.demo_line) }
     ensures local { IfOk result (λ c. (out-Command c).has_globals ≡ false) }
 {
-    command(
-        alloc,
-        "demo",
-        13,
-        "site demo",
-        "Runs a made-up site, and counts",
-    )?
-    .arg(positional(alloc, NODES, NODES_HELP))
+    command(alloc, "demo", 13, "Runs a made-up site, and counts").arg(positional(
+        alloc, NODES, NODES_HELP,
+    ))
 }
 
 fn batch_line<'a>(alloc: Global) -> Result<Command<'a>, AllocError>
@@ -201,9 +182,8 @@ fn batch_line<'a>(alloc: Global) -> Result<Command<'a>, AllocError>
         alloc,
         "batch",
         11,
-        "site batch",
         "Answers a bundle's requests by several workers",
-    )?
+    )
     .arg(optional(alloc, WORKERS, WORKERS_VALUE, WORKERS_HELP))
 }
 
@@ -215,9 +195,8 @@ fn serve_line<'a>(alloc: Global) -> Result<Command<'a>, AllocError>
         alloc,
         "serve",
         6,
-        "site serve",
         "Serves catalogs over HTTP on loopback, and writes the site's journal",
-    )?
+    )
     .arg(positional(alloc, PORT, PORT_HELP))?
     .arg(positional(alloc, COUNT, COUNT_HELP))?
     .arg(needed(alloc, DIR, DIR_VALUE, DIR_HELP))
@@ -227,26 +206,25 @@ fn audit_line<'a>(alloc: Global) -> Result<Command<'a>, AllocError>
     ensures line { IfOk result (λ c. app_of c ≡ spec.audit_line) }
     ensures local { IfOk result (λ c. (out-Command c).has_globals ≡ false) }
 {
-    command(
+    let line = command(
         alloc,
         "audit",
         7,
-        "site audit",
         "Tells whether a journal's history is legal",
-    )
+    );
+    Ok(line)
 }
 
 fn migrate_line<'a>(alloc: Global) -> Result<Command<'a>, AllocError>
     ensures line { IfOk result (λ c. app_of c ≡ spec.migrate_line) }
     ensures local { IfOk result (λ c. (out-Command c).has_globals ≡ false) }
 {
-    command(
+    Ok(command(
         alloc,
         "migrate",
         12,
-        "site migrate",
         "Writes a journal anew, in the version that is written today",
-    )
+    ))
 }
 
 fn resume_line<'a>(alloc: Global) -> Result<Command<'a>, AllocError>
@@ -257,9 +235,8 @@ fn resume_line<'a>(alloc: Global) -> Result<Command<'a>, AllocError>
         alloc,
         "resume",
         8,
-        "site resume",
         "Goes on from a journal with the requests behind it",
-    )?
+    )
     .arg(optional(alloc, WORKERS, WORKERS_VALUE, WORKERS_HELP))
 }
 
@@ -271,28 +248,18 @@ fn settle_line<'a>(alloc: Global) -> Result<Command<'a>, AllocError>
         alloc,
         "settle",
         9,
-        "site settle",
         "Compiles all nodes again and again, until what they export stays",
-    )?
+    )
     .arg(positional(alloc, ROUNDS, ROUNDS_HELP))?
     .arg(optional(alloc, WORKERS, WORKERS_VALUE, WORKERS_HELP))
 }
 
-/// A command: its name, its place in the list of commands, how its usage line begins, and what it does.
-fn command<'a>(
-    alloc: Global,
-    name: &'a str,
-    place: usize,
-    usage: &str,
-    about: &'a str,
-) -> Result<Command<'a>, AllocError>
-    ensures line { IfOk result (λ c. app_of c ≡ new_app name.entry.now) }
-    ensures local { IfOk result (λ c. (out-Command c).has_globals ≡ false) }
+/// A command: its name, its place in the list of commands, and what it does.
+fn command<'a>(alloc: Global, name: &'a str, place: usize, about: &'a str) -> Command<'a>
+    ensures line { app_of result ≡ new_app name.entry.now }
+    ensures local { (out-Command result).has_globals ≡ false }
 {
-    Command::new(alloc, name)
-        .about(about)
-        .display_order(place)
-        .bin_name(usage)
+    Command::new(alloc, name).about(about).display_order(place)
 }
 
 fn positional<'a>(alloc: Global, id: &'a str, help: &'a str) -> Arg<'a>

@@ -1,6 +1,5 @@
 -- A catalog that a site means for a node has no cycle.
 use Rattle.std.proofs.Common.{◌≡◌, ℕ, List, Result, Ok, Err, refl, sym, subst}
-use Rattle.std.specs.Prelude.{Unit}
 use Rattle.pp_tree.specs.declared.file.File.{File}
 use Rattle.pp_parser.specs.Manifest.{file_of}
 use Rattle.pp_values.specs.Answers.{and_then}

@@ -1,17 +1,19 @@
--- All indexes in a catalog are those of its resources.
+-- All indexes in a catalog are those of its resources, and where it has no cycle none is told.
 use Rattle.std.proofs.Common.{◌≡◌, ℕ, suc, ◌+◌, ◌<◌, ◌≤◌, Bool, true, false, ◌&&◌, if◌then◌else◌, List, [], ◌∷◌, ◌++◌}
-use Rattle.std.proofs.Common.{length, map, All, refl, arith}
+use Rattle.std.proofs.Common.{length, map, All, inl, inr, refl, arith}
 use Rattle.std.proofs.lemmas.List.Elements.{All-append, All-map, All-nil, All-cons}
 use Rattle.std.proofs.lemmas.Bool.{ltb-true}
 use Rattle.std.specs.List.{list_all}
 use Rattle.std.specs.Prelude.{nat_lt}
 use Rattle.rel_graph.proofs.CatalogLemmas.{between_below, related_below}
-use Rattle.rel_graph.specs.CatalogPairs.{pairs_from, containment, relations}
+use Rattle.pp_values.specs.declared.reference.Reference.{Reference}
+use Rattle.rel_graph.specs.CatalogPairs.{pairs_from, containment, relations, IsAcyclic}
 use Rattle.rel_graph.specs.Graphs.{edge_pair}
 use Rattle.rel_graph.specs.Pairs.{AllBelow}
 use Rattle.res_core.specs.Catalogs.{are_containers, is_between, IsCatalog}
 use Rattle.res_core.specs.declared.edge.Edge.{Edge}
 use Rattle.res_core.specs.declared.held.Held.{Held}
+use Rattle.agent_transaction.specs.Catalogs.{IsCycleTold}
 use Rattle.agent_transaction.specs.Runs.{signalling}
 
 first : (a b : Bool) → (a && b) ≡ true → a ≡ true
@@ -60,3 +62,10 @@ module _ (hs : List Held) (es : List Edge) (kept : IsCatalog hs es) where
 
   pub signalling_below : AllBelow (signalling es) (length hs)
   signalling_below = signals_below (length hs) es kept.between
+
+-- where there is no cycle none is told
+pub free_of_cycles : (hs : List Held) (es : List Edge) (told : List Reference) → IsAcyclic hs es → IsCycleTold hs es told → ⊥
+free_of_cycles hs es told free c = elim c.closes [
+  | inl inside ↦ free.0 inside.start (inside.between, inside.closes)
+  | inr before ↦ (let cycle = before.1 in free.1 cycle.start (cycle.between, cycle.closes))
+]

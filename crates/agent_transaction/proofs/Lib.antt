@@ -2,12 +2,13 @@ pub mod ApplyLemmas
 pub mod CatalogLemmas
 mod Examples
 pub mod FlatOrders
+pub mod FlatTurns
 pub mod HoldLemmas
 pub mod MadeTurns
 pub mod OneRunLemmas
 pub mod PlanLemmas
 pub mod RecordLemmas
-mod RunExamples
+pub mod RunExamples
 pub mod RunLemmas
 pub mod SameLemmas
 pub mod SecondRunLemmas

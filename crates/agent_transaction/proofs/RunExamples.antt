@@ -1,15 +1,11 @@
 -- Whole runs of the definition, at worked examples. By the law of told runs each is the only one from its content.
-use Rattle.std.proofs.Common.{◌≡◌, ℕ, Bool, true, false, not, ◌&&◌, List, [], ◌∷◌, length, None, Some, Contains, inl, inr, refl, sym, subst, ◌∙◌, true≢false, codes, arith}
-use Rattle.std.specs.List.{All, list_all, list_any}
-use Rattle.std.specs.Prelude.{nat_eq}
-use Rattle.std.proofs.lemmas.Bool.{and_from}
+use Rattle.std.proofs.Common.{◌≡◌, ℕ, true, false, not, List, [], ◌∷◌, Some, inl, refl, codes, arith}
+use Rattle.std.specs.List.{All, list_all}
 use Rattle.pp_values.specs.Datum.{flag, text}
 use Rattle.pp_values.specs.Settings.{Setting}
-use Rattle.pp_values.specs.declared.reference.Reference.{Reference}
-use Rattle.rel_graph.specs.Before.{Before, Direct}
+use Rattle.rel_graph.specs.Before.{Direct}
 use Rattle.rel_graph.specs.CatalogPairs.{containment, relations}
-use Rattle.rel_graph.specs.Orders.{IsOrder}
-use Rattle.res_core.specs.Catalogs.{Catalog, IsCatalog}
+use Rattle.res_core.specs.Catalogs.{IsCatalog}
 use Rattle.res_core.specs.NativeTypes.{native_of}
 use Rattle.res_core.specs.declared.edge.Edge.{Edge}
 use Rattle.res_core.specs.declared.held.Held.{Held}
@@ -17,167 +13,50 @@ use Rattle.res_core.specs.declared.native_type.NativeType.TheVariants as native
 use Rattle.agent_machine.specs.Contents.{Content}
 use Rattle.agent_machine.specs.States.{State, present, has, written}
 use Rattle.agent_machine.specs.declared.report.Report.{Report}
-use Rattle.agent_machine.specs.declared.report_line.ReportLine.{ReportLine}
-use Rattle.agent_machine.specs.declared.status.Status.{Status}
 use Rattle.agent_machine.specs.declared.status.Status.TheVariants as status
-use Rattle.agent_transaction.proofs.FlatOrders.{first, second, not_true, holds_of, found, any_of, same, itself, is_flat, none_before, direct_pair, pair_direct, no_containment, is_order, order_made}
+use Rattle.agent_transaction.proofs.FlatOrders.{second, found, same, none_before}
+use Rattle.agent_transaction.proofs.FlatTurns.{held, main, file, service, content_of, edge, ref, catalog, content, line, had, skipped, had_is, calm_is, ordered}
 use Rattle.agent_transaction.proofs.MadeTurns.{told, turn_made}
 use Rattle.agent_transaction.proofs.SecondRunLemmas.{second_run_changes_nothing}
-use Rattle.agent_transaction.specs.Catalogs.{IsOrdered, IsRun}
-use Rattle.agent_transaction.specs.Runs.{signalling, Turned, Reaches, has_failed, signals, IsTurned}
+use Rattle.agent_transaction.specs.Catalogs.{IsRun}
+use Rattle.agent_transaction.specs.Runs.{has_failed}
 use Rattle.agent_transaction.specs.SecondRuns.{IsToldRun, unchanged_line}
 use Rattle.agent_transaction.specs.Tasks.{ensure, task_of}
-use Rattle.agent_transaction.specs.ToldTurns.{turn}
-use Rattle.agent_transaction.specs.Turns.{skipped_line}
 use Rattle.agent_transaction.specs.declared.task.Task.{Task}
 
--- ---- catalogs
-
-abbrev held : List ℕ → List ℕ → List Setting → List ℕ → Held
-held kind title attributes inside = record {
-  item = record { kind = kind; title = title; attributes = attributes; tags = [] };
-  inside = inside;
-}
-
--- a class, of which only `main` contains others here
-abbrev main : Held
-main = held (codes "class") (codes "main") [] []
-
-abbrev file : List ℕ → List Setting → Held
-file title attributes = held (codes "file") title attributes (0 ∷ [])
-
-abbrev service : Held
-service = held (codes "service") (codes "s") ((ensure, text (codes "running")) ∷ []) (0 ∷ [])
-
-abbrev content_of : List ℕ → Setting
-content_of word = (codes "content", text word)
-
-abbrev edge : ℕ → ℕ → Bool → Edge
-edge from to signal = record { from = from; to = to; signal = signal }
-
-abbrev ref : List ℕ → List ℕ → Reference
-ref kind title = record { kind = kind; title = title }
-
-abbrev catalog : List Held → List Edge → Catalog
-catalog resources edges = record { node = codes "n"; resources = resources; edges = edges; log = [] }
-
-abbrev content : List (List ℕ) → State → ℕ → Content
-content failing state calls = record { document = record { failing = failing; state = state }; calls = calls; failing = [] }
-
-abbrev line : Reference → Status → List (List ℕ) → Bool → ReportLine
-line what status changes refreshed =
-    record { item = what; status = status; changes = changes; refreshed = refreshed; fault = None }
-
--- ---- turns
-
-module _ (resources : List Held) (edges : List Edge) where
-  abbrev Comes : ℕ → ℕ → Type 0
-  Comes = Before (containment resources) (relations edges)
-
-  abbrev Signals : ℕ → ℕ → Type 0
-  Signals = Direct (containment resources) (signalling edges)
-
-  abbrev has_pair : ℕ → ℕ → Bool
-  has_pair a b = list_any (λ p. nat_eq p.0 a && nat_eq p.1 b) (signalling edges)
-
-  -- whether it is signalled
-  abbrev due : List Turned → ℕ → Bool
-  due earlier x = list_any (λ t. signals t.line && has_pair t.at x) earlier
-
-  -- a turn on a machine with this content
-  abbrev had : List Turned → ℕ → Task → Content → ℕ → Turned
-  had earlier at task c f = record {
-    at = at;
-    task = task;
-    before = told c f;
-    line = (turn task (due earlier at) c).0;
-    after = told (turn task (due earlier at) c).1 (turn_made task (due earlier at) c f).0;
-  }
-
-  abbrev skipped : ℕ → Task → Content → ℕ → Turned
-  skipped at task c f =
-      record { at = at; task = task; before = told c f; line = skipped_line task.what; after = told c f }
-
-  module _ (flat : is_flat (containment resources) (signalling edges) ≡ true) where
-    due_to : (earlier : List Turned) (x : ℕ) → due earlier x ≡ true → Reaches signals Signals earlier x
-    due_to earlier x h =
-        let t = found (λ (t : Turned). signals t.line && has_pair t.at x) earlier h in
-        let p = found (λ (p : ℕ × ℕ). nat_eq p.0 t.0.at && nat_eq p.1 x) (signalling edges)
-        (second (signals t.0.line) (has_pair t.0.at x) t.2) in
-        let left : p.0.0 ≡ t.0.at = same p.0.0 t.0.at (first (nat_eq p.0.0 t.0.at) (nat_eq p.0.1 x) p.2) in
-        let right : p.0.1 ≡ x = same p.0.1 x (second (nat_eq p.0.0 t.0.at) (nat_eq p.0.1 x) p.2) in (
-          t.0,
-          t.1,
-          first (signals t.0.line) (has_pair t.0.at x) t.2,
-          pair_direct (containment resources) (signalling edges) flat t.0.at x
-              (subst (λ y. Contains (signalling edges) (t.0.at, y)) right
-              (subst (λ y. Contains (signalling edges) (y, p.0.1)) left p.1)),
-        )
-
-    due_back : (earlier : List Turned) (x : ℕ) → Reaches signals Signals earlier x → due earlier x ≡ true
-    due_back earlier x r =
-        let p = direct_pair (containment resources) (signalling edges) flat r.0.at x r.3 in
-        let there : has_pair r.0.at x ≡ true =
-        any_of (λ (p : ℕ × ℕ). nat_eq p.0 r.0.at && nat_eq p.1 x) (signalling edges) (r.0.at, x) p
-        (and_from (nat_eq r.0.at r.0.at) (nat_eq x x) (itself r.0.at) (itself x)) in
-        any_of (λ (t : Turned). signals t.line && has_pair t.at x) earlier r.0 r.1
-        (and_from (signals r.0.line) (has_pair r.0.at x) r.2 there)
-
-    had_is : (earlier : List Turned) (at : ℕ) (task : Task) (c : Content) (f : ℕ) →
-        ¬ (Reaches has_failed Comes earlier at) →
-        IsTurned Comes Signals earlier (had earlier at task c f)
-    had_is earlier at task c f free =
-        inr (free, (due earlier at, (due_to earlier at, due_back earlier at), (turn_made task (due earlier at) c f).1))
-
-    -- where none failed
-    calm_is : (earlier : List Turned) (at : ℕ) (task : Task) (c : Content) (f : ℕ) →
-        list_all (λ (t : Turned). not (has_failed t.line)) earlier ≡ true →
-        IsTurned Comes Signals earlier (had earlier at task c f)
-    calm_is earlier at task c f none = had_is earlier at task c f (λ r. true≢false
-        (sym r.2 ∙ not_true _ (holds_of (λ (t : Turned). not (has_failed t.line)) earlier r.0 none r.1)))
-
-  module _ (flat : is_flat (containment resources) (relations edges) ≡ true) where
-    ordered : (count : ℕ) (order : List ℕ) → count ≡ length resources →
-        is_order (containment resources) (relations edges) flat count order ≡ true → IsOrdered resources edges order
-    ordered count order long is = record {
-      contained = no_containment (containment resources) (relations edges) flat;
-      in_order = subst (λ n. IsOrder (Direct (containment resources) (relations edges)) n order) long
-          (order_made (containment resources) (relations edges) flat count order is);
-    }
-
-abbrev running : List Setting
+abbrev pub running : List Setting
 running = (ensure, text (codes "running")) ∷ []
 
-abbrev ran : State
+abbrev pub ran : State
 ran = (codes "Service[s]", running) ∷ []
 
 -- ---- two files that a service subscribes to are written, and it is refreshed once
 
-abbrev two_files : List Held
+abbrev pub two_files : List Held
 two_files =
     main ∷ file (codes "/a") (content_of (codes "x") ∷ []) ∷ file (codes "/b")
     (content_of (codes "y") ∷ []) ∷ service ∷ []
 
-abbrev two_edges : List Edge
+abbrev pub two_edges : List Edge
 two_edges = edge 1 3 true ∷ edge 2 3 true ∷ []
 
-abbrev task_a : Task
+abbrev pub task_a : Task
 task_a = task_of native.File (file (codes "/a") (content_of (codes "x") ∷ [])).item
 
-abbrev task_b : Task
+abbrev pub task_b : Task
 task_b = task_of native.File (file (codes "/b") (content_of (codes "y") ∷ [])).item
 
-abbrev task_s : Task
+abbrev pub task_s : Task
 task_s = task_of native.Service service.item
 
-abbrev both_written : State
+abbrev pub both_written : State
 both_written =
     (codes "File[/a]", content_of (codes "x") ∷ []) ∷ (codes "File[/b]", content_of (codes "y") ∷ []) ∷ ran
 
-abbrev a_written : State
+abbrev pub a_written : State
 a_written = (codes "File[/a]", content_of (codes "x") ∷ []) ∷ ran
 
-abbrev two_report : Report
+abbrev pub two_report : Report
 two_report = record {
   node = codes "n";
   lines =

@@ -1,13 +1,11 @@
 -- What a report says of a catalog, where each turn knows all that comes before it.
-use Rattle.std.proofs.Common.{◌≡◌, ◌↔◌, ℕ, Bool, true, false, ◌&&◌, List, [], ◌∷◌, map, Option, None, Some, Result, Ok, Err}
+use Rattle.std.proofs.Common.{◌≡◌, ◌↔◌, ℕ, Bool, true, false, ◌&&◌, List, [], ◌∷◌, Some, Result, Ok, Err}
 use Rattle.std.proofs.Common.{Contains, slice_get, option_map, option_and_then, inl, inr, refl, sym, subst, ap, ◌∙◌}
 use Rattle.res_core.specs.Catalogs.{Catalog, IsCatalog, reference_of}
 use Rattle.res_core.specs.NativeTypes.{native_of}
-use Rattle.res_core.specs.declared.native_type.NativeType.{NativeType}
 use Rattle.pp_values.specs.declared.reference.Reference.{Reference}
 use Rattle.agent_machine.specs.Machines.{Told}
 use Rattle.agent_machine.specs.declared.report_line.ReportLine.{ReportLine}
-use Rattle.agent_machine.specs.declared.status.Status.{Status}
 use Rattle.agent_machine.specs.declared.status.Status.TheVariants as status
 use Rattle.agent_transaction.proofs.SecondRunLemmas.{comes_in, signals_in}
 use Rattle.agent_transaction.proofs.TaskFits.{taken, some_task, same_task, what_of, place_at}
@@ -15,7 +13,7 @@ use Rattle.agent_transaction.proofs.TaskOrders.{signals_come}
 use Rattle.agent_transaction.specs.Runs.{Turned, Reaches, has_failed, signals, IsTurned, task_at}
 use Rattle.agent_transaction.specs.Sentences.{IsNative, HasLine, refreshes, SomeLine, Says, OneRefresh, RefreshedOnce}
 use Rattle.agent_transaction.specs.Tasks.{task_of, task_in}
-use Rattle.agent_transaction.specs.Turns.{Finishes, IsTurn, Works, line_of, skipped_line}
+use Rattle.agent_transaction.specs.Turns.{Finishes, IsTurn, Works, line_of}
 use Rattle.agent_transaction.specs.declared.ended.Ended.{Ended}
 use Rattle.agent_transaction.specs.declared.ended.Ended.TheVariants as ended
 use Rattle.agent_transaction.specs.declared.task.Task.{Task}

@@ -1,9 +1,8 @@
 -- What a report says of a catalog, where one turn was taken after another.
 use Rattle.std.proofs.Common.{◌≡◌, ℕ, zero, suc, ◌<◌, List, [], ◌∷◌, ◌++◌, map, take, length, Option, None, Some, Contains}
-use Rattle.std.proofs.Common.{slice_get, option_map, option_to_list, inl, inr, refl, sym, subst, ap, ◌∙◌, arith, append-nil}
+use Rattle.std.proofs.Common.{slice_get, option_map, inl, inr, refl, sym, subst, ap, ◌∙◌, arith, append-nil}
 use Rattle.std.proofs.Common.{append_assoc}
 use Rattle.std.proofs.lemmas.List.{take-map}
-use Rattle.std.proofs.lemmas.List.Elements.{Contains-append_left}
 use Rattle.std.proofs.lemmas.Option.{slice_get-map, slice_get-get_or, slice_get_within, get_or_from_slice_get}
 use Rattle.rel_graph.specs.Before.{Direct}
 use Rattle.rel_graph.specs.CatalogPairs.{containment, relations}
@@ -13,12 +12,12 @@ use Rattle.res_core.specs.declared.held.Held.{Held}
 use Rattle.agent_machine.specs.Machines.{Told}
 use Rattle.agent_machine.specs.declared.report_line.ReportLine.{ReportLine}
 use Rattle.agent_transaction.proofs.SecondRunLemmas.{pair_of, comes_in, signals_in}
-use Rattle.agent_transaction.proofs.SentenceLemmas.{Knows, Whose, whose, says}
+use Rattle.agent_transaction.proofs.SentenceLemmas.{Knows, whose, says}
 use Rattle.agent_transaction.proofs.TaskFits.{taken}
 use Rattle.agent_transaction.proofs.TaskOrders.{none_in, in_cases, pair_in, in_pairs, taken_some, taken_none, tasks_known}
 use Rattle.agent_transaction.proofs.TaskOrders.{tasks_have, next_one, Once, tasks_once}
-use Rattle.agent_transaction.specs.Runs.{Turned, IsTurned, AreTurned, task_at, taken_at, tasks_at}
-use Rattle.agent_transaction.specs.Sentences.{HasLine, Says, InOrder, RunSays}
+use Rattle.agent_transaction.specs.Runs.{Turned, IsTurned, AreTurned, task_at, tasks_at}
+use Rattle.agent_transaction.specs.Sentences.{Says, InOrder, RunSays}
 use Rattle.agent_transaction.specs.declared.task.Task.{Task}
 
 -- ---- places

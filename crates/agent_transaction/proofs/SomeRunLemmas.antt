@@ -1,12 +1,9 @@
 -- Where a catalog has no cycle, there is a run of it from any content.
-use Rattle.std.proofs.Common.{◌≡◌, ◌⊎◌, ◌↔◌, ℕ, Bool, true, false, List, [], ◌∷◌, ◌++◌, map, length, Some, Contains, inl}
-use Rattle.std.proofs.Common.{inr, refl, sym, subst, ap, ap₂, ◌∙◌, true≢false}
-use Rattle.rel_graph.specs.Before.{Before, Direct}
+use Rattle.std.proofs.Common.{◌≡◌, ◌⊎◌, ◌↔◌, ℕ, Bool, true, false, List, [], ◌∷◌, ◌++◌, map, length, inl}
+use Rattle.std.proofs.Common.{inr, refl, sym, subst, ap, ◌∙◌, true≢false}
 use Rattle.rel_graph.specs.CatalogPairs.{containment, relations}
 use Rattle.rel_graph.proofs.OrderLemmas.{some_order, direct_decided, before_decided}
-use Rattle.res_core.specs.Catalogs.{Catalog, IsCatalog}
 use Rattle.agent_machine.specs.Contents.{Content}
-use Rattle.agent_machine.specs.Machines.{Told}
 use Rattle.agent_machine.specs.declared.report_line.ReportLine.{ReportLine}
 use Rattle.agent_transaction.proofs.CatalogLemmas.{containment_below, relations_below, signalling_below}
 use Rattle.agent_transaction.proofs.MadeTurns.{told, turn_made}

@@ -6,8 +6,7 @@ use Rattle.std.proofs.Math.Seq.{get_or-append_seam}
 use Rattle.std.proofs.lemmas.List.{take_at, get_or_default}
 use Rattle.std.proofs.lemmas.List.Elements.{Contains-push, Contains-append_left}
 use Rattle.std.proofs.lemmas.List.Elements.{Contains-append_right, Contains-append_cases}
-use Rattle.rel_graph.specs.Before.{Direct}
-use Rattle.rel_graph.specs.CatalogPairs.{containment, relations}
+use Rattle.rel_graph.specs.CatalogPairs.{relations}
 use Rattle.rel_graph.specs.Chains.{Paired}
 use Rattle.rel_graph.specs.Graphs.{edge_pair}
 use Rattle.rel_graph.specs.Orders.{IsNext, IsOrder}

@@ -1,2 +1,3 @@
 mod Finding
+pub mod MeantOrders
 mod ReadFiles

@@ -4,8 +4,10 @@
 
 mod compiling;
 mod language;
+mod laws;
 mod looking_up;
 
 pub use compiling::compile;
 pub use language::PuppetLanguage;
+pub use laws::no_cycle_is_meant;
 pub use looking_up::look_up;

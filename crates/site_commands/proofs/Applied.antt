@@ -1,23 +1,38 @@
 -- From the steps of an application to what became of it.
 use Rattle.std.proofs.Common.{◌≡◌, ℕ, Bool, true, false, List, sym, subst, refl, inl, inr}
-use Rattle.std.specs.Prelude.{Option, Result, Ok, Err, codes, nat_lt}
+use Rattle.std.specs.FinMap as fin
+use Rattle.std.specs.Prelude.{Option, None, Some, Result, Ok, Err, IfOk, codes, nat_lt}
 use Rattle.std.specs.List.{count_by}
 use Rattle.agent_docs.specs.ReportText.{has_changed, has_failed}
 use Rattle.agent_machine.specs.Machines.{Told}
 use Rattle.agent_machine.specs.declared.machine_doc.MachineDoc.{MachineDoc}
 use Rattle.agent_machine.specs.declared.report.Report.{Report}
+use Rattle.agent_transaction.proofs.CatalogLemmas.{free_of_cycles}
+use Rattle.agent_transaction.specs.Catalogs.{IsRunStop}
+use Rattle.agent_transaction.specs.declared.run_stop.RunStop.{RunStop}
+use Rattle.agent_transaction.specs.declared.run_stop.RunStop.TheVariants as run
 use Rattle.command_outputs.specs.Lines.{line}
-use Rattle.command_outputs.specs.Nodes.{NodeRefusal, CompilesNode, unknown, faulty, node_meaning}
+use Rattle.command_outputs.specs.Nodes.{NodeRefusal, CompilesNode, unknown, faulty, catalog_made, catalog_with}
+use Rattle.command_outputs.specs.Nodes.{node_meaning}
 use Rattle.command_outputs.specs.Outputs.{node_refusal_line}
 use Rattle.command_outputs.specs.Stops.{TellsNodeStop}
 use Rattle.command_outputs.specs.declared.node_stop.NodeStop.{NodeStop}
 use Rattle.command_outputs.specs.declared.node_stop.NodeStop.TheVariants as n
 use Rattle.command_outputs.specs.declared.output.Output.{Output}
 use Rattle.command_outputs.specs.declared.output.Output.TheVariants as o
+use Rattle.compile_core.proofs.MeantOrders.{no_cycle_is_meant}
+use Rattle.compile_core.specs.Puppet.{puppet, listed}
+use Rattle.pp_values.specs.Datum.{Datum}
+use Rattle.pp_values.specs.declared.fault.Fault.{Fault}
+use Rattle.pp_values.specs.declared.reference.Reference.{Reference}
+use Rattle.rel_graph.specs.CatalogPairs.{IsAcyclic}
 use Rattle.res_core.specs.declared.catalog.Catalog.{Catalog}
+use Rattle.res_core.specs.declared.export_set.ExportSet.{ExportSet}
+use Rattle.site_bundle.specs.SiteView.{SiteView}
 use Rattle.site_bundle.specs.declared.bundle.Bundle.{Bundle}
 use Rattle.site_io.specs.Stream.{Stream, HasWritten}
 use Rattle.site_words.specs.Asked as a
+use Rattle.wide_apply.specs.WideCatalogs.{IsWideStop}
 use Rattle.site_commands.proofs.Worked.{IsOfWork, ends_worked, ending-writes}
 use Rattle.site_commands.specs.Applying.{ending_by, report_ending, applied_text, TellsReport, HasTold, HasRunLoaded, AppliesLogged, AppliesCatalog, AppliesMeant, Applies, OrLacks}
 use Rattle.site_commands.specs.Endings.{Ends}
@@ -45,20 +60,10 @@ told_whole ending report document out out' err is did =
     document
     out out' err refl did)
 
-refused_by : (changed failed : Bool) → e.Refused ≡ ending_by changed failed → ⊥
-refused_by false false is = cc
-refused_by true false is = cc
-refused_by false true is = cc
-refused_by true true is = cc
-
 pub told_loaded : (ending : Ending) (by : Option ℕ) (catalog : Catalog) (loaded : Told) (out out' err err' : Stream)
     (m : Told) →
     HasTold ending by catalog loaded out out' err err' m → HasRunLoaded ending by catalog loaded out out' err err' m
 told_loaded e.Memory by catalog loaded out out' err err' m did = inr did
-told_loaded e.Refused by catalog loaded out out' err err' m did =
-    absurd (refused_by (nat_lt 0 (count_by has_changed did.report.lines))
-    (nat_lt 0 (count_by has_failed did.report.lines))
-    did.told.0)
 told_loaded ending by catalog loaded out out' err err' m did = did
 
 pub logged_applies : (ending : Ending) (by : Option ℕ) (catalog : Catalog) (document : MachineDoc)
@@ -76,6 +81,47 @@ or_lacks Done ending out out' err err' m m' did = did
 pub compiled_as : (compiled : Result Catalog NodeStop) (meant : Result Catalog NodeRefusal) (catalog : Catalog) →
     compiled ≡ Ok catalog → CompilesNode compiled meant → meant ≡ Ok catalog
 compiled_as compiled meant catalog is did = subst (λ x. CompilesNode x meant) is did
+
+-- ---- no cycle
+
+one_ok : {A F : Type 0} (m : Result A F) (x y : A) → m ≡ Ok x → m ≡ Ok y → x ≡ y
+one_ok m x y e f = cc
+
+made_of : (meant : Result (Catalog × ExportSet) Fault) (catalog : Catalog) → catalog_made meant ≡ Ok catalog →
+    (made : Catalog × ExportSet) × (meant ≡ Ok made) × (made.0 ≡ catalog)
+made_of (Ok made) catalog is = (made, refl, one_ok (catalog_made (Ok made)) made.0 catalog refl is)
+made_of (Err fault) catalog is = absurd cc
+
+-- the catalog of a node has none
+node_free : (site : SiteView) (node : List ℕ) (facts : Option Datum) (catalog : Catalog) →
+    catalog_with site node facts ≡ Ok catalog → IsAcyclic catalog.resources catalog.edges
+node_free site node None catalog is = absurd cc
+node_free site node (Some facts) catalog is =
+    let made = made_of (puppet site node facts fin.empty) catalog is in
+    subst (λ (c : Catalog). IsAcyclic c.resources c.edges) made.2
+    (no_cycle_is_meant site node facts fin.empty made.0 made.1)
+
+pub compiled_free : (compiled : Result Catalog NodeStop) (site : SiteView) (node : List ℕ) →
+    CompilesNode compiled (node_meaning site node) → IfOk compiled (λ c. IsAcyclic c.resources c.edges)
+unfolding Rattle.command_outputs.specs.Nodes.node_meaning
+compiled_free (Ok catalog) site node is = node_free site node (listed site node) catalog is
+compiled_free (Err stop) site node is = tt
+
+-- so a run of it doesn't end by one
+pub turns_free : (catalog : Catalog) (why : RunStop) (told : List Reference) (before after : Told) →
+    IsAcyclic catalog.resources catalog.edges → why ≡ run.Cycle told → IsRunStop catalog why before after → ⊥
+turns_free catalog why told before after free is did =
+    free_of_cycles catalog.resources catalog.edges told free
+    (subst (λ w. IsRunStop catalog w before after) is did).0
+
+pub waves_free : (catalog : Catalog) (why : RunStop) (told : List Reference) (before after : Told) →
+    IsAcyclic catalog.resources catalog.edges → why ≡ run.Cycle told →
+    IsWideStop catalog.resources catalog.edges why before after → ⊥
+waves_free catalog why told before after free is did =
+    free_of_cycles catalog.resources catalog.edges told free
+    (subst (λ w. IsWideStop catalog.resources catalog.edges w before after) is did).0
+
+-- ---- what becomes of the catalog
 
 pub uncompiled_as : (compiled : Result Catalog NodeStop) (meant : Result Catalog NodeRefusal) (stop : NodeStop) →
     compiled ≡ Err stop → CompilesNode compiled meant → CompilesNode (Err stop) meant

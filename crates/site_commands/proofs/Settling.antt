@@ -6,14 +6,11 @@ use Rattle.agent_docs.specs.ReportText.{has_changed, has_failed}
 use Rattle.agent_machine.specs.Machines.{Told}
 use Rattle.agent_machine.specs.declared.machine_doc.MachineDoc.{MachineDoc}
 use Rattle.agent_machine.specs.declared.report.Report.{Report}
-use Rattle.agent_transaction.specs.Catalogs.{IsCycleTold}
-use Rattle.agent_transaction.specs.declared.run_stop.RunStop.TheVariants as stop
 use Rattle.command_outputs.proofs.Statuses.{status_of-run, status_of-shared, status_of-resumed, status_of-settled, status_of-demo}
 use Rattle.command_outputs.specs.Nodes.{NodeRefusal, node_meaning}
 use Rattle.command_outputs.specs.Statuses.{output_status}
 use Rattle.command_outputs.specs.declared.output.Output.{Output}
 use Rattle.command_outputs.specs.declared.output.Output.TheVariants as o
-use Rattle.pp_values.specs.declared.reference.Reference.{Reference}
 use Rattle.res_core.specs.declared.catalog.Catalog.{Catalog}
 use Rattle.site_bundle.specs.declared.bundle.Bundle.{Bundle}
 use Rattle.site_io.specs.Stream.{Stream}
@@ -22,11 +19,11 @@ use Rattle.site_words.specs.Asked.{Asked}
 use Rattle.site_commands.proofs.Served.{served_status}
 use Rattle.site_commands.proofs.Told.{input-told, stop-told, IsRefusal}
 use Rattle.site_commands.proofs.Worked.{ending-delivers, ending-writes, output_ending}
-use Rattle.site_commands.specs.Applying.{ending_by, report_ending, TellsReport, HasRunLoaded, AppliesCatalog, AppliesMeant, Applies, StopsRun}
+use Rattle.site_commands.specs.Applying.{ending_by, report_ending, TellsReport, HasRunLoaded, AppliesCatalog, AppliesMeant, Applies}
 use Rattle.site_commands.specs.Endings.{Ends, HasEnded, HasStopped, HasWorked, IsComplaint, Works}
 use Rattle.site_commands.proofs.Journals.{IsOfJournal, had_said, left_said, stop_said}
 use Rattle.site_commands.specs.Inputs.{Input, none, bytes, site, history, asking, reading_of, IsSaidBy, HasReadSaid}
-use Rattle.site_commands.specs.Settled.{input_told, IsApplyStatus, IsReportStatus, HasCycle, IsWorkStatus, IsStatusFor, IsSaidStatus, IsNoneSaid, IsFaultStatus, IsSettled}
+use Rattle.site_commands.specs.Settled.{input_told, IsApplyStatus, IsReportStatus, IsWorkStatus, IsStatusFor, IsSaidStatus, IsNoneSaid, IsFaultStatus, IsSettled}
 use Rattle.site_commands.specs.Status.{status_of}
 use Rattle.site_commands.specs.Work.{IsOutput, GivesOutput, HasDelivered}
 use Rattle.site_commands.specs.World.{World}
@@ -109,37 +106,29 @@ report_status report =
     by_counts (nat_lt 0 (count_by has_changed report.lines)) (nat_lt 0 (count_by has_failed report.lines))
 
 -- the status of a run of a catalog
-IsRunStatus : ℕ → Catalog → Type 0
-IsRunStatus status catalog = (IsReportStatus status ⊎ ((status ≡ 1) × HasCycle catalog)) ⊎ IsFaultStatus status
+IsRunStatus : ℕ → Type 0
+IsRunStatus status = IsReportStatus status ⊎ IsFaultStatus status
 
-tells_status : (ending : Ending) (catalog : Catalog) (report : Report) (document : Option MachineDoc)
+tells_status : (ending : Ending) (report : Report) (document : Option MachineDoc)
     (out out' err err' : Stream) → TellsReport ending report document out out' err err' →
-    IsRunStatus (status_of ending) catalog
+    IsRunStatus (status_of ending)
 unfolding IsRunStatus
-tells_status e.WriteFault catalog report document out out' err err' did = fault_13
-tells_status e.Memory catalog report document out out' err err' did = fault_16
-tells_status ending catalog report document out out' err err' did =
-    inl (inl (subst (λ x. IsReportStatus (status_of x)) (sym did.0) (report_status report)))
-
--- a run that tells a cycle had one
-cycle_told : (by : Option ℕ) (catalog : Catalog) (cycle : List Reference) (loaded m : Told) →
-    StopsRun by catalog (stop.Cycle cycle) loaded m → IsCycleTold catalog.resources catalog.edges cycle
-cycle_told None catalog cycle loaded m did = did.0
-cycle_told (Some workers) catalog cycle loaded m did = did.0
+tells_status e.WriteFault report document out out' err err' did = fault_13
+tells_status e.Memory report document out out' err err' did = fault_16
+tells_status ending report document out out' err err' did =
+    inl (subst (λ x. IsReportStatus (status_of x)) (sym did.0) (report_status report))
 
 loaded_status : (ending : Ending) (by : Option ℕ) (catalog : Catalog) (loaded : Told) (out out' err err' : Stream)
     (m : Told) →
-    HasRunLoaded ending by catalog loaded out out' err err' m → IsRunStatus (status_of ending) catalog
+    HasRunLoaded ending by catalog loaded out out' err err' m → IsRunStatus (status_of ending)
 unfolding IsRunStatus
 loaded_status e.Memory by catalog loaded out out' err err' m did = fault_16
-loaded_status e.Refused by catalog loaded out out' err err' m did =
-    inl (inr (refl, (did.0, cycle_told by catalog did.0 loaded m did.1.0)))
 loaded_status ending by catalog loaded out out' err err' m did =
-    tells_status ending catalog did.report _ out out' err err' did.told
+    tells_status ending did.report _ out out' err err' did.told
 
 catalog_status : (ending : Ending) (by : Option ℕ) (catalog : Catalog) (document : MachineDoc)
     (out out' err err' : Stream) (m m' : Told) →
-    AppliesCatalog ending by catalog document out out' err err' m m' → IsRunStatus (status_of ending) catalog
+    AppliesCatalog ending by catalog document out out' err err' m m' → IsRunStatus (status_of ending)
 unfolding IsRunStatus
 catalog_status e.WriteFault by catalog document out out' err err' m m' did = fault_13
 catalog_status ending by catalog document out out' err err' m m' did =

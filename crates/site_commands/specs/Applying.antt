@@ -8,12 +8,11 @@ use Rattle.agent_machine.specs.Machines.{Told, Loads}
 use Rattle.agent_machine.specs.declared.machine_doc.MachineDoc.{MachineDoc}
 use Rattle.agent_machine.specs.declared.report.Report.{Report}
 use Rattle.agent_transaction.specs.Catalogs.{IsRun, IsRunStop}
-use Rattle.agent_transaction.specs.declared.run_stop.RunStop.{RunStop}
 use Rattle.agent_transaction.specs.declared.run_stop.RunStop.TheVariants as stop
 use Rattle.command_outputs.specs.Lines.{line}
 use Rattle.command_outputs.specs.Nodes.{NodeRefusal, node_meaning}
 use Rattle.command_outputs.specs.Outputs.{node_refusal_line}
-use Rattle.pp_values.specs.declared.reference.Reference.{Reference}
+use Rattle.pp_values.specs.declared.memory.Memory.{Memory}
 use Rattle.res_core.specs.declared.catalog.Catalog.{Catalog}
 use Rattle.site_bundle.specs.declared.bundle.Bundle.{Bundle}
 use Rattle.site_docs.specs.LogText.{log_text}
@@ -60,16 +59,15 @@ abbrev pub RunsBy : Option ℕ → Catalog → Report → Told → Told → Type
 RunsBy None catalog report loaded after = IsRun catalog report loaded after
 RunsBy (Some workers) catalog report loaded after = IsWideRun catalog report loaded after
 
--- and the run that stops
-abbrev pub StopsRun : Option ℕ → Catalog → RunStop → Told → Told → Type 0
-StopsRun None catalog why loaded after = IsRunStop catalog why loaded after
-StopsRun (Some workers) catalog why loaded after = IsWideStop catalog.resources catalog.edges why loaded after
+-- and the run for which memory was wanting
+abbrev pub StopsRun : Option ℕ → Catalog → Told → Told → Type 0
+StopsRun None catalog loaded after = IsRunStop catalog stop.Memory loaded after
+StopsRun (Some workers) catalog loaded after = IsWideStop catalog.resources catalog.edges stop.Memory loaded after
 
 -- what came of the run is this
-abbrev pub EndsRun : Option ℕ → Catalog → Result Report RunStop → Told → Told → Type 0
+abbrev pub EndsRun : Option ℕ → Catalog → Result Report Memory → Told → Told → Type 0
 EndsRun by catalog result loaded after =
-    MatchResult result (λ report. RunsBy by catalog report loaded after)
-    (λ why. StopsRun by catalog why loaded after)
+    MatchResult result (λ report. RunsBy by catalog report loaded after) (λ _. StopsRun by catalog loaded after)
 
 -- the catalog was applied to this report, of which was told
 pub record HasTold (ending : Ending) (by : Option ℕ) (catalog : Catalog) (loaded : Told) (out out' err err' : Stream)
@@ -79,15 +77,11 @@ pub record HasTold (ending : Ending) (by : Option ℕ) (catalog : Catalog) (load
   pub told : TellsReport ending report (option_map (λ c. c.document) after.content) out out' err err'
 
 -- The catalog was applied to a machine with its document loaded, and told of; or memory was wanting for the run or in
--- it, and only that was said. A catalog with a cycle, which no compile makes, would be refused before the machine's
--- first call.
+-- it, and only that was said.
 abbrev pub HasRunLoaded : Ending → Option ℕ → Catalog → Told → Stream → Stream → Stream → Stream → Told → Type 0
 HasRunLoaded e.Memory by catalog loaded out out' err err' after =
-    (StopsRun by catalog stop.Memory loaded after × SaysOnly (line (codes "memory")) out out' err err')
+    (StopsRun by catalog loaded after × SaysOnly (line (codes "memory")) out out' err err')
     ⊎ HasTold e.Memory by catalog loaded out out' err err' after
-HasRunLoaded e.Refused by catalog loaded out out' err err' after =
-    (cycle : List Reference) × (StopsRun by catalog (stop.Cycle cycle) loaded after
-    × SaysOnly (line (codes "cycle")) out out' err err')
 HasRunLoaded ending by catalog loaded out out' err err' after = HasTold ending by catalog loaded out out' err err' after
 
 -- the document was loaded, and then the catalog applied

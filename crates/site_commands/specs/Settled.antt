@@ -1,13 +1,11 @@
 -- Which status a run has, as far as words and input decide it.
 use Rattle.std.specs.Prelude.{◌≡◌, ◌⊎◌, ℕ, ◌<◌, if◌then◌else◌, nat_le, List, length, Option, None, Some, option_map}
 use Rattle.std.specs.Prelude.{Result, Ok, Err, IfSome}
-use Rattle.agent_transaction.specs.Catalogs.{IsCycleTold}
 use Rattle.command_outputs.specs.Nodes.{NodeRefusal, node_meaning}
 use Rattle.command_outputs.specs.Statuses.{manifest_status, check_status, compile_status, sequence_status}
 use Rattle.command_outputs.specs.Statuses.{lookup_status, demo_status, audit_status, migrate_status, IsBatchStatus}
 use Rattle.command_outputs.specs.Statuses.{IsResumeStatus, IsSettleStatus}
 use Rattle.pp_values.specs.declared.place.TheConstants.{MAIN_MANIFEST}
-use Rattle.pp_values.specs.declared.reference.Reference.{Reference}
 use Rattle.res_core.specs.declared.catalog.Catalog.{Catalog}
 use Rattle.site_bundle.specs.Bundles.{bundle_of}
 use Rattle.site_bundle.specs.FolderSites.{site_walk}
@@ -49,13 +47,9 @@ input_told resuming before = None
 abbrev pub IsReportStatus : ℕ → Type 0
 IsReportStatus status = (status ≡ 0) ⊎ ((status ≡ 2) ⊎ ((status ≡ 4) ⊎ (status ≡ 6)))
 
-abbrev pub HasCycle : Catalog → Type 0
-HasCycle catalog = (cycle : List Reference) × IsCycleTold catalog.resources catalog.edges cycle
-
--- 1 where the node has no catalog; else 0, 2, 4 or 6, by what the report counts. A catalog with a cycle, which no
--- compile makes, would have 1.
+-- 1 where the node has no catalog; else 0, 2, 4 or 6, by what the report counts
 abbrev pub IsApplyStatus : ℕ → Result Catalog NodeRefusal → Type 0
-IsApplyStatus status (Ok catalog) = IsReportStatus status ⊎ ((status ≡ 1) × HasCycle catalog)
+IsApplyStatus status (Ok catalog) = IsReportStatus status
 IsApplyStatus status (Err refusal) = status ≡ 1
 
 abbrev pub IsWorkStatus : ℕ → Asked → Input → Type 0

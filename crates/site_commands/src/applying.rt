@@ -1,6 +1,7 @@
 //! A node's catalog, applied to a machine.
-ghost use Rattle.std.specs.Prelude.{◌≡◌, ◌≤◌, Err, Option, Result, IfSome, option_map};
+ghost use Rattle.std.specs.Prelude.{◌≡◌, ◌≤◌, Err, None, Option, Result, Some, IfOk, IfSome, option_map};
 ghost use Rattle.command_outputs.specs.Nodes.{CompilesNode};
+ghost use Rattle.rel_graph.specs.CatalogPairs.{IsAcyclic};
 ghost use Rattle.site_words.specs.Asked as asked;
 ghost use Rattle.word_rules.specs.declared.limits.TheConstants.{MOST_WORKERS};
 ghost use Rattle.site_commands.specs.Applying.{Applies, AppliesCatalog, AppliesMeant, EndsRun, HasRunLoaded, OrLacks, RunsOn};
@@ -13,9 +14,10 @@ use crate::ending::Ending;
 use crate::giving_up::{give_up, refuse};
 use crate::input::take_bundle;
 use crate::telling::tell_run;
-use agent_machine::{MachineDoc, Report, WideMachine};
+use agent_machine::{Machine, MachineDoc, Report, WideMachine};
 use agent_transaction::{RunStop, run_catalog};
 use command_outputs::{NodeStop, compile_node, refuse_node};
+use pp_values::Memory;
 use res_core::Catalog;
 use site_bundle::Bundle;
 use site_docs::log_text;
@@ -97,7 +99,8 @@ fn apply_compiled<K: Sink, E: Sink, M: WideMachine, R: Threads>(
 ) -> Ending
 where
     M::Part: Drop + 'static,
-    requires { IfSome workers (λ n. (1 ≤ n) × (n ≤ MOST_WORKERS)) }
+    requires workers { IfSome workers (λ n. (1 ≤ n) × (n ≤ MOST_WORKERS)) }
+    requires free { IfOk compiled (λ c. IsAcyclic c.resources c.edges) }
     ensures { (meant : _) → CompilesNode compiled meant → OrLacks (AppliesMeant workers node.now meant document
         (K.stream out.old) (K.stream out.new) (E.stream err.old) (E.stream err.new) (M.Machine.state machine.old)
         (M.Machine.state machine.new)) result (K.stream out.old) (K.stream out.new) (E.stream err.old)
@@ -141,7 +144,8 @@ fn apply_catalog<K: Sink, E: Sink, M: WideMachine, R: Threads>(
 ) -> Ending
 where
     M::Part: Drop + 'static,
-    requires { IfSome workers (λ n. (1 ≤ n) × (n ≤ MOST_WORKERS)) }
+    requires workers { IfSome workers (λ n. (1 ≤ n) × (n ≤ MOST_WORKERS)) }
+    requires free { IsAcyclic catalog.now.resources catalog.now.edges }
     ensures { OrLacks (λ ending. AppliesCatalog ending workers catalog.now document (K.stream out.old)
         (K.stream out.new)
         (E.stream err.old) (E.stream err.new) (M.Machine.state machine.old) (M.Machine.state machine.new)) result
@@ -170,7 +174,8 @@ fn run_on<K: Sink, E: Sink, M: WideMachine, R: Threads>(
 ) -> Ending
 where
     M::Part: Drop + 'static,
-    requires { IfSome workers (λ n. (1 ≤ n) × (n ≤ MOST_WORKERS)) }
+    requires workers { IfSome workers (λ n. (1 ≤ n) × (n ≤ MOST_WORKERS)) }
+    requires free { IsAcyclic catalog.now.resources catalog.now.edges }
     ensures { RunsOn result workers catalog.now document (K.stream out.old) (K.stream out.new) (E.stream err.old)
         (E.stream err.new) (M.Machine.state machine.old) (M.Machine.state machine.new) }
 {
@@ -190,16 +195,15 @@ fn run_loaded<K: Sink, E: Sink, M: WideMachine, R: Threads>(
 ) -> Ending
 where
     M::Part: Drop + 'static,
-    requires { IfSome workers (λ n. (1 ≤ n) × (n ≤ MOST_WORKERS)) }
+    requires workers { IfSome workers (λ n. (1 ≤ n) × (n ≤ MOST_WORKERS)) }
+    requires free { IsAcyclic catalog.now.resources catalog.now.edges }
     ensures { HasRunLoaded result workers catalog.now (M.Machine.state machine.old) (K.stream out.old)
         (K.stream out.new)
         (E.stream err.old) (E.stream err.new) (M.Machine.state machine.new) }
 {
     match run_by(rt, alloc, catalog, workers, machine) {
         Ok(report) => tell_run(alloc, &report, machine, out, err),
-        Err(RunStop::Memory) => refuse(err, Ending::Memory, "memory\n"),
-        // No compile makes such a catalog.
-        Err(RunStop::Cycle(_)) => refuse(err, Ending::Refused, "cycle\n"),
+        Err(_) => refuse(err, Ending::Memory, "memory\n"),
     }
 }
 
@@ -210,14 +214,52 @@ fn run_by<M: WideMachine, R: Threads>(
     catalog: &Catalog,
     workers: Option<u32>,
     machine: &mut M,
-) -> Result<Report, RunStop>
+) -> Result<Report, Memory>
 where
     M::Part: Drop + 'static,
-    requires { IfSome workers (λ n. (1 ≤ n) × (n ≤ MOST_WORKERS)) }
+    requires workers { IfSome workers (λ n. (1 ≤ n) × (n ≤ MOST_WORKERS)) }
+    requires free { IsAcyclic catalog.now.resources catalog.now.edges }
     ensures { EndsRun workers catalog.now result (M.Machine.state machine.old) (M.Machine.state machine.new) }
 {
     match workers {
-        None => run_catalog(alloc, catalog, machine),
-        Some(workers) => run_wide(rt, alloc, catalog, machine, workers),
+        None => run_in_turn(alloc, catalog, machine),
+        Some(workers) => run_in_waves(rt, alloc, catalog, machine, workers),
+    }
+}
+
+/// Applies the catalog, one resource after another.
+fn run_in_turn<M: Machine>(
+    alloc: Global,
+    catalog: &Catalog,
+    machine: &mut M,
+) -> Result<Report, Memory>
+    requires { IsAcyclic catalog.now.resources catalog.now.edges }
+    ensures { EndsRun None catalog.now result (M.state machine.old) (M.state machine.new) }
+{
+    match run_catalog(alloc, catalog, machine) {
+        Ok(report) => Ok(report),
+        Err(RunStop::Memory) => Err(Memory),
+        Err(RunStop::Cycle(_)) => unreachable!(),
+    }
+}
+
+/// Applies the catalog by waves.
+fn run_in_waves<M: WideMachine, R: Threads>(
+    rt: &R,
+    alloc: Global,
+    catalog: &Catalog,
+    machine: &mut M,
+    workers: u32,
+) -> Result<Report, Memory>
+where
+    M::Part: Drop + 'static,
+    requires workers { (1 ≤ workers) × (workers ≤ MOST_WORKERS) }
+    requires free { IsAcyclic catalog.now.resources catalog.now.edges }
+    ensures { EndsRun (Some workers) catalog.now result (M.Machine.state machine.old) (M.Machine.state machine.new) }
+{
+    match run_wide(rt, alloc, catalog, machine, workers) {
+        Ok(report) => Ok(report),
+        Err(RunStop::Memory) => Err(Memory),
+        Err(RunStop::Cycle(_)) => unreachable!(),
     }
 }

@@ -2,8 +2,12 @@ pub mod ApartLemmas
 pub mod ApplyLemmas
 pub mod BackLemmas
 mod Examples
+mod WideExamples
 pub mod FairRuns
 pub mod FiledLemmas
+mod FlatWaves
+pub mod MadeWaves
+pub mod WaveNumbers
 pub mod LocalTurns
 pub mod Sent
 pub mod Permuted

@@ -4,7 +4,7 @@ use Rattle.std.specs.Prelude.{◌≡◌, ◌⊎◌, ℕ, ◌<◌, IsTrue, List, 
 use Rattle.std.specs.List.Sorted.{IsPermutation}
 use Rattle.pp_values.specs.Words.{reference_text}
 use Rattle.rel_graph.specs.Before.{Before}
-use Rattle.rel_graph.specs.CatalogPairs.{containment, relations}
+use Rattle.rel_graph.specs.CatalogPairs.{containment, relations, IsAcyclic}
 use Rattle.res_core.specs.Catalogs.{Catalog, IsCatalog}
 use Rattle.agent_machine.specs.Contents.{Content}
 use Rattle.agent_machine.specs.Machines.{Told}
@@ -25,6 +25,11 @@ pub record IsToldWide (c : Catalog) (report : Report) (found left : Content) : T
   pub run : IsWideRun c report before after
   pub finds : before.content ≡ Some found
   pub leaves : after.content ≡ Some left
+
+-- There is one, from any content, where nothing stands inside itself and nothing comes before itself.
+abbrev pub SomeToldWide : Type 0
+SomeToldWide = (c : Catalog) (found : Content) → IsCatalog c.resources c.edges → IsAcyclic c.resources c.edges →
+    (report : Report) × (left : Content) × IsToldWide c report found left
 
 -- before the one is run it is asked for the file that the other is
 abbrev pub AsksFor : Task → Task → Type 0

@@ -14,4 +14,4 @@ mod taking;
 mod waves;
 
 pub use applying::run_wide;
-pub use laws::{a_wide_report_says_what_was_done, waves_are_the_run};
+pub use laws::{a_wide_report_says_what_was_done, there_is_a_told_run_by_waves, waves_are_the_run};

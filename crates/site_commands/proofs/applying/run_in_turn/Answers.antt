@@ -1,0 +1,6 @@
+use Rattle.site_commands.proofs.Applied.{turns_free}
+use Rattle.site_commands.proofs.applying.run_in_turn.Goals as goal
+
+pub unreachable-requires : goal.unreachable-requires
+unreachable-requires g c = turns_free c.args.catalog.now c.in-Err-Cycle.field-0 c.in-Err-Cycle.field-0-0 _ _ c.requires
+    c.in-Err-Cycle.field-0-is c.in-Err-Cycle.ensures

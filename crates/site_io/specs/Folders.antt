@@ -91,10 +91,13 @@ pub record IsSameFolder (before after : Folder) : Type 0 where
   pub later : before.faults ≤ after.faults
   pub told : after.told ≡ before.told
 
+-- these calls were made, one after another, and no others
+abbrev pub HasMade : List Call → Folder → Folder → Type 0
+HasMade made before after = after.calls ≡ option_map (λ calls. calls ++ made) before.calls
+
 -- this call was made
 abbrev pub HasCalled : List ℕ → Bool → Folder → Folder → Type 0
-HasCalled path failed before after =
-    after.calls ≡ option_map (λ calls. calls ++ record { path = path; failed = failed } ∷ []) before.calls
+HasCalled path failed before after = HasMade (record { path = path; failed = failed } ∷ []) before after
 
 -- these are the names at a path, in byte order
 pub record HasListed (names : List (List ℕ)) (path : List ℕ) (before after : Folder) : Type 0 where

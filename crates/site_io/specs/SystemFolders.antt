@@ -1,5 +1,5 @@
 -- What the adapter over the system's folders makes of what std tells it.
-use Rattle.std.specs.Prelude.{◌≡◌, ℕ, codes, List, [], ◌∷◌, ◌++◌, Option, None, Some, Result, Ok, Err}
+use Rattle.std.specs.Prelude.{◌≡◌, ℕ, codes, List, [], ◌∷◌, ◌++◌, Result, Ok, Err}
 use Rattle.std.specs.IoError.{error_kind}
 use Rattle.std.specs.Fs.{file_type, IsDir, IsFile}
 use Rattle.std.specs.declared.fs.attrs.Metadata.{Metadata}

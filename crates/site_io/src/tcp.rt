@@ -25,10 +25,12 @@ const LAST_PATIENCE: u64 = 1;
 
 /// How many reads take what a peer still sends after the end, and of how many bytes.
 const LAST_READS: u32 = 128;
+
 const LAST_CHUNK: usize = 65_536;
 
 /// How often a wait is begun again where descriptors or the kernel's memory were wanting, and the pause before it.
 const MOST_WANTS: u32 = 100;
+
 const PAUSE_MILLIS: u64 = 50;
 
 /// A connection over a stream of std, until it is shut. It tells the end of input, once it has met it, and whether it was

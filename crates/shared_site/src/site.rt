@@ -11,7 +11,7 @@ ghost use Rattle.site_core.specs.declared.history.TheConstants.{MOST_ENTRIES};
 ghost use Rattle.site_core.specs.declared.plain.Plain.TheVariants as ask;
 ghost use Rattle.hist_lock.specs.Calls.{IsLonger};
 ghost use Rattle.shared_site.specs.Shows.{opened, IsNew};
-ghost use Rattle.shared_site.specs.Known.{held, first_pass, IsLater, IsAnswered, HasAsked, cut, cut_off, seeing, joined_to, told_by, AreTheOthers};
+ghost use Rattle.shared_site.specs.Known.{held, first_pass, IsLater, IsAnswered, IsGated, HasAsked, cut, cut_off, seeing, joined_to, told_by, AreTheOthers};
 ghost use Rattle.shared_site.specs.Resumed.{Resumes};
 
 use crate::locked::Locked;
@@ -90,7 +90,8 @@ impl<L: Language + Drop> SharedSite<L> {
     ) -> Reply<L>
         requires site { pass.old.site ≡ self.now }
         requires facts { IsTrue (has_facts (wanted request.now).facts) }
-        ensures { IsAnswered L.meaning L.listed (wants (wanted request.now)) result pass.old pass.new }
+        ensures answered { IsAnswered L.meaning L.listed (wants (wanted request.now)) result pass.old pass.new }
+        ensures gated { IsGated (G.passed gate.now) result }
     {
         let Ok(snapshot) = self.snap(rt, alloc, pass) else {
             return ReplyOf::Memory;

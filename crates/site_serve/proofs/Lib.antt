@@ -1,4 +1,5 @@
 mod Replying
+mod Order
 pub mod Talking
 mod Routing
 mod Asked

@@ -5,3 +5,4 @@ mod Routing
 mod Asked
 mod Responding
 mod Examples
+mod OrderExamples

@@ -88,8 +88,8 @@ made_joined : (o : Option (List Call)) (xs ys : List Call) →
 made_joined None xs ys = refl
 made_joined (Some calls) xs ys = ap Some (append_assoc calls xs ys)
 
-made_then : {f g h : Folder} (xs ys : List Call) → HasMade xs f g → HasMade ys g h → HasMade (xs ++ ys) f h
-made_then {f} {g} {h} xs ys first second =
+made_then : (f g h : Folder) (xs ys : List Call) → HasMade xs f g → HasMade ys g h → HasMade (xs ++ ys) f h
+made_then f g h xs ys first second =
     second ∙ ap (option_map (λ calls. calls ++ ys)) first ∙ made_joined f.calls xs ys
 
 -- ---- folders
@@ -122,7 +122,7 @@ pub leads_next : {A B : Type 0} {before mid now : Folder} {whole : Walk B} (f : 
 leads_next {A} {B} {before} {mid} {now} {whole} f w x so_far ends same = record {
   same = same_trans so_far.same same;
   made = so_far.made ++ ends.0;
-  has = made_then so_far.made ends.0 so_far.has ends.2;
+  has = made_then before mid now so_far.made ends.0 so_far.has ends.2;
   leads = λ end calls h. subst (EndsIn before.told whole end) (sym (append_assoc so_far.made ends.0 calls))
       (so_far.leads end (ends.0 ++ calls) (ends_then before.told f w x end ends.0 calls
       (subst (λ told. EndsIn told w (found x) ends.0) so_far.same.told ends.1) h));
@@ -138,7 +138,7 @@ leads_end {A} {B} {before} {mid} {after} shown r w whole so_far goes =
     at_once end h = (
       so_far.made ++ h.0,
       so_far.leads end h.0 (subst (λ told. EndsIn told w end h.0) so_far.same.told h.1),
-      made_then so_far.made h.0 so_far.has h.2,
+      made_then before mid after so_far.made h.0 so_far.has h.2,
     )
 
     ends : (r : Result A BundleStop) → EndsAs shown r w mid after → EndsAs shown r whole before after
@@ -185,9 +185,9 @@ at_end : {A : Type 0} (f : Folder) (x : A) → EndsBy (done x) (found x) f f
 unfolding EndsIn
 at_end f x = ([], (refl, refl), none_made f)
 
-at_refusal : {A : Type 0} (f : Folder) (why : Refusal) → EndsBy {A = A} (refused why) (refusal why) f f
+at_refusal : (A : Type 0) (f : Folder) (why : Refusal) → EndsBy {A = A} (refused why) (refusal why) f f
 unfolding EndsIn
-at_refusal f why = ([], (refl, refl), none_made f)
+at_refusal A f why = ([], (refl, refl), none_made f)
 
 -- what is read of an answer
 pub goes_reading : {A B : Type 0} (f : Folder) (shown : A → B) (r : Result A BundleStop) (meant : Result B Refusal) →
@@ -198,15 +198,15 @@ goes_reading {A} {B} f shown (Ok x) meant h = record {
 }
 goes_reading {A} {B} f shown (Err stop.NotJson) meant h = record {
   same = same_folder f;
-  ends = subst (λ m. EndsBy (walk_of m) (refusal not_json) f f) (sym h) (at_refusal {A = B} f not_json);
+  ends = subst (λ m. EndsBy (walk_of m) (refusal not_json) f f) (sym h) (at_refusal B f not_json);
 }
 goes_reading {A} {B} f shown (Err (stop.BadShape path)) meant h = record {
   same = same_folder f;
-  ends = subst (λ m. EndsBy (walk_of m) (refusal (bad_shape path)) f f) (sym h) (at_refusal {A = B} f (bad_shape path));
+  ends = subst (λ m. EndsBy (walk_of m) (refusal (bad_shape path)) f f) (sym h) (at_refusal B f (bad_shape path));
 }
 goes_reading {A} {B} f shown (Err (stop.TooLarge path)) meant h = record {
   same = same_folder f;
-  ends = subst (λ m. EndsBy (walk_of m) (refusal (too_large path)) f f) (sym h) (at_refusal {A = B} f (too_large path));
+  ends = subst (λ m. EndsBy (walk_of m) (refusal (too_large path)) f f) (sym h) (at_refusal B f (too_large path));
 }
 goes_reading f shown (Err (stop.TreeFault path)) meant h = absurd h
 goes_reading f shown (Err stop.Memory) meant h = record { same = same_folder f; ends = tt }
@@ -216,15 +216,15 @@ pub goes_refused : {A B : Type 0} (f : Folder) (shown : A → B) (s : BundleStop
     Goes shown (Err s) (refused why) f f
 goes_refused {A} {B} f shown stop.NotJson why h = record {
   same = same_folder f;
-  ends = subst (λ w. EndsBy {A = B} (refused why) (refusal w) f f) h (at_refusal {A = B} f why);
+  ends = subst (λ w. EndsBy {A = B} (refused why) (refusal w) f f) h (at_refusal B f why);
 }
 goes_refused {A} {B} f shown (stop.BadShape path) why h = record {
   same = same_folder f;
-  ends = subst (λ w. EndsBy {A = B} (refused why) (refusal w) f f) h (at_refusal {A = B} f why);
+  ends = subst (λ w. EndsBy {A = B} (refused why) (refusal w) f f) h (at_refusal B f why);
 }
 goes_refused {A} {B} f shown (stop.TooLarge path) why h = record {
   same = same_folder f;
-  ends = subst (λ w. EndsBy {A = B} (refused why) (refusal w) f f) h (at_refusal {A = B} f why);
+  ends = subst (λ w. EndsBy {A = B} (refused why) (refusal w) f f) h (at_refusal B f why);
 }
 goes_refused f shown (stop.TreeFault path) why h = absurd h
 goes_refused f shown stop.Memory why h = record { same = same_folder f; ends = tt }
@@ -235,9 +235,9 @@ each_told : {X : Type 0} {P Q : X → Type 0} (o : Option X) → ((x : X) → P 
 each_told None f h = tt
 each_told (Some x) f h = f x h
 
-called_at : {before after : Folder} (failed : Bool) (called path : List ℕ) → called ≡ path →
+called_at : (before after : Folder) (failed : Bool) (called path : List ℕ) → called ≡ path →
     HasCalled called failed before after → HasMade (call failed path ∷ []) before after
-called_at {before} {after} failed called path is has = subst (λ p. HasMade (call failed p ∷ []) before after) is has
+called_at before after failed called path is has = subst (λ p. HasMade (call failed p ∷ []) before after) is has
 
 -- a folder was listed
 pub goes_listed : {before after : Folder} (names : List (List ℕ)) (called path : List ℕ) → called ≡ path →
@@ -258,7 +258,7 @@ goes_listed {before} {after} names called path is listed = record {
       refl,
       (refl, refl),
     ),
-    called_at false called path is listed.called,
+    called_at before after false called path is listed.called,
   );
 }
 
@@ -281,7 +281,7 @@ goes_unlisted {before} {after} names called path empty is same none has = record
       refl,
       (ap found empty, refl),
     ),
-    called_at false called path is has,
+    called_at before after false called path is has,
   );
 }
 
@@ -290,18 +290,18 @@ pub goes_fault_listing : {A B : Type 0} {before after : Folder} (shown : A → B
     (next : Option (List (List ℕ)) → Walk B) → called ≡ path → IsSameFolder before after → Rose before.faults after.faults →
     HasCalled called true before after → Goes shown (Err (stop.TreeFault called)) (listing path next) before after
 unfolding EndsIn
-goes_fault_listing shown called path next is same rose has = record {
+goes_fault_listing {before = before} {after = after} shown called path next is same rose has = record {
   same = same;
-  ends = ((call true path ∷ [], inl (ap fault is, refl), called_at true called path is has), rose);
+  ends = ((call true path ∷ [], inl (ap fault is, refl), called_at before after true called path is has), rose);
 }
 
 pub goes_fault_reading : {A B : Type 0} {before after : Folder} (shown : A → B) (called path : List ℕ)
     (next : Answer → Walk B) → called ≡ path → IsSameFolder before after → Rose before.faults after.faults →
     HasCalled called true before after → Goes shown (Err (stop.TreeFault called)) (reading path next) before after
 unfolding EndsIn
-goes_fault_reading shown called path next is same rose has = record {
+goes_fault_reading {before = before} {after = after} shown called path next is same rose has = record {
   same = same;
-  ends = ((call true path ∷ [], inl (ap fault is, refl), called_at true called path is has), rose);
+  ends = ((call true path ∷ [], inl (ap fault is, refl), called_at before after true called path is has), rose);
 }
 
 -- a file was read
@@ -348,7 +348,7 @@ goes_read {before} {after} content called path named is got = record {
       refl,
       (refl, refl),
     ),
-    called_at false called path is got.called,
+    called_at before after false called path is got.called,
   );
 }
 
@@ -370,7 +370,7 @@ goes_missing {before} {after} called path named is same none has = record {
       refl,
       (refl, refl),
     ),
-    called_at false called path is has,
+    called_at before after false called path is has,
   );
 }
 
@@ -406,7 +406,7 @@ goes_longer {before} {after} s called path named is tells same long has =
         refl,
         (refl, refl),
       ),
-      called_at false called path is has,
+      called_at before after false called path is has,
     )
 
 -- ---- files

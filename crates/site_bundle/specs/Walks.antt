@@ -81,11 +81,11 @@ EndsIn told (refused why) end calls = (end ≡ refusal why) × (calls ≡ [])
 EndsIn told (listing path next) end calls =
     ((end ≡ fault path) × (calls ≡ call true path ∷ []))
     ⊎ ((names : Option (List (List ℕ))) × (behind : List Call) × IsListing told path names
-      × (calls ≡ call false path ∷ behind) × EndsIn told (next names) end behind)
+    × (calls ≡ call false path ∷ behind) × EndsIn told (next names) end behind)
 EndsIn told (reading path next) end calls =
     ((end ≡ fault path) × (calls ≡ call true path ∷ []))
     ⊎ ((answer : Answer) × (behind : List Call) × IsReading told path answer × (calls ≡ call false path ∷ behind)
-      × EndsIn told (next answer) end behind)
+    × EndsIn told (next answer) end behind)
 
 -- and these calls alone were made
 abbrev pub EndsBy : {A : Type 0} → Walk A → End A → Folder → Folder → Type 0

@@ -98,7 +98,7 @@ impl<L: Language + Drop> SharedSite<L> {
         };
         let k = snapshot.k;
         let compiled = compile_under(alloc, &self.language, snapshot, request);
-        gate.between(rt);
+        go_through(rt, gate);
         match compiled {
             Ok((catalog, addition)) => {
                 let answer = self.append(rt, alloc, pass, addition);
@@ -352,4 +352,11 @@ fn share<L: Language + Drop>(
         author,
     };
     Ok((SharedSite { language, lock }, pass))
+}
+
+/// Goes through the gate, once.
+fn go_through<G: Gate, R: Wait>(rt: &R, gate: &G)
+    ensures { G.passed gate.now }
+{
+    gate.between(rt);
 }

@@ -41,7 +41,7 @@ returns-in-Err-clause-answered g c =
     c.in-Err.ensures
 
 pub returns-in-Ok-compiled-clause-gated : goal.returns-in-Ok-compiled-clause-gated
-returns-in-Ok-compiled-clause-gated g c = gated _ _ c.between.ensures
+returns-in-Ok-compiled-clause-gated g c = gated _ _ c.go_through.ensures
 
 pub returns-in-Err-clause-gated : goal.returns-in-Err-clause-gated
-returns-in-Err-clause-gated g c = gated _ _ c.between.ensures
+returns-in-Err-clause-gated g c = gated _ _ c.go_through.ensures

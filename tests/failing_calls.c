@@ -2,8 +2,9 @@
  *
  *   FAIL=KIND NUMBER   the call of this kind with this number, from 1, fails: alloc for want of memory; read, write, open, look
  *                      (at what stands at a path), accept (a connection), and receive and send (on the connection that was
- *                      accepted first) with EIO; or, as short, it moves one byte where it was to move more
- *   COUNTS=FILE        how many calls there were of each kind: nine numbers of eight bytes, in the order of the kinds
+ *                      accepted first) with EIO; start (of a thread) with EAGAIN; or, as short, it moves one byte where it
+ *                      was to move more
+ *   COUNTS=FILE        how many calls there were of each kind: ten numbers of eight bytes, in the order of the kinds
  *   FAILED=FILE        the path that the failing call works on, where it has one
  */
 #define _GNU_SOURCE
@@ -11,6 +12,7 @@
 #include <errno.h>
 #include <fcntl.h>
 #include <limits.h>
+#include <pthread.h>
 #include <stdarg.h>
 #include <stdatomic.h>
 #include <stdio.h>
@@ -22,8 +24,8 @@
 #include <sys/types.h>
 #include <unistd.h>
 
-enum kind { ALLOC, READ, WRITE, OPEN, SHORT, LOOK, ACCEPT, RECEIVE, SEND, KINDS };
-static const char *const names[KINDS] = {"alloc", "read", "write", "open", "short", "look", "accept", "receive", "send"};
+enum kind { ALLOC, READ, WRITE, OPEN, SHORT, LOOK, ACCEPT, RECEIVE, SEND, START, KINDS };
+static const char *const names[KINDS] = {"alloc", "read", "write", "open", "short", "look", "accept", "receive", "send", "start"};
 static atomic_long own_counts[KINDS];
 static atomic_long *counts = own_counts;
 static enum kind failing = KINDS;
@@ -73,6 +75,11 @@ int posix_memalign(void **at, size_t alignment, size_t size) {
     if (!got) return ENOMEM;
     *at = got;
     return 0;
+}
+
+typedef int (*starter)(pthread_t *, const pthread_attr_t *, void *(*)(void *), void *);
+int pthread_create(pthread_t *thread, const pthread_attr_t *how, void *(*run)(void *), void *with) {
+    return fails(START) ? EAGAIN : REAL(starter, "pthread_create")(thread, how, run, with);
 }
 
 static ssize_t faulty(void) { errno = EIO; return -1; }

@@ -7,7 +7,7 @@ import subprocess
 import threading
 import time
 
-KINDS = ["alloc", "read", "write", "open", "short", "look", "accept", "receive", "send"]
+KINDS = ["alloc", "read", "write", "open", "short", "look", "accept", "receive", "send", "start"]
 HERE = os.path.dirname(os.path.abspath(__file__))
 SECONDS = 300
 HANGS = -1

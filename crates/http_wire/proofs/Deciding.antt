@@ -2,21 +2,21 @@
 use Rattle.std.proofs.Common.{◌≡◌, ◌≢◌, ◌⊎◌, inl, inr, ℕ, ◌+◌, ◌<◌, ◌≤◌, List, [], ◌∷◌, ◌++◌, length, take, Option, Some, None, Result, Ok, Err, refl, sym, ◌∙◌, subst, arith}
 use Rattle.std.proofs.lemmas.List.{take_all}
 use Rattle.site_io.specs.Stream.{Stream, Rose}
-use Rattle.site_io.proofs.Streams.{read_then_read, Rose-after}
+use Rattle.site_io.proofs.Streams.{Rose-after}
 use Rattle.http_wire.specs.declared.heads.Head.{Head}
 use Rattle.http_wire.specs.declared.request.HttpRequest.{HttpRequest}
 use Rattle.http_wire.specs.declared.request.H.TheVariants as h
 use Rattle.http_wire.specs.declared.request.WireStop.{WireStop}
 use Rattle.http_wire.specs.declared.request.WireStop.TheVariants as stop
 use Rattle.http_wire.specs.Messages.{most_head, most_body, HasNext, HasNone, IsOpen, IsOpenBody, IsOpenHead, IsNoHead, IsCrowded}
-use Rattle.http_wire.specs.Reading.{HasGathered, IsShorter, StopsBy, ReadsNext, IsHeadOf, IsTaken, ReadsHead, ReadsBody, ComesTo}
+use Rattle.http_wire.specs.Reading.{HasGathered, HasLost, IsShorter, StopsBy, ReadsNext, IsHeadOf, IsTaken, ReadsHead, ReadsBody, ComesTo}
 use Rattle.http_wire.specs.declared.reading.NextHead.{NextHead}
 use Rattle.http_wire.specs.declared.reading.NextHead.TheVariants as next
 use Rattle.httparse.specs.Grammar.{ReadsRequest}
 use Rattle.http_wire.specs.declared.places.Place.TheVariants.{Blank, Ended}
 use Rattle.http_wire.specs.Places.{after}
 use Rattle.http_wire.proofs.Watching.{head_ends}
-use Rattle.http_wire.proofs.Gathering.{nothing_gathered, gathered_then, gathered_as}
+use Rattle.http_wire.proofs.Gathering.{nothing_gathered, gathered_then, gathered_as, lost_now, lost_then, lost_as}
 use Rattle.http_wire.proofs.Fronts.{kept_of_front, crowded_of_front, none_without_body, open_body, announces, request_taken}
 
 -- ---- a head
@@ -48,7 +48,7 @@ at_last {unread} {rest} {s} {t} gathered cause (next.Stopped why) tell (inl (sam
 at_last {unread} {rest} {s} {t} gathered cause (next.Stopped why) tell (inr (inl (same, never))) =
     subst (λ w. StopsBy unread rest w s t) (sym same) (gathered, never, refl)
 at_last {unread} {rest} {s} {t} gathered cause (next.Stopped why) tell (inr (inr same)) =
-    subst (λ w. StopsBy unread rest w s t) (sym same) (gathered.more, gathered.read)
+    subst (λ w. StopsBy unread rest w s t) (sym same) (lost_now gathered)
 
 pub at_full : {unread rest : List ℕ} {s t : Stream} → HasGathered HasNone unread rest s t → (r : NextHead) → most_head ≤ length rest
     → ComesTo rest (stop.Bad h.TooLarge 0) r → ReadsHead unread rest r s t
@@ -93,6 +93,10 @@ module _ {bytes rest : List ℕ} {s t : Stream} {kept : Head} (n : ℕ) (is : Is
   gathered_body : HasGathered HasNone bytes rest s t
   gathered_body = gathered_as (IsShorter (kept.size + n)) HasNone bytes rest (λ more short. none_without_body bytes kept n is says more short) gathered
 
+  -- memory was wanting to take the request
+  pub lost_within : HasLost HasNone bytes s t
+  lost_within = lost_now gathered_body
+
   open_still : length rest < kept.size + n → IsOpen rest
   open_still short =
       inr (subst IsOpenBody (sym gathered.grown)
@@ -115,13 +119,19 @@ module _ {bytes rest : List ℕ} {s t : Stream} {kept : Head} (n : ℕ) (is : Is
         (subst (λ l. IsTaken kept n l r behind) gathered.grown taken)),
   )
 
+-- or to read it
+pub lost_body : {bytes : List ℕ} {s t : Stream} {kept : Head} (n : ℕ) → IsHeadOf bytes kept → kept.body ≡ Some n
+    → HasLost (IsShorter (kept.size + n)) bytes s t → HasLost HasNone bytes s t
+lost_body {bytes} {s} {t} {kept} n is says lost =
+    lost_as (IsShorter (kept.size + n)) HasNone bytes (λ more short. none_without_body bytes kept n is says more short) lost
+
 -- the head's bytes, and then those of the body
 stops_then : (unread bytes rest : List ℕ) (s t u : Stream) → HasGathered HasNone unread bytes s t → (why : WireStop) → StopsBy bytes rest why t u
     → StopsBy unread rest why s u
 stops_then unread bytes rest s t u first (stop.Bad why offset) (second, is, at) = (gathered_then first second, is, at)
 stops_then unread bytes rest s t u first stop.ReadFault (second, unended, rose) =
     (gathered_then first second, unended, Rose-after s.faults t.faults u.faults first.read.later rose)
-stops_then unread bytes rest s t u first stop.Memory (more, read) = (first.more ++ more, read_then_read first.read read)
+stops_then unread bytes rest s t u first stop.Memory lost = lost_then first lost
 
 pub body_then : (unread bytes rest : List ℕ) (s t u : Stream) → HasGathered HasNone unread bytes s t
     → (r : Result (Option HttpRequest) WireStop) → ReadsBody bytes rest r t u → ReadsNext unread rest r s u

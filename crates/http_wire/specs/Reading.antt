@@ -1,6 +1,7 @@
 -- What reading a request does to what was read, and to the source.
 use Rattle.std.specs.Prelude.{◌≡◌, ◌≢◌, ℕ, ◌+◌, ◌<◌, ◌≤◌, ◌⊎◌, List, [], ◌++◌, length, take, drop, Option, Some, None}
 use Rattle.std.specs.Prelude.{Result, Ok, Err}
+use Rattle.site_io.specs.Events.{Since, OneRead, Draws}
 use Rattle.site_io.specs.Stream.{Stream, Rose, HasRead, HasFailed}
 use Rattle.httparse.specs.Grammar.{RequestHead, print_request, HasNoRequest}
 use Rattle.httparse.specs.Spans.{RequestExceeds}
@@ -26,12 +27,22 @@ abbrev pub IsWanted : (List ℕ → Type 0) → List ℕ → List ℕ → Type 0
 IsWanted Lacks unread more =
     (more ≡ []) ⊎ ((front : List ℕ) × (last : List ℕ) × (more ≡ front ++ last) × (last ≢ []) × Lacks (unread ++ front))
 
+-- each of these reads, also one that gave nothing, was made while the bytes at hand still lacked something
+abbrev pub HasDrawn : (List ℕ → Type 0) → List ℕ → List ℕ → Stream → Stream → Type 0
+HasDrawn Lacks unread more before after = Since (Draws Lacks unread more) before.events after.events
+
 -- The bytes at hand were the unread ones, and are these now, by what was read in between.
 pub record HasGathered (Lacks : List ℕ → Type 0) (unread bytes : List ℕ) (before after : Stream) : Type 0 where
   pub more : List ℕ
   pub grown : bytes ≡ unread ++ more
   pub read : HasRead more before after
   pub wanted : IsWanted Lacks unread more
+  pub drawn : HasDrawn Lacks unread more before after
+
+-- what was read is lost, since memory was wanting
+abbrev pub HasLost : (List ℕ → Type 0) → List ℕ → Stream → Stream → Type 0
+HasLost Lacks unread before after =
+    (more : List ℕ) × HasRead more before after × HasDrawn Lacks unread more before after
 
 -- why no request is answered
 abbrev pub StopsBy : List ℕ → List ℕ → WireStop → Stream → Stream → Type 0
@@ -39,7 +50,7 @@ StopsBy unread rest (stop.Bad why offset) before after =
     HasGathered HasNone unread rest before after × Refuses why rest (after.left ≡ Some []) × (offset ≡ 0)
 StopsBy unread rest stop.ReadFault before after =
     HasGathered HasNone unread rest before after × IsOpen rest × Rose before.faults after.faults
-StopsBy unread rest stop.Memory before after = (more : List ℕ) × HasRead more before after
+StopsBy unread rest stop.Memory before after = HasLost HasNone unread before after
 
 -- What is answered, by the bytes at hand: those that had been read before, and those that were read now. No byte is
 -- read where a request is at hand.
@@ -100,7 +111,7 @@ Gathers unread rest gathered.Ended before after =
     HasGathered HasNone unread rest before after × (length rest < most_head) × (after.left ≡ Some [])
 Gathers unread rest gathered.Failed before after =
     HasGathered HasNone unread rest before after × (length rest < most_head) × Rose before.faults after.faults
-Gathers unread rest gathered.Memory before after = (more : List ℕ) × HasRead more before after
+Gathers unread rest gathered.Memory before after = HasLost HasNone unread before after
 
 -- what the bytes come to, where no more are read for this cause
 abbrev pub ComesTo : List ℕ → WireStop → NextHead → Type 0
@@ -133,13 +144,17 @@ pub record IsTaken (kept : Head) (count : ℕ) (bytes : List ℕ) (request : Htt
   pub size : request.size ≡ kept.size + count
   pub rest_is : rest ≡ drop (kept.size + count) bytes
 
--- one read
+-- one call of the source, which gave these bytes
+pub record HasReadOnce (bytes : List ℕ) (before after : Stream) : Type 0 where
+  pub read : HasRead bytes before after
+  pub once : Since (OneRead bytes) before.events after.events
+
 abbrev pub Fills : List ℕ → List ℕ → Filled → Stream → Stream → Type 0
 Fills unread rest filled.Done before after =
-    (last : List ℕ) × (rest ≡ unread ++ last) × (last ≢ []) × HasRead last before after
-Fills unread rest filled.Ended before after = (rest ≡ unread) × HasRead [] before after × (after.left ≡ Some [])
+    (last : List ℕ) × (rest ≡ unread ++ last) × (last ≢ []) × HasReadOnce last before after
+Fills unread rest filled.Ended before after = (rest ≡ unread) × HasReadOnce [] before after × (after.left ≡ Some [])
 Fills unread rest filled.Failed before after = (rest ≡ unread) × HasFailed before after
-Fills unread rest filled.Memory before after = (last : List ℕ) × HasRead last before after
+Fills unread rest filled.Memory before after = (last : List ℕ) × HasReadOnce last before after
 
 abbrev pub IsShorter : ℕ → List ℕ → Type 0
 IsShorter size bytes = length bytes < size
@@ -152,4 +167,4 @@ FillsTo size unread rest filled.Ended before after =
     HasGathered (IsShorter size) unread rest before after × (length rest < size) × (after.left ≡ Some [])
 FillsTo size unread rest filled.Failed before after =
     HasGathered (IsShorter size) unread rest before after × (length rest < size) × Rose before.faults after.faults
-FillsTo size unread rest filled.Memory before after = (more : List ℕ) × HasRead more before after
+FillsTo size unread rest filled.Memory before after = HasLost (IsShorter size) unread before after

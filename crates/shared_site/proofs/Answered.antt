@@ -26,7 +26,7 @@ use Rattle.site_core.specs.declared.reply.ReplyOf.{ReplyOf}
 use Rattle.site_core.specs.declared.reply.ReplyOf.TheVariants as a
 use Rattle.site_core.specs.declared.snapshot.Snapshot.{Snapshot}
 use Rattle.site_core.proofs.Fitting.{means_grows, said_plain}
-use Rattle.shared_site.specs.Known.{Known, IsLater, HasAdded, HasAsked, LeavesSaid, Leaves, IsAnswered}
+use Rattle.shared_site.specs.Known.{Known, IsLater, HasAdded, HasAsked, LeavesSaid, Leaves, IsAnswered, IsGated}
 
 module _ {C F : Type 0} where
   had_within_said : (s seen now : ℕ) (told : Said C F) → s ≤ seen → LeavesSaid seen told now → had_said s told ≤ now
@@ -273,3 +273,15 @@ module _ {S : Type 0} where
       own = same ∙ sym (append-nil p.own);
       leaves = prefix_length p.front q.front later.front;
     }
+
+-- whatever the reply is
+pub gated : {C F : Type 0} (Passed : Type 0) (reply : ReplyOf C F) → Passed → IsGated Passed reply
+gated Passed (a.Served entry k catalog) passed = passed
+gated Passed (a.Refused k fault) passed = passed
+gated Passed (a.HistoryFull length) passed = passed
+gated Passed (a.SeenAhead length) passed = tt
+gated Passed (a.UnknownNode k) passed = tt
+gated Passed (a.Deactivated entry) passed = tt
+gated Passed (a.Deployed entry) passed = tt
+gated Passed (a.Reported entry) passed = tt
+gated Passed a.Memory passed = tt

@@ -11,6 +11,7 @@ use Rattle.site_core.specs.Events.{Event, coded_events}
 use Rattle.site_core.specs.Legal.{Legal}
 use Rattle.site_core.specs.Fits.{Listed, Fits, had_said, named}
 use Rattle.site_core.specs.declared.reply.ReplyOf.{ReplyOf}
+use Rattle.site_core.specs.declared.reply.ReplyOf.TheVariants as a
 use Rattle.site_core.specs.Said as t
 use Rattle.site_core.specs.Said.{Said, said}
 use Rattle.site_core.specs.declared.done_stop.DoneStop.{DoneStop}
@@ -157,3 +158,15 @@ pub record IsAnswered {S C F : Type 0} (meaning : Meaning S C F) (listed : Liste
   -- the one entry that the pass's own gained is the one that the reply names, if it names one
   pub own : q.own ≡ p.own ++ named reply
   pub leaves : Leaves (length p.front) reply (length q.front)
+
+-- whoever compiled has gone through the gate: a reply that a compile has tells it
+abbrev pub IsGated : {C F : Type 0} → Type 0 → ReplyOf C F → Type 0
+IsGated Passed (a.Served entry k catalog) = Passed
+IsGated Passed (a.Refused k fault) = Passed
+IsGated Passed (a.HistoryFull length) = Passed
+IsGated Passed (a.SeenAhead length) = Unit {0}
+IsGated Passed (a.UnknownNode k) = Unit {0}
+IsGated Passed (a.Deactivated entry) = Unit {0}
+IsGated Passed (a.Deployed entry) = Unit {0}
+IsGated Passed (a.Reported entry) = Unit {0}
+IsGated Passed a.Memory = Unit {0}

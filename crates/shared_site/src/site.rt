@@ -11,7 +11,7 @@ ghost use Rattle.site_core.specs.declared.history.TheConstants.{MOST_ENTRIES};
 ghost use Rattle.site_core.specs.declared.plain.Plain.TheVariants as ask;
 ghost use Rattle.hist_lock.specs.Calls.{IsLonger};
 ghost use Rattle.shared_site.specs.Shows.{opened, IsNew};
-ghost use Rattle.shared_site.specs.Known.{held, first_pass, IsLater, IsAnswered, HasAsked, cut, cut_off, seeing, joined_to, told_by, AreTheOthers};
+ghost use Rattle.shared_site.specs.Known.{held, first_pass, IsLater, IsAnswered, IsGated, HasAsked, cut, cut_off, seeing, joined_to, told_by, AreTheOthers};
 ghost use Rattle.shared_site.specs.Resumed.{Resumes};
 
 use crate::locked::Locked;
@@ -90,14 +90,15 @@ impl<L: Language + Drop> SharedSite<L> {
     ) -> Reply<L>
         requires site { pass.old.site ≡ self.now }
         requires facts { IsTrue (has_facts (wanted request.now).facts) }
-        ensures { IsAnswered L.meaning L.listed (wants (wanted request.now)) result pass.old pass.new }
+        ensures answered { IsAnswered L.meaning L.listed (wants (wanted request.now)) result pass.old pass.new }
+        ensures gated { IsGated (G.passed gate.now) result }
     {
         let Ok(snapshot) = self.snap(rt, alloc, pass) else {
             return ReplyOf::Memory;
         };
         let k = snapshot.k;
         let compiled = compile_under(alloc, &self.language, snapshot, request);
-        gate.between(rt);
+        go_through(rt, gate);
         match compiled {
             Ok((catalog, addition)) => {
                 let answer = self.append(rt, alloc, pass, addition);
@@ -351,4 +352,11 @@ fn share<L: Language + Drop>(
         author,
     };
     Ok((SharedSite { language, lock }, pass))
+}
+
+/// Goes through the gate, once.
+fn go_through<G: Gate, R: Wait>(rt: &R, gate: &G)
+    ensures { G.passed gate.now }
+{
+    gate.between(rt);
 }

@@ -12,6 +12,7 @@ mod GatherSteps
 mod WalkSteps
 mod FolderSteps
 mod ToldWalks
+mod CallLaws
 mod NodeFiles
 pub mod OnLiterals
 mod Examples

@@ -1,10 +1,10 @@
 -- One step of a walk after another.
-use Rattle.std.proofs.Common.{◌≡◌, ◌⊎◌, ℕ, ◌≤◌, List, [], ◌++◌, Option, None, Some, Result, Ok, Err, refl, sym, ap, subst, ◌∙◌, inl, inr, arith, length, Bool, true, false, ◌<◌, ◌-◌, zero, suc, ◌∷◌, map, codes, take, drop, get_or}
+use Rattle.std.proofs.Common.{◌≡◌, ◌⊎◌, append_assoc, append-nil, option_map, ℕ, ◌≤◌, List, [], ◌++◌, Option, None, Some, Result, Ok, Err, refl, sym, ap, subst, ◌∙◌, inl, inr, arith, length, Bool, true, false, ◌<◌, ◌-◌, zero, suc, ◌∷◌, map, codes, take, drop, get_or}
 use Rattle.std.proofs.lemmas.Grind.{common_steps}
 use Rattle.std.specs.Option.{unwrap_or}
 use Rattle.std.specs.Prelude.{IfSome, IsErrAnd, IsTrue, nat_le, if◌then◌else◌}
 use Rattle.pp_values.specs.Rising.{is_rising}
-use Rattle.site_io.specs.Folders.{Folder, Held, IsSameFolder, HasListed, HasGot, IsLonger, names_at, bytes_at}
+use Rattle.site_io.specs.Folders.{Folder, Held, Call, HasMade, HasCalled, IsSameFolder, HasListed, HasGot, IsLonger, names_at, bytes_at}
 use Rattle.site_io.specs.Stream.{Rose}
 use Rattle.site_bundle.specs.declared.bundle_stop.BundleStop.{BundleStop}
 use Rattle.site_bundle.specs.declared.bundle_stop.BundleStop.TheVariants as stop
@@ -13,7 +13,7 @@ use Rattle.site_bundle.specs.Refusals.{Refusal, Tells, ReadsAs, not_json, bad_sh
 use Rattle.site_bundle.specs.declared.gathered.Gathered.{Gathered}
 use Rattle.site_bundle.specs.Gathering.{Keep, gather, facts_file, nothing_gathered}
 use Rattle.site_bundle.specs.FolderSites.{content_in, names_walk, content_walk, file_walk, entry_walk, folder_walk, node_walk, facts_walk, nodes_walk, steps, files_walk}
-use Rattle.site_bundle.specs.Walks.{Answer, bytes, missing, longer, Walk, done, refused, listing, reading, walk_then, in_turn, walk_of, End, found, refusal, fault, IsListing, IsReading, answer_of, EndsIn, EndsAs, Goes}
+use Rattle.site_bundle.specs.Walks.{Answer, bytes, missing, longer, Walk, done, refused, listing, reading, walk_then, in_turn, walk_of, End, found, refusal, fault, IsListing, IsReading, answer_of, call, EndsIn, EndsBy, EndsAs, Goes}
 
 -- ---- ends
 
@@ -22,35 +22,75 @@ found_in x (found y) = y
 found_in x (refusal why) = x
 found_in x (fault path) = x
 
-pub ends_then : {A B : Type 0} (told : Option (List Held)) (f : A → Walk B) (w : Walk A) (x : A) (end : End B) →
-    EndsIn told w (found x) → EndsIn told (f x) end → EndsIn told (walk_then f w) end
+pub ends_then : {A B : Type 0} (told : Option (List Held)) (f : A → Walk B) (w : Walk A) (x : A) (end : End B)
+    (calls behind : List Call) → EndsIn told w (found x) calls → EndsIn told (f x) end behind →
+    EndsIn told (walk_then f w) end (calls ++ behind)
 unfolding EndsIn walk_then found_in
-ends_then told f (done y) x end h next = subst (λ z. EndsIn told (f z) end) (ap (found_in x) h) next
-ends_then told f (refused why) x end h next = absurd (cc h)
-ends_then told f (listing path k) x end (inl h) next = absurd (cc h)
-ends_then told f (listing path k) x end (inr h) next = inr (h.0, h.1, ends_then told f (k h.0) x end h.2 next)
-ends_then told f (reading path k) x end (inl h) next = absurd (cc h)
-ends_then told f (reading path k) x end (inr h) next = inr (h.0, h.1, ends_then told f (k h.0) x end h.2 next)
+ends_then told f (done y) x end calls behind h next =
+    subst (λ l. EndsIn told (f y) end (l ++ behind)) (sym h.1)
+    (subst (λ z. EndsIn told (f z) end behind) (ap (found_in x) h.0) next)
+ends_then told f (refused why) x end calls behind h next = absurd (cc h.0)
+ends_then told f (listing path k) x end calls behind (inl h) next = absurd (cc h.0)
+ends_then told f (listing path k) x end calls behind (inr h) next = inr (
+  h.0,
+  h.1 ++ behind,
+  h.2,
+  ap (λ l. l ++ behind) h.3,
+  ends_then told f (k h.0) x end h.1 behind h.4 next,
+)
+ends_then told f (reading path k) x end calls behind (inl h) next = absurd (cc h.0)
+ends_then told f (reading path k) x end calls behind (inr h) next = inr (
+  h.0,
+  h.1 ++ behind,
+  h.2,
+  ap (λ l. l ++ behind) h.3,
+  ends_then told f (k h.0) x end h.1 behind h.4 next,
+)
 
-pub refused_then : {A B : Type 0} (told : Option (List Held)) (f : A → Walk B) (w : Walk A) (why : Refusal) →
-    EndsIn told w (refusal why) → EndsIn told (walk_then f w) (refusal why)
+pub refused_then : {A B : Type 0} (told : Option (List Held)) (f : A → Walk B) (w : Walk A) (why : Refusal)
+    (calls : List Call) → EndsIn told w (refusal why) calls → EndsIn told (walk_then f w) (refusal why) calls
 unfolding EndsIn walk_then
-refused_then told f (done y) why h = absurd (cc h)
-refused_then told f (refused other) why h = let same : why ≡ other = cc in ap refusal same
-refused_then told f (listing path k) why (inl h) = absurd (cc h)
-refused_then told f (listing path k) why (inr h) = inr (h.0, h.1, refused_then told f (k h.0) why h.2)
-refused_then told f (reading path k) why (inl h) = absurd (cc h)
-refused_then told f (reading path k) why (inr h) = inr (h.0, h.1, refused_then told f (k h.0) why h.2)
+refused_then told f (done y) why calls h = absurd (cc h.0)
+refused_then told f (refused other) why calls h =
+    let is = h.0 in let same : why ≡ other = cc is in (ap refusal same, h.1)
+refused_then told f (listing path k) why calls (inl h) = absurd (cc h.0)
+refused_then told f (listing path k) why calls (inr h) =
+    inr (h.0, h.1, h.2, h.3, refused_then told f (k h.0) why h.1 h.4)
+refused_then told f (reading path k) why calls (inl h) = absurd (cc h.0)
+refused_then told f (reading path k) why calls (inr h) =
+    inr (h.0, h.1, h.2, h.3, refused_then told f (k h.0) why h.1 h.4)
 
-pub fault_then : {A B : Type 0} (told : Option (List Held)) (f : A → Walk B) (w : Walk A) (path : List ℕ) →
-    EndsIn told w (fault path) → EndsIn told (walk_then f w) (fault path)
+pub fault_then : {A B : Type 0} (told : Option (List Held)) (f : A → Walk B) (w : Walk A) (path : List ℕ)
+    (calls : List Call) → EndsIn told w (fault path) calls → EndsIn told (walk_then f w) (fault path) calls
 unfolding EndsIn walk_then
-fault_then told f (done y) path h = absurd (cc h)
-fault_then told f (refused why) path h = absurd (cc h)
-fault_then told f (listing other k) path (inl h) = let same : path ≡ other = cc in inl (ap fault same)
-fault_then told f (listing other k) path (inr h) = inr (h.0, h.1, fault_then told f (k h.0) path h.2)
-fault_then told f (reading other k) path (inl h) = let same : path ≡ other = cc in inl (ap fault same)
-fault_then told f (reading other k) path (inr h) = inr (h.0, h.1, fault_then told f (k h.0) path h.2)
+fault_then told f (done y) path calls h = absurd (cc h.0)
+fault_then told f (refused why) path calls h = absurd (cc h.0)
+fault_then told f (listing other k) path calls (inl h) =
+    let is = h.0 in let same : path ≡ other = cc is in inl (ap fault same, h.1)
+fault_then told f (listing other k) path calls (inr h) =
+    inr (h.0, h.1, h.2, h.3, fault_then told f (k h.0) path h.1 h.4)
+fault_then told f (reading other k) path calls (inl h) =
+    let is = h.0 in let same : path ≡ other = cc is in inl (ap fault same, h.1)
+fault_then told f (reading other k) path calls (inr h) =
+    inr (h.0, h.1, h.2, h.3, fault_then told f (k h.0) path h.1 h.4)
+
+-- ---- calls
+
+made_none : (o : Option (List Call)) → o ≡ option_map (λ calls. calls ++ []) o
+made_none None = refl
+made_none (Some calls) = ap Some (sym (append-nil calls))
+
+pub none_made : (f : Folder) → HasMade [] f f
+none_made f = made_none f.calls
+
+made_joined : (o : Option (List Call)) (xs ys : List Call) →
+    option_map (λ calls. calls ++ ys) (option_map (λ calls. calls ++ xs) o) ≡ option_map (λ calls. calls ++ (xs ++ ys)) o
+made_joined None xs ys = refl
+made_joined (Some calls) xs ys = ap Some (append_assoc calls xs ys)
+
+made_then : (f g h : Folder) (xs ys : List Call) → HasMade xs f g → HasMade ys g h → HasMade (xs ++ ys) f h
+made_then f g h xs ys first second =
+    second ∙ ap (option_map (λ calls. calls ++ ys)) first ∙ made_joined f.calls xs ys
 
 -- ---- folders
 
@@ -65,22 +105,27 @@ rose_later a b c le rose = omega (arith, le, rose)
 
 -- ---- walks so far
 
--- Whatever the walk that is left comes to, the whole one comes to.
+-- Whatever the walk that is left comes to, the whole one comes to, by the calls so far and those that are left.
 pub record Leads {A : Type 0} (before now : Folder) (walk whole : Walk A) : Type 0 where
   pub same : IsSameFolder before now
-  pub leads : (end : End A) → EndsIn before.told walk end → EndsIn before.told whole end
+  pub made : List Call
+  pub has : HasMade made before now
+  pub leads : (end : End A) (calls : List Call) → EndsIn before.told walk end calls →
+      EndsIn before.told whole end (made ++ calls)
 
 pub leads_start : {A : Type 0} (f : Folder) (w : Walk A) → Leads f f w w
-leads_start f w = record { same = same_folder f; leads = λ end h. h }
+leads_start f w = record { same = same_folder f; made = []; has = none_made f; leads = λ end calls h. h }
 
 pub leads_next : {A B : Type 0} {before mid now : Folder} {whole : Walk B} (f : A → Walk B) (w : Walk A) (x : A) →
-    Leads before mid (walk_then f w) whole → EndsIn mid.told w (found x) → IsSameFolder mid now →
+    Leads before mid (walk_then f w) whole → EndsBy w (found x) mid now → IsSameFolder mid now →
     Leads before now (f x) whole
 leads_next {A} {B} {before} {mid} {now} {whole} f w x so_far ends same = record {
   same = same_trans so_far.same same;
-  leads = λ end h.
-      so_far.leads end (ends_then before.told f w x end
-      (subst (λ told. EndsIn told w (found x)) so_far.same.told ends) h);
+  made = so_far.made ++ ends.0;
+  has = made_then before mid now so_far.made ends.0 so_far.has ends.2;
+  leads = λ end calls h. subst (EndsIn before.told whole end) (sym (append_assoc so_far.made ends.0 calls))
+      (so_far.leads end (ends.0 ++ calls) (ends_then before.told f w x end ends.0 calls
+      (subst (λ told. EndsIn told w (found x) ends.0) so_far.same.told ends.1) h));
 }
 
 -- what the rest came to the whole came to
@@ -89,8 +134,12 @@ pub leads_end : {A B : Type 0} {before mid after : Folder} (shown : A → B) (r 
 leads_end {A} {B} {before} {mid} {after} shown r w whole so_far goes =
     record { same = same_trans so_far.same goes.same; ends = ends r goes.ends }
   where
-    at_once : (end : End B) → EndsIn mid.told w end → EndsIn before.told whole end
-    at_once end h = so_far.leads end (subst (λ told. EndsIn told w end) so_far.same.told h)
+    at_once : (end : End B) → EndsBy w end mid after → EndsBy whole end before after
+    at_once end h = (
+      so_far.made ++ h.0,
+      so_far.leads end h.0 (subst (λ told. EndsIn told w end h.0) so_far.same.told h.1),
+      made_then before mid after so_far.made h.0 so_far.has h.2,
+    )
 
     ends : (r : Result A BundleStop) → EndsAs shown r w mid after → EndsAs shown r whole before after
     ends (Ok x) h = at_once (found (shown x)) h
@@ -107,10 +156,10 @@ pub goes_stop : {A B C D : Type 0} {before after : Folder} (shown : A → B) (se
 goes_stop {A} {B} {C} {D} {before} {after} shown seen f w s goes = record { same = goes.same; ends = ends s goes.ends }
   where
     ends : (s : BundleStop) → EndsAs shown (Err s) w before after → EndsAs seen (Err s) (walk_then f w) before after
-    ends stop.NotJson h = refused_then before.told f w not_json h
-    ends (stop.BadShape path) h = refused_then before.told f w (bad_shape path) h
-    ends (stop.TooLarge path) h = refused_then before.told f w (too_large path) h
-    ends (stop.TreeFault path) h = (fault_then before.told f w path h.0, h.1)
+    ends stop.NotJson h = (h.0, refused_then before.told f w not_json h.0 h.1, h.2)
+    ends (stop.BadShape path) h = (h.0, refused_then before.told f w (bad_shape path) h.0 h.1, h.2)
+    ends (stop.TooLarge path) h = (h.0, refused_then before.told f w (too_large path) h.0 h.1, h.2)
+    ends (stop.TreeFault path) h = ((h.0.0, fault_then before.told f w path h.0.0 h.0.1, h.0.2), h.1)
     ends stop.Memory h = tt
 
 -- what a `?` hands on
@@ -131,42 +180,64 @@ pub goes_without_memory : {A B : Type 0} {before after : Folder} (shown : A → 
     IsErrAnd r (λ t. t ≡ stop.Memory) → IsSameFolder before after → Goes shown r w before after
 goes_without_memory shown r w is same = goes_exit shown r stop.Memory w is (record { same = same; ends = tt })
 
+-- a walk that has come to its end, or is refused: nothing more is asked
+at_end : {A : Type 0} (f : Folder) (x : A) → EndsBy (done x) (found x) f f
+unfolding EndsIn
+at_end f x = ([], (refl, refl), none_made f)
+
+at_refusal : (A : Type 0) (f : Folder) (why : Refusal) → EndsBy {A = A} (refused why) (refusal why) f f
+unfolding EndsIn
+at_refusal A f why = ([], (refl, refl), none_made f)
+
 -- what is read of an answer
 pub goes_reading : {A B : Type 0} (f : Folder) (shown : A → B) (r : Result A BundleStop) (meant : Result B Refusal) →
     ReadsAs shown r meant → Goes shown r (walk_of meant) f f
-unfolding EndsIn
-goes_reading f shown (Ok x) meant h =
-    record { same = same_folder f; ends = subst (λ m. EndsIn f.told (walk_of m) (found (shown x))) (sym h) refl }
-goes_reading f shown (Err stop.NotJson) meant h =
-    record { same = same_folder f; ends = subst (λ m. EndsIn f.told (walk_of m) (refusal not_json)) (sym h) refl }
-goes_reading f shown (Err (stop.BadShape path)) meant h =
-    record { same = same_folder f; ends = subst (λ m. EndsIn f.told (walk_of m) (refusal (bad_shape path))) (sym h) refl }
-goes_reading f shown (Err (stop.TooLarge path)) meant h =
-    record { same = same_folder f; ends = subst (λ m. EndsIn f.told (walk_of m) (refusal (too_large path))) (sym h) refl }
+goes_reading {A} {B} f shown (Ok x) meant h = record {
+  same = same_folder f;
+  ends = subst (λ m. EndsBy (walk_of m) (found (shown x)) f f) (sym h) (at_end f (shown x));
+}
+goes_reading {A} {B} f shown (Err stop.NotJson) meant h = record {
+  same = same_folder f;
+  ends = subst (λ m. EndsBy (walk_of m) (refusal not_json) f f) (sym h) (at_refusal B f not_json);
+}
+goes_reading {A} {B} f shown (Err (stop.BadShape path)) meant h = record {
+  same = same_folder f;
+  ends = subst (λ m. EndsBy (walk_of m) (refusal (bad_shape path)) f f) (sym h) (at_refusal B f (bad_shape path));
+}
+goes_reading {A} {B} f shown (Err (stop.TooLarge path)) meant h = record {
+  same = same_folder f;
+  ends = subst (λ m. EndsBy (walk_of m) (refusal (too_large path)) f f) (sym h) (at_refusal B f (too_large path));
+}
 goes_reading f shown (Err (stop.TreeFault path)) meant h = absurd h
 goes_reading f shown (Err stop.Memory) meant h = record { same = same_folder f; ends = tt }
 
--- a walk that has come to its end
-pub goes_found : {A B : Type 0} {before after : Folder} (shown : A → B) (x : A) → IsSameFolder before after →
-    Goes shown (Ok x) (done (shown x)) before after
-unfolding EndsIn
-goes_found shown x same = record { same = same; ends = refl }
-
 -- a walk that is refused
-pub goes_refused : {A B : Type 0} {before after : Folder} (shown : A → B) (s : BundleStop) (why : Refusal) → Tells s why →
-    IsSameFolder before after → Goes shown (Err s) (refused why) before after
-unfolding EndsIn
-goes_refused shown stop.NotJson why h same = record { same = same; ends = ap refusal (sym h) }
-goes_refused shown (stop.BadShape path) why h same = record { same = same; ends = ap refusal (sym h) }
-goes_refused shown (stop.TooLarge path) why h same = record { same = same; ends = ap refusal (sym h) }
-goes_refused shown (stop.TreeFault path) why h same = absurd h
-goes_refused shown stop.Memory why h same = record { same = same; ends = tt }
+pub goes_refused : {A B : Type 0} (f : Folder) (shown : A → B) (s : BundleStop) (why : Refusal) → Tells s why →
+    Goes shown (Err s) (refused why) f f
+goes_refused {A} {B} f shown stop.NotJson why h = record {
+  same = same_folder f;
+  ends = subst (λ w. EndsBy {A = B} (refused why) (refusal w) f f) h (at_refusal B f why);
+}
+goes_refused {A} {B} f shown (stop.BadShape path) why h = record {
+  same = same_folder f;
+  ends = subst (λ w. EndsBy {A = B} (refused why) (refusal w) f f) h (at_refusal B f why);
+}
+goes_refused {A} {B} f shown (stop.TooLarge path) why h = record {
+  same = same_folder f;
+  ends = subst (λ w. EndsBy {A = B} (refused why) (refusal w) f f) h (at_refusal B f why);
+}
+goes_refused f shown (stop.TreeFault path) why h = absurd h
+goes_refused f shown stop.Memory why h = record { same = same_folder f; ends = tt }
 
--- ---- calls
+-- ---- answers
 
 each_told : {X : Type 0} {P Q : X → Type 0} (o : Option X) → ((x : X) → P x → Q x) → IfSome o P → IfSome o Q
 each_told None f h = tt
 each_told (Some x) f h = f x h
+
+called_at : (before after : Folder) (failed : Bool) (called path : List ℕ) → called ≡ path →
+    HasCalled called failed before after → HasMade (call failed path ∷ []) before after
+called_at before after failed called path is has = subst (λ p. HasMade (call failed p ∷ []) before after) is has
 
 -- a folder was listed
 pub goes_listed : {before after : Folder} (names : List (List ℕ)) (called path : List ℕ) → called ≡ path →
@@ -175,44 +246,63 @@ pub goes_listed : {before after : Folder} (names : List (List ℕ)) (called path
 unfolding EndsIn
 goes_listed {before} {after} names called path is listed = record {
   same = listed.same;
-  ends = inr (
-    Some names,
-    (record {
-      rising = listed.rising;
-      tells = each_told before.told (λ files e. subst (λ p. Some names ≡ names_at p files) is (sym e)) listed.told;
-    }),
-    refl,
+  ends = (
+    call false path ∷ [],
+    inr (
+      Some names,
+      [],
+      (record {
+        rising = listed.rising;
+        tells = each_told before.told (λ files e. subst (λ p. Some names ≡ names_at p files) is (sym e)) listed.told;
+      }),
+      refl,
+      (refl, refl),
+    ),
+    called_at before after false called path is listed.called,
   );
 }
 
 pub goes_unlisted : {before after : Folder} (names : List (List ℕ)) (called path : List ℕ) → names ≡ [] → called ≡ path →
     IsSameFolder before after → IfSome before.told (λ files. names_at called files ≡ None) →
+    HasCalled called false before after →
     Goes (λ (ns : List (List ℕ)). ns) (Ok names) (listing path (λ names. done (unwrap_or names []))) before after
 unfolding EndsIn
-goes_unlisted {before} {after} names called path empty is same none = record {
+goes_unlisted {before} {after} names called path empty is same none has = record {
   same = same;
-  ends = inr (
-    None,
-    (record {
-      rising = refl;
-      tells = each_told before.told (λ files e. subst (λ p. None ≡ names_at p files) is (sym e)) none;
-    }),
-    ap found empty,
+  ends = (
+    call false path ∷ [],
+    inr (
+      None,
+      [],
+      (record {
+        rising = refl;
+        tells = each_told before.told (λ files e. subst (λ p. None ≡ names_at p files) is (sym e)) none;
+      }),
+      refl,
+      (ap found empty, refl),
+    ),
+    called_at before after false called path is has,
   );
 }
 
 -- the call failed
 pub goes_fault_listing : {A B : Type 0} {before after : Folder} (shown : A → B) (called path : List ℕ)
     (next : Option (List (List ℕ)) → Walk B) → called ≡ path → IsSameFolder before after → Rose before.faults after.faults →
-    Goes shown (Err (stop.TreeFault called)) (listing path next) before after
+    HasCalled called true before after → Goes shown (Err (stop.TreeFault called)) (listing path next) before after
 unfolding EndsIn
-goes_fault_listing shown called path next is same rose = record { same = same; ends = (inl (ap fault is), rose) }
+goes_fault_listing {before = before} {after = after} shown called path next is same rose has = record {
+  same = same;
+  ends = ((call true path ∷ [], inl (ap fault is, refl), called_at before after true called path is has), rose);
+}
 
 pub goes_fault_reading : {A B : Type 0} {before after : Folder} (shown : A → B) (called path : List ℕ)
     (next : Answer → Walk B) → called ≡ path → IsSameFolder before after → Rose before.faults after.faults →
-    Goes shown (Err (stop.TreeFault called)) (reading path next) before after
+    HasCalled called true before after → Goes shown (Err (stop.TreeFault called)) (reading path next) before after
 unfolding EndsIn
-goes_fault_reading shown called path next is same rose = record { same = same; ends = (inl (ap fault is), rose) }
+goes_fault_reading {before = before} {after = after} shown called path next is same rose has = record {
+  same = same;
+  ends = ((call true path ∷ [], inl (ap fault is, refl), called_at before after true called path is has), rose);
+}
 
 -- a file was read
 short_answer : (content : List ℕ) (b : Bool) → b ≡ true → (if b then bytes content else longer) ≡ bytes content
@@ -245,61 +335,79 @@ pub goes_read : {before after : Folder} (content called path named : List ℕ) �
 unfolding EndsIn
 goes_read {before} {after} content called path named is got = record {
   same = got.same;
-  ends = inr (
-    bytes content,
-    (record {
-      short = got.fits;
-      tells = each_told before.told (λ files e. answer_bytes (bytes_at path files) content
-          (subst (λ p. bytes_at p files ≡ Some content) is e) got.fits) got.told;
-    }),
-    refl,
+  ends = (
+    call false path ∷ [],
+    inr (
+      bytes content,
+      [],
+      (record {
+        short = got.fits;
+        tells = each_told before.told (λ files e. answer_bytes (bytes_at path files) content
+            (subst (λ p. bytes_at p files ≡ Some content) is e) got.fits) got.told;
+      }),
+      refl,
+      (refl, refl),
+    ),
+    called_at before after false called path is got.called,
   );
 }
 
 pub goes_missing : {before after : Folder} (called path named : List ℕ) → called ≡ path → IsSameFolder before after →
-    IfSome before.told (λ files. bytes_at called files ≡ None) →
+    IfSome before.told (λ files. bytes_at called files ≡ None) → HasCalled called false before after →
     Goes (λ (o : Option (List ℕ)). o) (Ok None) (reading path (content_in named)) before after
 unfolding EndsIn
-goes_missing {before} {after} called path named is same none = record {
+goes_missing {before} {after} called path named is same none has = record {
   same = same;
-  ends = inr (
-    missing,
-    (record {
-      short = tt;
-      tells = each_told before.told (λ files e. sym (ap answer_of (subst (λ p. bytes_at p files ≡ None) is e))) none;
-    }),
-    refl,
+  ends = (
+    call false path ∷ [],
+    inr (
+      missing,
+      [],
+      (record {
+        short = tt;
+        tells = each_told before.told (λ files e. sym (ap answer_of (subst (λ p. bytes_at p files ≡ None) is e))) none;
+      }),
+      refl,
+      (refl, refl),
+    ),
+    called_at before after false called path is has,
   );
 }
 
 -- the walk is refused with this path
 refused_at : {A B : Type 0} {before after : Folder} (shown : A → B) (s : BundleStop) (w : Walk B) (named : List ℕ) →
-    Tells s (too_large named) → IsSameFolder before after → EndsIn before.told w (refusal (too_large named)) →
+    Tells s (too_large named) → IsSameFolder before after → EndsBy w (refusal (too_large named)) before after →
     Goes shown (Err s) w before after
 refused_at {A} {B} {before} {after} shown stop.NotJson w named h same ends =
-    record { same = same; ends = subst (λ why. EndsIn before.told w (refusal why)) h ends }
+    record { same = same; ends = subst (λ why. EndsBy w (refusal why) before after) h ends }
 refused_at {A} {B} {before} {after} shown (stop.BadShape path) w named h same ends =
-    record { same = same; ends = subst (λ why. EndsIn before.told w (refusal why)) h ends }
+    record { same = same; ends = subst (λ why. EndsBy w (refusal why) before after) h ends }
 refused_at {A} {B} {before} {after} shown (stop.TooLarge path) w named h same ends =
-    record { same = same; ends = subst (λ why. EndsIn before.told w (refusal why)) h ends }
+    record { same = same; ends = subst (λ why. EndsBy w (refusal why) before after) h ends }
 refused_at shown (stop.TreeFault path) w named h same ends = absurd h
 refused_at shown stop.Memory w named h same ends = record { same = same; ends = tt }
 
 pub goes_longer : {before after : Folder} (s : BundleStop) (called path named : List ℕ) → called ≡ path →
     Tells s (too_large named) → IsSameFolder before after →
-    IfSome before.told (λ files. IsLonger MOST_FILE_BYTES (bytes_at called files)) →
+    IfSome before.told (λ files. IsLonger MOST_FILE_BYTES (bytes_at called files)) → HasCalled called false before after →
     Goes (λ (o : Option (List ℕ)). o) (Err s) (reading path (content_in named)) before after
 unfolding EndsIn
-goes_longer {before} {after} s called path named is tells same long =
-    refused_at _ s _ named tells same (inr (
-      longer,
-      (record {
-        short = tt;
-        tells = each_told before.told (λ files h. answer_longer (bytes_at path files)
-            (subst (λ p. IsLonger MOST_FILE_BYTES (bytes_at p files)) is h)) long;
-      }),
-      refl,
-    ))
+goes_longer {before} {after} s called path named is tells same long has =
+    refused_at _ s _ named tells same (
+      call false path ∷ [],
+      inr (
+        longer,
+        [],
+        (record {
+          short = tt;
+          tells = each_told before.told (λ files h. answer_longer (bytes_at path files)
+              (subst (λ p. IsLonger MOST_FILE_BYTES (bytes_at p files)) is h)) long;
+        }),
+        refl,
+        (refl, refl),
+      ),
+      called_at before after false called path is has,
+    )
 
 -- ---- files
 
@@ -362,8 +470,15 @@ step_stop shown seen step steps g r s so_far exits goes =
 pub steps_end : {A B : Type 0} {before now : Folder} {whole : Walk B} (shown : A → B) (u : A) (g : B) →
     Leads before now (in_turn [] g) whole → shown u ≡ g → Goes shown (Ok u) whole before now
 unfolding in_turn EndsIn
-steps_end shown u g so_far same =
-    record { same = so_far.same; ends = so_far.leads (found (shown u)) (ap found same) }
+steps_end {A} {B} {before} {now} {whole} shown u g so_far same = record {
+  same = so_far.same;
+  ends = (
+    so_far.made,
+    subst (EndsIn before.told whole (found (shown u))) (append-nil so_far.made)
+        (so_far.leads (found (shown u)) [] (ap found same, refl)),
+    so_far.has,
+  );
+}
 
 pub turn_next : {X A B : Type 0} {before mid now : Folder} {whole : Walk B} (u : A) (f : X → B → Walk B)
     (left after : List X) (x : X) (g new : B) (w : Walk B) → left ≡ x ∷ after → w ≡ f x g →
@@ -395,7 +510,7 @@ pub too_deep : {A : Type 0} {f : Folder} (shown : A → Gathered) (s : BundleSto
 unfolding folder_walk
 too_deep {A} {f} shown s levels front path g none tells =
     subst (λ n. Goes shown (Err s) (folder_walk n front path g) f f) (sym none)
-    (goes_refused shown s (too_large path) tells (same_folder f))
+    (goes_refused f shown s (too_large path) tells)
 
 abbrev pub entries_walk : ℕ → List ℕ → List ℕ → List (List ℕ) → Gathered → Walk Gathered
 entries_walk levels front path names g =
@@ -444,7 +559,7 @@ pub no_node : {A : Type 0} {f : Folder} (shown : A → Gathered) (u : A) (front 
 unfolding EndsIn
 no_node {A} {f} shown u front name o g is same =
     subst (λ o. Goes shown (Ok u) (node_walk front name o g) f f) is
-    (record { same = same_folder f; ends = ap found same })
+    (record { same = same_folder f; ends = ([], (ap found same, refl), none_made f) })
 
 pub node_read : {A : Type 0} {before after : Folder} (shown : A → Gathered) (r : Result A BundleStop)
     (front name path node : List ℕ) (o : Option (List ℕ)) (g : Gathered) → Some node ≡ o → path ≡ codes "nodes/" ++ name →

@@ -1,9 +1,9 @@
 -- A walk over a tree of files: the calls that it makes, one after another, and what becomes of each answer.
-use Rattle.std.specs.Prelude.{◌≡◌, ◌⊎◌, ℕ, ◌≤◌, if◌then◌else◌, nat_le, List, [], ◌∷◌, length, Option, None, Some}
+use Rattle.std.specs.Prelude.{◌≡◌, ◌⊎◌, ℕ, ◌≤◌, Bool, true, false, if◌then◌else◌, nat_le, List, [], ◌∷◌, length, Option, None, Some}
 use Rattle.std.specs.Prelude.{Result, Ok, Err, IsTrue, IfSome}
 use Rattle.std.specs.Option.{unwrap_or}
 use Rattle.pp_values.specs.Rising.{is_rising}
-use Rattle.site_io.specs.Folders.{Folder, Held, IsSameFolder, names_at, bytes_at}
+use Rattle.site_io.specs.Folders.{Folder, Held, Call, HasMade, IsSameFolder, names_at, bytes_at}
 use Rattle.site_io.specs.Stream.{Rose}
 use Rattle.site_bundle.specs.declared.bundle_stop.BundleStop.{BundleStop}
 use Rattle.site_bundle.specs.declared.bundle_stop.BundleStop.TheVariants as stop
@@ -70,15 +70,26 @@ pub record IsReading (told : Option (List Held)) (path : List ℕ) (answer : Ans
   pub short : IsShort answer
   pub tells : IfSome told (λ files. answer ≡ answer_of (bytes_at path files))
 
--- The walk comes to this end over a tree: each of its calls fails or gets an answer. A tree that tells its files
--- answers what it tells; whatever another one answers, the walk goes on with it.
-unfoldable pub EndsIn : {A : Type 0} → Option (List Held) → Walk A → End A → Type 0
-EndsIn told (done x) end = end ≡ found x
-EndsIn told (refused why) end = end ≡ refusal why
-EndsIn told (listing path next) end =
-    (end ≡ fault path) ⊎ ((names : Option (List (List ℕ))) × IsListing told path names × EndsIn told (next names) end)
-EndsIn told (reading path next) end =
-    (end ≡ fault path) ⊎ ((answer : Answer) × IsReading told path answer × EndsIn told (next answer) end)
+abbrev pub call : Bool → List ℕ → Call
+call failed path = record { path = path; failed = failed }
+
+-- The walk comes to this end over a tree by these calls: each of them fails, and is the last, or gets an answer. A tree
+-- that tells its files answers what it tells; whatever another one answers, the walk goes on with it.
+unfoldable pub EndsIn : {A : Type 0} → Option (List Held) → Walk A → End A → List Call → Type 0
+EndsIn told (done x) end calls = (end ≡ found x) × (calls ≡ [])
+EndsIn told (refused why) end calls = (end ≡ refusal why) × (calls ≡ [])
+EndsIn told (listing path next) end calls =
+    ((end ≡ fault path) × (calls ≡ call true path ∷ []))
+    ⊎ ((names : Option (List (List ℕ))) × (behind : List Call) × IsListing told path names
+    × (calls ≡ call false path ∷ behind) × EndsIn told (next names) end behind)
+EndsIn told (reading path next) end calls =
+    ((end ≡ fault path) × (calls ≡ call true path ∷ []))
+    ⊎ ((answer : Answer) × (behind : List Call) × IsReading told path answer × (calls ≡ call false path ∷ behind)
+    × EndsIn told (next answer) end behind)
+
+-- and these calls alone were made
+abbrev pub EndsBy : {A : Type 0} → Walk A → End A → Folder → Folder → Type 0
+EndsBy walk end before after = (calls : List Call) × EndsIn before.told walk end calls × HasMade calls before after
 
 -- what the walk comes to over these files, where no call fails
 unfoldable pub end_over : {A : Type 0} → List Held → Walk A → Result A Refusal
@@ -90,16 +101,17 @@ end_over files (reading path next) = end_over files (next (answer_of (bytes_at p
 -- ---- what a function may answer that goes a walk
 
 abbrev pub EndsAs : {A B : Type 0} → (A → B) → Result A BundleStop → Walk B → Folder → Folder → Type 0
-EndsAs shown (Ok x) walk before after = EndsIn before.told walk (found (shown x))
-EndsAs shown (Err stop.NotJson) walk before after = EndsIn before.told walk (refusal not_json)
-EndsAs shown (Err (stop.BadShape path)) walk before after = EndsIn before.told walk (refusal (bad_shape path))
-EndsAs shown (Err (stop.TooLarge path)) walk before after = EndsIn before.told walk (refusal (too_large path))
+EndsAs shown (Ok x) walk before after = EndsBy walk (found (shown x)) before after
+EndsAs shown (Err stop.NotJson) walk before after = EndsBy walk (refusal not_json) before after
+EndsAs shown (Err (stop.BadShape path)) walk before after = EndsBy walk (refusal (bad_shape path)) before after
+EndsAs shown (Err (stop.TooLarge path)) walk before after = EndsBy walk (refusal (too_large path)) before after
 EndsAs shown (Err (stop.TreeFault path)) walk before after =
-    EndsIn before.told walk (fault path) × Rose before.faults after.faults
+    EndsBy walk (fault path) before after × Rose before.faults after.faults
 EndsAs shown (Err stop.Memory) walk before after = Unit {0}
 
 -- It went this walk, and its answer is what the walk came to, unless memory ran out: then it may have stopped anywhere.
--- A fault is told only where the tree's count rose.
+-- A tree that tells its calls was asked nothing else, so nothing behind what is refused. A fault has the path of the call
+-- that failed, and is told only where the tree's count rose.
 pub record Goes {A B : Type 0} (shown : A → B) (result : Result A BundleStop) (walk : Walk B)
     (before after : Folder) : Type 0 where
   pub same : IsSameFolder before after

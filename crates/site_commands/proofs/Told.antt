@@ -13,7 +13,7 @@ use Rattle.site_bundle.specs.Walks.{Walk, done, refused, listing, reading, found
 use Rattle.site_bundle.specs.declared.bundle.Bundle.{Bundle}
 use Rattle.site_bundle.specs.declared.bundle_stop.BundleStop.TheVariants as b
 use Rattle.site_bundle.specs.declared.limits.TheConstants.{MOST_BUNDLE_BYTES, MOST_FILE_BYTES}
-use Rattle.site_io.specs.Folders.{Held}
+use Rattle.site_io.specs.Folders.{Held, Call}
 use Rattle.site_io.specs.declared.transfer.ReadStop.TheVariants as r
 use Rattle.site_commands.specs.Inputs as read
 use Rattle.site_commands.specs.Inputs.{Reading, Input, HasInput, HasStoppedBy, stop_ending}
@@ -52,29 +52,32 @@ bundle_of-long input long =
 
 -- ---- walks over files that are told
 
-over-found : {A : Type 0} (files : List Held) (w : Walk A) (x : A) → EndsIn (Some files) w (found x) →
-    end_over files w ≡ Ok x
+over-found : {A : Type 0} (files : List Held) (w : Walk A) (x : A) (calls : List Call) →
+    EndsIn (Some files) w (found x) calls → end_over files w ≡ Ok x
 unfolding EndsIn end_over
-over-found files (done y) x ends = let same : x ≡ y = cc in ap Ok (sym same)
-over-found files (refused why) x ends = cc
-over-found files (listing path next) x (inl ends) = cc
-over-found files (listing path next) x (inr ends) =
-    subst (λ names. end_over files (next names) ≡ Ok x) ends.1.tells (over-found files (next ends.0) x ends.2)
-over-found files (reading path next) x (inl ends) = cc
-over-found files (reading path next) x (inr ends) =
-    subst (λ answer. end_over files (next answer) ≡ Ok x) ends.1.tells (over-found files (next ends.0) x ends.2)
+over-found files (done y) x calls ends = let is = ends.0 in let same : x ≡ y = cc in ap Ok (sym same)
+over-found files (refused why) x calls ends = absurd (cc ends.0)
+over-found files (listing path next) x calls (inl ends) = absurd (cc ends.0)
+over-found files (listing path next) x calls (inr ends) =
+    subst (λ names. end_over files (next names) ≡ Ok x) ends.2.tells (over-found files (next ends.0) x ends.1 ends.4)
+over-found files (reading path next) x calls (inl ends) = absurd (cc ends.0)
+over-found files (reading path next) x calls (inr ends) =
+    subst (λ answer. end_over files (next answer) ≡ Ok x) ends.2.tells (over-found files (next ends.0) x ends.1 ends.4)
 
-over-refusal : {A : Type 0} (files : List Held) (w : Walk A) (why : Refusal) → EndsIn (Some files) w (refusal why) →
-    end_over files w ≡ Err why
+over-refusal : {A : Type 0} (files : List Held) (w : Walk A) (why : Refusal) (calls : List Call) →
+    EndsIn (Some files) w (refusal why) calls → end_over files w ≡ Err why
 unfolding EndsIn end_over
-over-refusal files (done y) why ends = cc
-over-refusal files (refused other) why ends = let same : why ≡ other = cc in ap Err (sym same)
-over-refusal files (listing path next) why (inl ends) = cc
-over-refusal files (listing path next) why (inr ends) =
-    subst (λ names. end_over files (next names) ≡ Err why) ends.1.tells (over-refusal files (next ends.0) why ends.2)
-over-refusal files (reading path next) why (inl ends) = cc
-over-refusal files (reading path next) why (inr ends) =
-    subst (λ answer. end_over files (next answer) ≡ Err why) ends.1.tells (over-refusal files (next ends.0) why ends.2)
+over-refusal files (done y) why calls ends = absurd (cc ends.0)
+over-refusal files (refused other) why calls ends =
+    let is = ends.0 in let same : why ≡ other = cc in ap Err (sym same)
+over-refusal files (listing path next) why calls (inl ends) = absurd (cc ends.0)
+over-refusal files (listing path next) why calls (inr ends) =
+    subst (λ names. end_over files (next names) ≡ Err why) ends.2.tells
+    (over-refusal files (next ends.0) why ends.1 ends.4)
+over-refusal files (reading path next) why calls (inl ends) = absurd (cc ends.0)
+over-refusal files (reading path next) why calls (inr ends) =
+    subst (λ answer. end_over files (next answer) ≡ Err why) ends.2.tells
+    (over-refusal files (next ends.0) why ends.1 ends.4)
 
 -- ---- what was had
 
@@ -94,10 +97,11 @@ bundle_told None left' bytes meant took ended is = tt
 bundle_told (Some input) left' bytes meant took ended is =
     subst (λ x. site_or (bundle_of x) ≡ site_or meant) (read_is_left left' input bytes ended took) (ap site_or is)
 
-folder_told : (told : Option (List Held)) (w : Walk Bundle) (said : Bundle) → EndsIn told w (found said) →
+folder_told : (told : Option (List Held)) (w : Walk Bundle) (said : Bundle) (calls : List Call) →
+    EndsIn told w (found said) calls →
     IfSome (option_map (λ files. site_or (end_over files w)) told) (λ t. t ≡ Ok (read.site said))
-folder_told None w said ends = tt
-folder_told (Some files) w said ends = ap site_or (over-found files w said ends)
+folder_told None w said calls ends = tt
+folder_told (Some files) w said calls ends = ap site_or (over-found files w said calls ends)
 
 -- what was had is what is told
 pub input-told : (from : Reading) (input : Input) (before after : World) →
@@ -110,7 +114,7 @@ input-told read.bundle (read.site said) before after had =
     bundle_told before.source.left after.source.left had.0.bytes (Ok said) had.0.read.read.left had.0.read.ended
     had.0.is
 input-told (read.folder dir) (read.site said) before after had =
-    folder_told before.folder.told (site_walk dir) said had.1.ends
+    folder_told before.folder.told (site_walk dir) said had.1.ends.0 had.1.ends.1
 input-told read.journal input before after had = tt
 input-told read.resuming input before after had = tt
 input-told from input before after had = absurd had
@@ -148,10 +152,11 @@ bundle_refused None left' bytes why took ended is = tt
 bundle_refused (Some input) left' bytes why took ended is =
     (why, subst (λ x. site_or (bundle_of x) ≡ Err why) (read_is_left left' input bytes ended took) (ap site_or is))
 
-folder_refused : (told : Option (List Held)) (w : Walk Bundle) (why : Refusal) → EndsIn told w (refusal why) →
+folder_refused : (told : Option (List Held)) (w : Walk Bundle) (why : Refusal) (calls : List Call) →
+    EndsIn told w (refusal why) calls →
     IfSome (option_map (λ files. site_or (end_over files w)) told) IsRefusal
-folder_refused None w why ends = tt
-folder_refused (Some files) w why ends = (why, ap site_or (over-refusal files w why ends))
+folder_refused None w why calls ends = tt
+folder_refused (Some files) w why calls ends = (why, ap site_or (over-refusal files w why calls ends))
 
 -- where what was read is not what the command reads, what is told is neither
 pub stop-told : (stop : InputStop) (from : Reading) (before after : World) → e.BadInput ≡ stop_ending stop →
@@ -183,11 +188,11 @@ stop-told (i.Refused (b.TooLarge path)) read.bundle before after is did =
 stop-told (i.Refused (b.TreeFault path)) read.bundle before after is did = cc
 stop-told (i.Refused b.Memory) read.bundle before after is did = cc
 stop-told (i.Refused b.NotJson) (read.folder dir) before after is did =
-    folder_refused before.folder.told (site_walk dir) not_json did.1.ends
+    folder_refused before.folder.told (site_walk dir) not_json did.1.ends.0 did.1.ends.1
 stop-told (i.Refused (b.BadShape path)) (read.folder dir) before after is did =
-    folder_refused before.folder.told (site_walk dir) (bad_shape path) did.1.ends
+    folder_refused before.folder.told (site_walk dir) (bad_shape path) did.1.ends.0 did.1.ends.1
 stop-told (i.Refused (b.TooLarge path)) (read.folder dir) before after is did =
-    folder_refused before.folder.told (site_walk dir) (too_large path) did.1.ends
+    folder_refused before.folder.told (site_walk dir) (too_large path) did.1.ends.0 did.1.ends.1
 stop-told (i.Refused (b.TreeFault path)) (read.folder dir) before after is did = cc
 stop-told (i.Refused b.Memory) (read.folder dir) before after is did = cc
 stop-told (i.Refused why) read.journal before after is did = tt

@@ -19,7 +19,7 @@ use std::thread::Threads;
 
 /// Runs the program on its command line, whose first word is the program's name, and gives the code to exit with.
 ///
-/// A word that is no text makes them faulty words.
+/// A word that is no text makes them faulty words, and that is said of them.
 pub fn run_program<
     S: Source,
     K: Sink,
@@ -56,7 +56,7 @@ where
             site_main(rt, alloc, words, source, out, err, net, tree, machine, gate)
         }
         Err(error) if error.kind() == ErrorKind::OutOfMemory => lack_memory(err),
-        Err(_) => site_main(rt, alloc, &[], source, out, err, net, tree, machine, gate),
+        Err(_) => refuse_words(err),
     };
     ExitCode::from(status)
 }
@@ -77,4 +77,12 @@ fn lack_memory<E: Sink>(err: &mut E) -> u8
     ensures said { Says (line (codes "memory")) (E.stream err.old) (E.stream err.new) }
 {
     refuse(err, Ending::Memory, "memory\n").status()
+}
+
+/// Says that a word is no text, and gives the status of faulty words.
+fn refuse_words<E: Sink>(err: &mut E) -> u8
+    ensures ending { result ≡ 10 }
+    ensures said { Says (line (codes "a word is no UTF-8")) (E.stream err.old) (E.stream err.new) }
+{
+    refuse(err, Ending::BadWords, "a word is no UTF-8\n").status()
 }

@@ -1,3 +1,4 @@
+pub mod Events
 pub mod Streams
 mod Sources
 mod Nets
@@ -5,5 +6,6 @@ mod Fronts
 pub mod Trees
 mod Retries
 mod Examples
+mod EventExamples
 mod NetExamples
 mod TreeExamples

@@ -15,7 +15,7 @@ half = conn_stream 0 (codes "a") (codes "b") (codes "x") false
 
 -- shut, with all its bytes as they were
 shuts : HasShut half (conn_stream 0 (codes "a") (codes "b") (codes "x") true)
-shuts = record { later = lit≤ tt; left = refl; read = refl; written = refl; shut = refl }
+shuts = record { later = lit≤ tt; left = refl; read = refl; written = refl; shut = refl; events = refl }
 
 -- a call that leaves it open
 stays_open : (after : Stream) → HasShut half after → after.shut ≡ Some false → ⊥
@@ -23,7 +23,7 @@ stays_open after shut unshut = let ends : after.shut ≡ Some true = shut.shut i
 
 -- one more byte was read and two were written
 trades : HasTraded (codes "b") (codes "yz") half (conn_stream 0 (codes "ab") [] (codes "xyz") false)
-trades = record { later = lit≤ tt; left = refl; read = refl; written = refl; shut = refl }
+trades = record { later = lit≤ tt; left = refl; read = refl; written = refl; shut = refl; events = tt }
 
 -- two connections wait, and one was given and handed back
 abbrev some_lines : Lines

@@ -8,7 +8,7 @@ use Rattle.site_io.specs.Scripted.{source_stream}
 -- a stream of these bytes, which was read as far as a place
 abbrev partly_read : ℕ → ℕ → List ℕ → Option (List ℕ) → Option Bool → Stream
 partly_read faults at bytes written shut =
-    record { faults = faults; left = Some (drop at bytes); read = Some (take at bytes); written = written; shut = shut }
+    record { faults = faults; left = Some (drop at bytes); read = Some (take at bytes); written = written; shut = shut; events = None }
 
 module _ (faults from to : ℕ) (bytes buffer : List ℕ) (next : to ≡ from + min (length buffer) (length bytes - from)) (copied : take (to - from) buffer ≡ take (to - from) (drop from bytes)) where
   moved : to ≡ from + (to - from)
@@ -37,7 +37,9 @@ module _ (faults from to : ℕ) (bytes buffer : List ℕ) (next : to ≡ from + 
       read = ap Some read;
       written = refl;
       shut = refl;
+      events = tt;
     };
+    once = tt;
     ended = λ none room. ap Some (ended none room);
   }
 

@@ -1,10 +1,10 @@
 -- Trees of files on small values.
-use Rattle.std.proofs.Common.{◌≡◌, true, [], ◌∷◌, Some, None, refl, arith}
+use Rattle.std.proofs.Common.{◌≡◌, ℕ, Bool, true, false, [], ◌∷◌, Option, Some, None, refl, ap, arith}
 use Rattle.std.proofs.Math.Dec.{lit≤, lit<}
 use Rattle.std.specs.Prelude.{codes, List}
 use Rattle.site_io.specs.declared.tree.Listed.TheVariants as listed
 use Rattle.site_io.specs.declared.tree.Content.TheVariants as content
-use Rattle.site_io.specs.Folders.{Held, Folder, names_with, names_at, bytes_at, Lists, Reads, untold_folder}
+use Rattle.site_io.specs.Folders.{Held, Call, Folder, HasCalled, names_with, names_at, bytes_at, Lists, Reads, untold_folder}
 use Rattle.site_io.specs.ScriptedFolder.{told_folder, is_failing_call}
 
 -- four files, one of which can't be read
@@ -67,7 +67,7 @@ fits : Reads content.TooLarge (codes "data/a/b.json") 2 held held → ⊥
 fits reads = let longer = reads.1 in omega (arith, longer)
 
 is_too_large : Reads content.TooLarge (codes "data/a/b.json") 1 held held
-is_too_large = (record { later = lit≤ tt; told = refl }, lit< tt)
+is_too_large = (record { later = lit≤ tt; told = refl }, lit< tt, refl)
 
 -- a file that can't be read is missing, and no empty one
 reads_none : Reads (content.Bytes []) (codes "data/a/c.json") 9 held held → ⊥
@@ -79,3 +79,32 @@ fails_counted lists = let rose = lists.1 in omega (arith, rose)
 
 third_fails : is_failing_call (record { faults = 0; files = files; calls = 2; failing = 3 ∷ [] }) ≡ true
 third_fails = refl
+
+-- a tree that tells its calls, before its second one
+abbrev called : List Call → Folder
+called calls = record { faults = 0; told = None; calls = Some calls }
+
+first : Call
+first = record { path = codes "data/"; failed = false }
+
+calls_again : HasCalled (codes "hiera.yaml") true (called (first ∷ []))
+    (called (first ∷ record { path = codes "hiera.yaml"; failed = true } ∷ []))
+calls_again = refl
+
+-- what is said of the first call
+abbrev path_of : Option (List Call) → List ℕ
+path_of None = []
+path_of (Some []) = []
+path_of (Some (call ∷ calls)) = call.path
+
+abbrev failed_of : Option (List Call) → Bool
+failed_of None = false
+failed_of (Some []) = false
+failed_of (Some (call ∷ calls)) = call.failed
+
+-- it was another one, or did not fail
+calls_other : HasCalled [] true (called []) (called (record { path = codes "b"; failed = true } ∷ [])) → ⊥
+calls_other has = let same : codes "b" ≡ [] = ap path_of has in cc
+
+calls_well : HasCalled (codes "a") true (called []) (called (record { path = codes "a"; failed = false } ∷ [])) → ⊥
+calls_well has = let same : false ≡ true = ap failed_of has in cc

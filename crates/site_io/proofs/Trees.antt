@@ -1,5 +1,5 @@
 -- What a tree in memory lists.
-use Rattle.std.proofs.Common.{◌≡◌, ℕ, Bool, true, false, List, [], ◌∷◌, Some, refl, sym, ap, subst, arith}
+use Rattle.std.proofs.Common.{◌≡◌, ℕ, Bool, true, false, List, [], ◌∷◌, Some, None, refl, sym, ap, subst, arith}
 use Rattle.std.specs.Prelude.{IsTrue}
 use Rattle.std.specs.BTreeSet.{insert_key}
 use Rattle.pp_values.specs.Rising.{text_cmp, is_rising}
@@ -22,7 +22,8 @@ rising_put names name rising = is_rising-insert_key names name rising
 pub failed_visit : (before after : ScriptedFolder) (failed : Bool) → failed ≡ true → IsNextVisit failed before after →
     IsSameFolder (folder_of before) (folder_of after) →
     IsSameFolder (folder_of before) (folder_of after) × Rose before.faults after.faults
-failed_visit before after true is next same = (same, omega (arith, next.faults))
+    × ((folder_of after).calls ≡ None)
+failed_visit before after true is next same = (same, omega (arith, next.faults), refl)
 failed_visit before after false is next same = absurd cc
 
 names_are : (names : List (List ℕ)) (path : List ℕ) (files : List Held) →
@@ -39,4 +40,5 @@ listed_now before after failed empty names path next same is none some = record 
   rising = subst (λ ns. IsTrue (is_rising ns)) (sym is) (rising-names_with after.files [] (folder_front path) refl);
   told = subst (λ files. names_at path files ≡ Some names) next.files (names_are names path after.files is
       (λ e. let filled = none e in absurd cc));
+  called = refl;
 }

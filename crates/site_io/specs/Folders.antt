@@ -1,6 +1,7 @@
 -- What contracts see of a tree of files, and what its calls do.
 use Rattle.std.specs.Prelude.{◌≡◌, ℕ, ◌<◌, ◌≤◌, ◌==◌, Bool, true, false, ◌||◌, if◌then◌else◌, nat_eq, nat_lt, codes}
-use Rattle.std.specs.Prelude.{List, [], ◌∷◌, ◌++◌, length, drop, Option, Some, None, option_and_then, IsTrue, IfSome}
+use Rattle.std.specs.Prelude.{List, [], ◌∷◌, ◌++◌, length, drop, Option, Some, None, option_and_then}
+use Rattle.std.specs.Prelude.{option_map, IsTrue, IfSome}
 use Rattle.std.specs.BTreeMap.{is_at}
 use Rattle.std.specs.Map.{lookup}
 use Rattle.std.specs.List.{starts_with, ends_with, position_or_len, before_first}
@@ -16,14 +17,20 @@ use Rattle.site_io.specs.Stream.{Rose}
 abbrev pub Held : Type 0
 Held = List ℕ × Option (List ℕ)
 
--- a count of faults, and the files where the tree tells them
+-- a call of a tree: its path, and whether it failed
+pub record Call : Type 0 where
+  pub path : List ℕ
+  pub failed : Bool
+
+-- a count of faults; the files, and the calls so far in their order, where the tree tells them
 pub record Folder : Type 0 where
   pub faults : ℕ
   pub told : Option (List Held)
+  pub calls : Option (List Call)
 
 -- a tree that tells nothing
 abbrev pub untold_folder : ℕ → Folder
-untold_folder faults = record { faults = faults; told = None }
+untold_folder faults = record { faults = faults; told = None; calls = None }
 
 -- ---- names
 
@@ -84,17 +91,28 @@ pub record IsSameFolder (before after : Folder) : Type 0 where
   pub later : before.faults ≤ after.faults
   pub told : after.told ≡ before.told
 
+-- these calls were made, one after another, and no others
+abbrev pub HasMade : List Call → Folder → Folder → Type 0
+HasMade made before after = after.calls ≡ option_map (λ calls. calls ++ made) before.calls
+
+-- this call was made
+abbrev pub HasCalled : List ℕ → Bool → Folder → Folder → Type 0
+HasCalled path failed before after = HasMade (record { path = path; failed = failed } ∷ []) before after
+
 -- these are the names at a path, in byte order
 pub record HasListed (names : List (List ℕ)) (path : List ℕ) (before after : Folder) : Type 0 where
   pub same : IsSameFolder before after
   pub rising : IsTrue (is_rising names)
   pub told : IfSome before.told (λ files. names_at path files ≡ Some names)
+  pub called : HasCalled path false before after
 
 abbrev pub Lists : Listed → List ℕ → Folder → Folder → Type 0
 Lists (listed.Names names) path before after = HasListed names path before after
 Lists listed.Missing path before after =
     IsSameFolder before after × IfSome before.told (λ files. names_at path files ≡ None)
-Lists listed.Failed path before after = IsSameFolder before after × Rose before.faults after.faults
+    × HasCalled path false before after
+Lists listed.Failed path before after =
+    IsSameFolder before after × Rose before.faults after.faults × HasCalled path true before after
 Lists listed.Memory path before after = IsSameFolder before after
 
 -- the file at a path has these bytes, which are within the limit
@@ -102,6 +120,7 @@ pub record HasGot (bytes path : List ℕ) (limit : ℕ) (before after : Folder) 
   pub same : IsSameFolder before after
   pub fits : length bytes ≤ limit
   pub told : IfSome before.told (λ files. bytes_at path files ≡ Some bytes)
+  pub called : HasCalled path false before after
 
 abbrev pub IsLonger : ℕ → Option (List ℕ) → Type 0
 IsLonger limit None = ⊥
@@ -111,9 +130,12 @@ abbrev pub Reads : Content → List ℕ → ℕ → Folder → Folder → Type 0
 Reads (content.Bytes bytes) path limit before after = HasGot bytes path limit before after
 Reads content.Missing path limit before after =
     IsSameFolder before after × IfSome before.told (λ files. bytes_at path files ≡ None)
+    × HasCalled path false before after
 Reads content.TooLarge path limit before after =
     IsSameFolder before after × IfSome before.told (λ files. IsLonger limit (bytes_at path files))
-Reads content.Failed path limit before after = IsSameFolder before after × Rose before.faults after.faults
+    × HasCalled path false before after
+Reads content.Failed path limit before after =
+    IsSameFolder before after × Rose before.faults after.faults × HasCalled path true before after
 Reads content.Memory path limit before after = IsSameFolder before after
 
 abbrev pub is_failed_list : Listed → Bool

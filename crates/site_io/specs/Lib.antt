@@ -1,6 +1,7 @@
--- What the clauses of `site_main` rest on, and a reader has to believe: Stream, Net, Folders, Transfer
+-- What the clauses of `site_main` rest on, and a reader has to believe: Events, Stream, Net, Folders, Transfer
 -- What functions promise one another, what types keep, and what proofs read: Got, Took, Scripted, Adapter, Sure,
--- ScriptedNet, ScriptedFolder
+-- ScriptedNet, ScriptedFolder, SystemFolders
+pub mod Events
 pub mod Stream
 pub mod Got
 pub mod Took
@@ -11,4 +12,5 @@ pub mod Net
 pub mod ScriptedNet
 pub mod Folders
 pub mod ScriptedFolder
+pub mod SystemFolders
 pub mod Transfer

@@ -29,16 +29,16 @@ pub record IsNoCall (before after : Scripted) : Type 0 where
 -- the stream of a source in memory, from which these bytes were read and those are left
 abbrev pub source_stream : ℕ → List ℕ → List ℕ → Stream
 source_stream faults read left =
-    record { faults = faults; left = Some left; read = Some read; written = None; shut = None }
+    record { faults = faults; left = Some left; read = Some read; written = None; shut = None; events = None }
 
 -- the stream of a sink in memory, to which these bytes were written
 abbrev pub sink_stream : ℕ → List ℕ → Stream
-sink_stream faults bytes = record { faults = faults; left = None; read = None; written = Some bytes; shut = None }
+sink_stream faults bytes = record { faults = faults; left = None; read = None; written = Some bytes; shut = None; events = None }
 
 -- the stream of a connection in memory
 abbrev pub conn_stream : ℕ → List ℕ → List ℕ → List ℕ → Bool → Stream
 conn_stream faults read left written shut =
-    record { faults = faults; left = Some left; read = Some read; written = Some written; shut = Some shut }
+    record { faults = faults; left = Some left; read = Some read; written = Some written; shut = Some shut; events = None }
 
 -- a sink that has room for so many bytes more
 pub record ScriptedSink : Type 0 where

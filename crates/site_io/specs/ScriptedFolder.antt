@@ -1,14 +1,14 @@
 -- What contracts see of a tree in memory.
-use Rattle.std.specs.Prelude.{◌≡◌, ℕ, Bool, if◌then◌else◌, nat_eq, List, [], Option, Some}
+use Rattle.std.specs.Prelude.{◌≡◌, ℕ, Bool, if◌then◌else◌, nat_eq, List, [], Option, None, Some}
 use Rattle.std.specs.List.{list_any}
 use Rattle.std.specs.BTreeMap.{insert_entry}
 use Rattle.pp_values.specs.Rising.{text_cmp}
 use Rattle.site_io.specs.Stream.{next_count}
 use Rattle.site_io.specs.Folders.{Folder, Held}
 
--- a tree that tells these files
+-- a tree that tells these files, and of its calls nothing
 abbrev pub told_folder : ℕ → List Held → Folder
-told_folder faults files = record { faults = faults; told = Some files }
+told_folder faults files = record { faults = faults; told = Some files; calls = None }
 
 pub record ScriptedFolder : Type 0 where
   pub faults : ℕ

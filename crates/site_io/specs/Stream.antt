@@ -1,6 +1,7 @@
 -- What contracts see of an object of the outside, and what a call does to it.
-use Rattle.std.specs.Prelude.{◌≡◌, ℕ, ◌+◌, ◌-◌, ◌^◌, ◌≤◌, min, Bool, true, List, Option, option_map}
+use Rattle.std.specs.Prelude.{◌≡◌, ℕ, ◌+◌, ◌-◌, ◌^◌, ◌≤◌, min, Bool, true, List, [], Option, option_map}
 use Rattle.std.specs.Io.KnownBytes.{Consumes, append_known}
+use Rattle.site_io.specs.Events.{Event, Since, Move, Sends}
 
 -- A count of faults, and what the object tells of its bytes: `None` where it tells nothing.
 pub record Stream : Type 0 where
@@ -13,6 +14,8 @@ pub record Stream : Type 0 where
   pub written : Option (List ℕ)
   -- whether it was shut, as a connection is; a source and a sink are never shut, and tell nothing of it
   pub shut : Option Bool
+  -- its reads and writes so far, in the order of the calls
+  pub events : Option (List Event)
 
 -- one more, but a u64 stands still at its last value
 abbrev pub next_count : ℕ → ℕ
@@ -30,6 +33,7 @@ pub record HasRead (bytes : List ℕ) (before after : Stream) : Type 0 where
   pub read : after.read ≡ append_known before.read bytes
   pub written : after.written ≡ before.written
   pub shut : after.shut ≡ before.shut
+  pub events : Since (Move bytes []) before.events after.events
 
 -- these bytes were written, and nothing else changed but, perhaps, the count
 pub record HasWritten (bytes : List ℕ) (before after : Stream) : Type 0 where
@@ -38,6 +42,7 @@ pub record HasWritten (bytes : List ℕ) (before after : Stream) : Type 0 where
   pub read : after.read ≡ before.read
   pub written : after.written ≡ append_known before.written bytes
   pub shut : after.shut ≡ before.shut
+  pub events : Since (Sends bytes) before.events after.events
 
 -- the count rose, and nothing else changed
 pub record HasFailed (before after : Stream) : Type 0 where
@@ -47,6 +52,7 @@ pub record HasFailed (before after : Stream) : Type 0 where
   pub read : after.read ≡ before.read
   pub written : after.written ≡ before.written
   pub shut : after.shut ≡ before.shut
+  pub events : after.events ≡ before.events
 
 -- it was shut, and nothing else changed but, perhaps, the count
 pub record HasShut (before after : Stream) : Type 0 where
@@ -55,6 +61,7 @@ pub record HasShut (before after : Stream) : Type 0 where
   pub read : after.read ≡ before.read
   pub written : after.written ≡ before.written
   pub shut : after.shut ≡ option_map (λ _. true) before.shut
+  pub events : after.events ≡ before.events
 
 -- these bytes were read and those were written, in turns, and nothing else changed but, perhaps, the count
 pub record HasTraded (bytes text : List ℕ) (before after : Stream) : Type 0 where
@@ -63,3 +70,4 @@ pub record HasTraded (bytes text : List ℕ) (before after : Stream) : Type 0 wh
   pub read : after.read ≡ append_known before.read bytes
   pub written : after.written ≡ append_known before.written text
   pub shut : after.shut ≡ before.shut
+  pub events : Since (Move bytes text) before.events after.events

@@ -1,13 +1,16 @@
-ghost use Rattle.std.specs.Prelude.{◌≡◌, ◌≤◌, length, IsTrue, IfOk, OnOk};
-ghost use Rattle.pp_values.specs.Rising.{is_rising};
+ghost use Rattle.std.specs.Prelude.{◌≡◌, ◌≤◌, ◌++◌, codes, length, IsTrue, IfOk, OnOk};
+ghost use Rattle.std.specs.IoError.{error_kind};
+ghost use Rattle.std.specs.BTreeSet.{insert_key};
+ghost use Rattle.pp_values.specs.Rising.{text_cmp, is_rising};
 ghost use Rattle.site_io.specs.Folders.{Lists, Reads, untold_folder};
+ghost use Rattle.site_io.specs.SystemFolders.{stop_for, IsSeen, name_seen, PutsSeen};
 
 use super::names::{folder_name, texts_of};
 use super::{Bytes, Content, Listed, ReadStop, ReaderSource, Tree, read_all};
 use pp_values::{Memory, Text, Texts};
 use std::alloc::Global;
 use std::collections::BTreeSet;
-use std::fs::{DirEntry, Files, ReadDir};
+use std::fs::{DirEntry, Files, Metadata, ReadDir};
 use std::io::ErrorKind;
 use std::marker::Model;
 use std::{fs, io};
@@ -95,11 +98,33 @@ impl From<Memory> for FolderStop {
     }
 }
 
-fn stop_of(error: &io::Error) -> FolderStop {
+/// There is nothing only where the system says so: what may not be looked at is a fault.
+fn stop_for(error: &io::Error) -> FolderStop
+    ensures { result ≡ stop_for (error_kind error.now) }
+{
     match error.kind() {
         ErrorKind::NotFound | ErrorKind::NotADirectory => FolderStop::Missing,
         ErrorKind::OutOfMemory => FolderStop::Memory,
         _ => FolderStop::Fault,
+    }
+}
+
+/// What lies at a path, links followed.
+#[derive(Clone, Copy)]
+enum Seen {
+    Folder,
+    File,
+    Other,
+}
+
+fn seen_in(looked: &io::Result<Metadata>) -> Result<Seen, FolderStop>
+    ensures { IsSeen looked.now result }
+{
+    match looked {
+        Ok(metadata) if metadata.is_dir() => Ok(Seen::Folder),
+        Ok(metadata) if metadata.is_file() => Ok(Seen::File),
+        Ok(_) => Ok(Seen::Other),
+        Err(error) => Err(stop_for(error)),
     }
 }
 
@@ -123,7 +148,7 @@ fn entries_of<R: Files + AllocGlobal + Clone + Drop>(
 ) -> Result<ReadDir<R, Global>, FolderStop> {
     match fs::read_dir(system, path) {
         Ok(entries) => Ok(entries),
-        Err(error) => Err(stop_of(&error)),
+        Err(error) => Err(stop_for(&error)),
     }
 }
 
@@ -137,37 +162,59 @@ fn put_entry<R: Files + AllocGlobal + Clone + Drop>(
     ensures { OnOk result (IsTrue (is_rising names.new.keys)) }
 {
     match entry {
-        Ok(entry) => match name_of(system, alloc, entry)? {
-            Some(name) => Ok(put_name(name, names)?),
-            None => Ok(()),
-        },
-        Err(error) => Err(stop_of(error)),
+        Ok(entry) => {
+            let seen = seen_in(&fs::metadata(system, entry.path()));
+            put_seen(alloc, seen, entry.file_name(), names)
+        }
+        Err(error) => Err(stop_for(error)),
     }
+}
+
+/// Puts the name among the names, if what lies there is listed: a link that leads nowhere is not.
+fn put_seen(
+    alloc: Global,
+    seen: Result<Seen, FolderStop>,
+    name: &str,
+    names: &mut BTreeSet<Text>,
+) -> Result<(), FolderStop>
+    ensures puts { PutsSeen result (name_seen seen name.now) names.old.keys names.new.keys }
+    ensures rising { IsTrue (is_rising names.old.keys) → OnOk result (IsTrue (is_rising names.new.keys)) }
+{
+    match seen {
+        Ok(Seen::Folder) => match put_folder(alloc, name, names) {
+            Ok(()) => Ok(()),
+            Err(Memory) => Err(FolderStop::Memory),
+        },
+        Ok(Seen::File) => match put_file(alloc, name, names) {
+            Ok(()) => Ok(()),
+            Err(Memory) => Err(FolderStop::Memory),
+        },
+        Ok(Seen::Other) | Err(FolderStop::Missing) => Ok(()),
+        Err(stop) => Err(stop),
+    }
+}
+
+fn put_folder(alloc: Global, name: &str, names: &mut BTreeSet<Text>) -> Result<(), Memory>
+    ensures puts { OnOk result (names.new.keys ≡ insert_key text_cmp names.old.keys (name.now ++ codes "/")) }
+    ensures rising { IsTrue (is_rising names.old.keys) → OnOk result (IsTrue (is_rising names.new.keys)) }
+{
+    put_name(folder_name(alloc, name)?, names)
+}
+
+fn put_file(alloc: Global, name: &str, names: &mut BTreeSet<Text>) -> Result<(), Memory>
+    ensures puts { OnOk result (names.new.keys ≡ insert_key text_cmp names.old.keys name.now) }
+    ensures rising { IsTrue (is_rising names.old.keys) → OnOk result (IsTrue (is_rising names.new.keys)) }
+{
+    put_name(Text::from_str(alloc, name)?, names)
 }
 
 #[tactic(auto, using(crate::proofs::Trees::rising_put))]
 fn put_name(name: Text, names: &mut BTreeSet<Text>) -> Result<(), Memory>
-    requires { IsTrue (is_rising names.old.keys) }
-    ensures { OnOk result (IsTrue (is_rising names.new.keys)) }
+    ensures puts { OnOk result (names.new.keys ≡ insert_key text_cmp names.old.keys name) }
+    ensures rising { IsTrue (is_rising names.old.keys) → OnOk result (IsTrue (is_rising names.new.keys)) }
 {
     names.insert(name)?;
     Ok(())
-}
-
-fn name_of<R: Files + AllocGlobal + Clone + Drop>(
-    system: &R,
-    alloc: Global,
-    entry: &DirEntry<R, Global>,
-) -> Result<Option<Text>, FolderStop> {
-    match fs::metadata(system, entry.path()) {
-        Ok(metadata) if metadata.is_dir() => Ok(Some(folder_name(alloc, entry.file_name())?)),
-        Ok(metadata) if metadata.is_file() => Ok(Some(Text::from_str(alloc, entry.file_name())?)),
-        Ok(_) => Ok(None),
-        Err(error) => match stop_of(&error) {
-            FolderStop::Missing => Ok(None),
-            stop => Err(stop),
-        },
-    }
 }
 
 fn bytes_in<R: Files + AllocGlobal + Clone + Drop>(
@@ -186,13 +233,13 @@ fn file_at<R: Files + AllocGlobal + Clone + Drop>(
     system: &R,
     path: &str,
 ) -> Result<R::File, FolderStop> {
-    match fs::metadata(system, path) {
-        Ok(metadata) if metadata.is_file() => {}
-        Ok(_) => return Err(FolderStop::Missing),
-        Err(error) => return Err(stop_of(&error)),
+    match seen_in(&fs::metadata(system, path)) {
+        Ok(Seen::File) => {}
+        Ok(Seen::Folder | Seen::Other) => return Err(FolderStop::Missing),
+        Err(stop) => return Err(stop),
     }
     match fs::open(system, path) {
         Ok(file) => Ok(file),
-        Err(error) => Err(stop_of(&error)),
+        Err(error) => Err(stop_for(&error)),
     }
 }

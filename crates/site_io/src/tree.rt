@@ -29,7 +29,8 @@ pub enum Content {
 
 /// A tree of files.
 ///
-/// A tree tells which files it has, or leaves it open. What it tells stays the same.
+/// A tree tells which files it has, or leaves it open. What it tells stays the same. It may also tell which calls were
+/// made, in their order, and which of them failed.
 pub trait Tree {
     ghost folder: { Self → Folder };
 

@@ -1,6 +1,8 @@
 mod Replying
+mod Order
 pub mod Talking
 mod Routing
 mod Asked
 mod Responding
 mod Examples
+mod OrderExamples

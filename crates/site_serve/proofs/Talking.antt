@@ -2,6 +2,7 @@
 use Rattle.std.proofs.Common.{◌≡◌, ◌⊎◌, inl, inr, ℕ, ◌+◌, ◌<◌, ◌≤◌, true, false, List, [], ◌∷◌, ◌++◌, length, Option, Some, None, refl, sym, ap, ◌∙◌, subst, subst₂, arith, append_assoc, append-nil, length-append}
 use Rattle.std.specs.Prelude.{Result, Ok, Err}
 use Rattle.std.specs.List.{AllZip}
+use Rattle.site_io.specs.Events.{Since, Kept}
 use Rattle.site_io.specs.Stream.{Stream, Rose, HasRead, HasWritten, HasTraded}
 use Rattle.site_io.proofs.Streams.{nothing_traded, traded_then_read, traded_then_written, Rose-after}
 use Rattle.site_core.specs.Asked.{Asked}
@@ -11,7 +12,7 @@ use Rattle.site_core.specs.Fits.{Listed}
 use Rattle.site_core.specs.declared.reply.ReplyOf.{ReplyOf}
 use Rattle.shared_site.specs.Known.{Known}
 use Rattle.http_wire.specs.Messages.{HasNext, HasNone, Begins, Refuses, IsOpen}
-use Rattle.http_wire.specs.Reading.{HasGathered, StopsBy, ReadsNext}
+use Rattle.http_wire.specs.Reading.{HasGathered, HasDrawn, HasLost, StopsBy, ReadsNext}
 use Rattle.http_wire.specs.Responses.{response_text, HasBegun, WritesText}
 use Rattle.http_wire.specs.declared.request.H.{H}
 use Rattle.http_wire.specs.declared.request.HttpRequest.{HttpRequest}
@@ -19,12 +20,13 @@ use Rattle.http_wire.specs.declared.request.WireStop.{WireStop}
 use Rattle.http_wire.specs.declared.response.HttpResponse.{HttpResponse}
 use Rattle.http_wire.specs.declared.response.WriteStop.{WriteStop}
 use Rattle.site_serve.specs.Replies.{refusal_text}
-use Rattle.site_serve.specs.Ends.{Turn, refused, replied, Dialect, IsTurn, turn_response, texts_of, asked_in, replies_in, AllOpen, GoOn, EndHere, AreTaken, IsFront, HasTalked, HasStopped, Ends, HasReplied}
+use Rattle.site_serve.specs.Ends.{Turn, refused, replied, Dialect, IsTurn, turn_response, texts_of, asked_in, replies_in, AllOpen, GoOn, EndHere, AreTaken, IsFront, AllAnswered, IsPrompt, HasTalked, HasStopped, Ends, HasReplied}
 use Rattle.site_serve.specs.Steps.{EndsRefused, Takes, Responds, HasServed}
 use Rattle.site_serve.specs.declared.conn_end.ConnEnd.{ConnEnd}
 use Rattle.site_serve.specs.declared.conn_end.ConnEnd.TheVariants as end
 use Rattle.site_serve.specs.declared.conn_end.TheConstants.{MOST_ANSWERS}
 use Rattle.site_serve.specs.declared.refusal.Refusal.{Refusal}
+use Rattle.site_serve.proofs.Order.{none_kept, prompt_so, kept_read, kept_written, prompt_refused}
 use Rattle.site_serve.proofs.Replying.{none_replied, one_replied}
 
 -- ---- what came of a read and of a write, by their answers
@@ -183,6 +185,7 @@ module _ {S C F : Type 0} (meaning : Meaning S C F) (listed : Listed S) (d : Dia
     rs = [];
     talked = nothing_talked p legal few;
     traded = nothing_traded s;
+    kept = none_kept d s;
     going = tt;
     count = refl;
     place = refl;
@@ -277,8 +280,33 @@ module _ {S C F : Type 0} (meaning : Meaning S C F) (listed : Listed S) (d : Dia
           (stopped after why refuses ends.0, rose_on after ends.1)
       refused_with after why end.Memory refuses ends = stopped after why refuses ends
 
+    -- memory was wanting to read on
+    pub lost_promptly : (mid : Stream) → HasLost HasNone rest now mid → IsPrompt d before mid
+    lost_promptly mid (more, read, drawn) =
+        prompt_so d (done.bytes ++ more) done.text before mid (kept_read d more before now mid done.talked done.kept drawn)
+
     -- what was gathered of it
     module _ (bytes : List ℕ) (mid : Stream) (got : HasGathered HasNone rest bytes now mid) where
+      kept_now : Since (Kept (AllAnswered d) (done.bytes ++ got.more) done.text) before.events mid.events
+      kept_now = kept_read d got.more before now mid done.talked done.kept got.drawn
+
+      -- nothing was written behind it, or a refusal, or a text or a front of it
+      pub read_promptly : IsPrompt d before mid
+      read_promptly = prompt_so d (done.bytes ++ got.more) done.text before mid kept_now
+
+      pub refused_promptly : (after : Stream) (why : H) (at : ℕ) (e : ConnEnd) → EndsRefused why at e mid after →
+          IsPrompt d before after
+      refused_promptly after why at e ends =
+          prompt_refused d (done.bytes ++ got.more) done.text before mid after why at e kept_now ends
+
+      pub written_promptly : (text : List ℕ) (after : Stream) → HasWritten text mid after → IsPrompt d before after
+      written_promptly text after written =
+          prompt_so d (done.bytes ++ got.more) (done.text ++ text) before after
+          (kept_written d (done.bytes ++ got.more) done.text text before mid after kept_now written)
+
+      pub begun_promptly : (text : List ℕ) (after : Stream) → HasBegun text mid after → IsPrompt d before after
+      begun_promptly text after begun = written_promptly begun.0 after begun.3
+
       -- the input ended behind all requests
       pub ended : bytes ≡ [] → mid.left ≡ Some [] → Ends d (HasReplied meaning listed p q) end.Closed before mid
       ended none left = (
@@ -386,12 +414,17 @@ module _ {S C F : Type 0} (meaning : Meaning S C F) (listed : Listed S) (d : Dia
             rs = done.rs ++ request ∷ [];
             talked = due;
             traded = traded_then_written (traded_on got.more mid got.read) written;
+            kept = kept_written d (done.bytes ++ got.more) done.text (response_text response) before mid after kept_now written;
             going = open_push done.rs request done.going open_;
             count = let sum = length-append done.rs (request ∷ []) in omega (arith, sum, done.count);
             place = let here = place_on got.more mid got.read in let grown = ap length got.grown in
                 let sum = length-append next.0 back in let is = ap length next.2 in
                 omega (arith, here, grown, sum, is, next.1.size);
           }
+
+  pub served_promptly : (p q : Known S) (before now : Stream) (rest : List ℕ) (offset answered : ℕ) →
+      HasServed meaning listed d p q before now rest offset answered → IsPrompt d before now
+  served_promptly p q before now rest offset answered done = prompt_so d done.bytes done.text before now done.kept
 
   -- no more are answered
   pub enough : (p q : Known S) (before now : Stream) (rest : List ℕ) (offset answered : ℕ) →

@@ -2,6 +2,7 @@
 use Rattle.std.specs.Prelude.{◌≡◌, ℕ, ◌+◌, ◌<◌, ◌≤◌, ◌⊎◌, true, false, List, [], ◌∷◌, ◌++◌, length, Option, Some, Ok}
 use Rattle.std.specs.Prelude.{Err}
 use Rattle.std.specs.List.{AllZip}
+use Rattle.site_io.specs.Events.{Since, EachRead}
 use Rattle.site_io.specs.Stream.{Stream, Rose, HasTraded}
 use Rattle.site_core.specs.Asked.{Asked}
 use Rattle.site_core.specs.Meaning.{Meaning}
@@ -10,7 +11,7 @@ use Rattle.site_core.specs.Fits.{Listed}
 use Rattle.site_core.specs.Runs.{Runs, had_after, all_named}
 use Rattle.site_core.specs.declared.reply.ReplyOf.{ReplyOf}
 use Rattle.shared_site.specs.Known.{Known, IsLater}
-use Rattle.http_wire.specs.Messages.{Begins, Refuses, IsOpen}
+use Rattle.http_wire.specs.Messages.{Begins, HasNone, Refuses, IsOpen}
 use Rattle.http_wire.specs.Responses.{response_text}
 use Rattle.http_wire.specs.declared.request.H.{H}
 use Rattle.http_wire.specs.declared.request.HttpRequest.{HttpRequest}
@@ -63,6 +64,20 @@ module _ {S C F : Type 0} where
   replies_in [] = []
   replies_in (refused why ∷ ts) = replies_in ts
   replies_in (replied asked reply ∷ ts) = reply ∷ replies_in ts
+
+-- ---- order
+
+module _ {S C F : Type 0} (d : Dialect S C F) where
+  -- the text answers every request that is whole in the bytes, in order, and says nothing else
+  abbrev pub AllAnswered : List ℕ → List ℕ → Type 0
+  AllAnswered bytes text =
+      (rs : List HttpRequest) × (rest : List ℕ) × (turns : List (Turn S C F)) × Begins bytes rs rest × HasNone rest
+      × AllZip (IsTurn d.asks) rs turns × (text ≡ texts_of d turns)
+
+  -- Each answer stands before the next byte that is read for another request: wherever a read was made, what had been
+  -- written by then answers all requests that had been read by then. This is said of a connection that tells its calls.
+  abbrev pub IsPrompt : Stream → Stream → Type 0
+  IsPrompt before after = Since (EachRead AllAnswered [] []) before.events after.events
 
 -- ---- how many requests are answered
 

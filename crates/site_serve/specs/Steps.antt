@@ -7,6 +7,7 @@ use Rattle.matchit.specs.Seek.{first}
 use Rattle.res_core.specs.AskedFacts.{has_facts}
 use Rattle.res_core.specs.RequestViews.{wanted}
 use Rattle.agent_machine.specs.declared.report.Report.{Report}
+use Rattle.site_io.specs.Events.{Since, Kept}
 use Rattle.site_io.specs.Stream.{Stream, Rose, HasWritten, HasTraded}
 use Rattle.site_core.specs.Asked.{Asked, compile, plain, filed}
 use Rattle.site_core.specs.Meaning.{Meaning}
@@ -23,7 +24,7 @@ use Rattle.site_serve.specs.Endpoints.{node_behind, site_at}
 use Rattle.site_serve.specs.Requests.{Reading, IsSent}
 use Rattle.site_serve.specs.Replies.{says, seen_of, reply_response, refusal_text}
 use Rattle.site_serve.specs.Ends.{Turn, refused, replied, Dialect, IsTurn, turn_response, HasReplied, HasTalked}
-use Rattle.site_serve.specs.Ends.{AllOpen}
+use Rattle.site_serve.specs.Ends.{AllAnswered, AllOpen}
 use Rattle.site_serve.specs.declared.ask_stop.AskStop.{AskStop}
 use Rattle.site_serve.specs.declared.ask_stop.AskStop.TheVariants as stop
 use Rattle.site_serve.specs.declared.call.Call.{Call}
@@ -147,6 +148,7 @@ module _ {S C F : Type 0} (meaning : Meaning S C F) (listed : Listed S) where
     pub rs : List HttpRequest
     pub talked : HasTalked d (HasReplied meaning listed p q) bytes rest text rs
     pub traded : HasTraded bytes text before now
+    pub kept : Since (Kept (AllAnswered d) bytes text) before.events now.events
     pub going : AllOpen rs
     pub count : length rs ≡ answered
     pub place : length bytes ≡ offset + length rest

@@ -1,6 +1,6 @@
 //! One connection, from its first byte to its end.
 ghost use Rattle.std.specs.Prelude.{◌≡◌};
-ghost use Rattle.site_serve.specs.Ends.{Ends, HasReplied, dialect};
+ghost use Rattle.site_serve.specs.Ends.{Ends, HasReplied, IsPrompt, dialect};
 
 use crate::answering::{refuse, respond};
 use crate::conn_end::{ConnEnd, MOST_ANSWERS};
@@ -24,8 +24,12 @@ pub fn serve_connection<L: Language + Drop, C: Source + Sink, G: Gate, R: Wait>(
     gate: &G,
 ) -> ConnEnd
     requires { pass.old.site ≡ site.now }
-    ensures { Ends (dialect L.said_site L.catalog_form L.fault_form) (HasReplied L.meaning L.listed pass.old pass.new)
+    ensures ends { Ends (dialect L.said_site L.catalog_form L.fault_form) (HasReplied L.meaning L.listed pass.old pass.new)
         result (C.stream connection.old) (C.stream connection.new) }
+
+    // Each answer is written before the next byte is read for another request.
+    ensures prompt { IsPrompt (dialect L.said_site L.catalog_form L.fault_form) (C.stream connection.old)
+        (C.stream connection.new) }
 {
     pass.keeps();
     match Routes::new(alloc) {
@@ -44,8 +48,10 @@ fn answer_all<L: Language + Drop, C: Source + Sink, G: Gate, R: Wait>(
     gate: &G,
 ) -> ConnEnd
     requires { pass.old.site ≡ site.now }
-    ensures { Ends (dialect L.said_site L.catalog_form L.fault_form) (HasReplied L.meaning L.listed pass.old pass.new)
+    ensures ends { Ends (dialect L.said_site L.catalog_form L.fault_form) (HasReplied L.meaning L.listed pass.old pass.new)
         result (C.stream connection.old) (C.stream connection.new) }
+    ensures prompt { IsPrompt (dialect L.said_site L.catalog_form L.fault_form) (C.stream connection.old)
+        (C.stream connection.new) }
 {
     pass.keeps();
     let mut rest = Bytes::new(alloc);

@@ -211,6 +211,7 @@ module _ {S X C F : Type 0} (meaning : Meaning S C F) (listed : Listed S) (d : D
         came.0.ended,
         ends_as d (HasReplied meaning listed v.0 o.pass) (HasRepliedUnder meaning listed terms.limit (length first) h c)
             (replied_under c v.0 o.pass new.0 begins.0 few (λ k. (calls k).0)) o.end v.1 came.0.ended came.0.ends,
+        came.0.prompt,
         came.0.shut_is,
       ),
       each_served (c + 1) vs outs new.1 came.1 begins.1 few (λ k. (calls k).1),

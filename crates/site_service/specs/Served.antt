@@ -12,7 +12,7 @@ use Rattle.site_core.specs.Fits.{Listed}
 use Rattle.site_core.specs.Runs.{Runs, all_named}
 use Rattle.site_core.specs.declared.reply.ReplyOf.{ReplyOf}
 use Rattle.site_serve.specs.declared.conn_end.ConnEnd.{ConnEnd}
-use Rattle.site_serve.specs.Ends.{Dialect, Ends}
+use Rattle.site_serve.specs.Ends.{Dialect, Ends, IsPrompt}
 use Rattle.site_service.specs.declared.service_stop.ServiceStop.{ServiceStop}
 use Rattle.site_service.specs.declared.service_stop.ServiceStop.TheVariants as stop
 
@@ -57,9 +57,12 @@ module _ {S C F : Type 0} (meaning : Meaning S C F) (listed : Listed S) (limit s
     pub own : AreCalls author_of (all_named replies) (author ∷ []) h
 
   module _ (d : Dialect S C F) where
-    -- the connection was served under this history, for this author, and then shut
+    -- the connection was served under this history, for this author, each request before the next one was read, and then
+    -- shut
     abbrev pub IsServed : ℕ → Taken → Type 0
-    IsServed author t = (ended : Stream) × Ends d (HasRepliedUnder author) t.end t.given ended × HasShut ended t.back
+    IsServed author t =
+        (ended : Stream) × Ends d (HasRepliedUnder author) t.end t.given ended × IsPrompt d t.given ended
+        × HasShut ended t.back
 
     -- the first of these for this author, and each other one for the next author
     abbrev pub AreServed : ℕ → List Taken → Type 0

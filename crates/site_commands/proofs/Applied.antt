@@ -93,19 +93,19 @@ made_of (Ok made) catalog is = (made, refl, one_ok (catalog_made (Ok made)) made
 made_of (Err fault) catalog is = absurd cc
 
 -- the catalog of a node has none
-node_free : (site : SiteView) (node : List ℕ) (facts : Option Datum) (catalog : Catalog) →
-    catalog_with site node facts ≡ Ok catalog → IsAcyclic catalog.resources catalog.edges
-node_free site node None catalog is = absurd cc
-node_free site node (Some facts) catalog is =
-    let made = made_of (puppet site node facts fin.empty) catalog is in
+node_free : (view : SiteView) (node : List ℕ) (facts : Option Datum) (catalog : Catalog) →
+    catalog_with view node facts ≡ Ok catalog → IsAcyclic catalog.resources catalog.edges
+node_free view node None catalog is = absurd cc
+node_free view node (Some facts) catalog is =
+    let made = made_of (puppet view node facts fin.empty) catalog is in
     subst (λ (c : Catalog). IsAcyclic c.resources c.edges) made.2
-    (no_cycle_is_meant site node facts fin.empty made.0 made.1)
+    (no_cycle_is_meant view node facts fin.empty made.0 made.1)
 
-pub compiled_free : (compiled : Result Catalog NodeStop) (site : SiteView) (node : List ℕ) →
-    CompilesNode compiled (node_meaning site node) → IfOk compiled (λ c. IsAcyclic c.resources c.edges)
+pub compiled_free : (compiled : Result Catalog NodeStop) (view : SiteView) (node : List ℕ) →
+    CompilesNode compiled (node_meaning view node) → IfOk compiled (λ c. IsAcyclic c.resources c.edges)
 unfolding Rattle.command_outputs.specs.Nodes.node_meaning
-compiled_free (Ok catalog) site node is = node_free site node (listed site node) catalog is
-compiled_free (Err stop) site node is = tt
+compiled_free (Ok catalog) view node is = node_free view node (listed view node) catalog is
+compiled_free (Err stop) view node is = tt
 
 -- so a run of it doesn't end by one
 pub turns_free : (catalog : Catalog) (why : RunStop) (told : List Reference) (before after : Told) →

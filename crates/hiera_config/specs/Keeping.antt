@@ -11,6 +11,7 @@ use Rattle.hiera_config.specs.declared.config.Level.{Level}
 use Rattle.hiera_config.specs.declared.site_data.DataFile.{DataFile}
 use Rattle.hiera_config.specs.Config.{config_read}
 use Rattle.hiera_config.specs.Documents.{File, is_of_module}
+use Rattle.hiera_config.specs.FileOptions.{options_key, KeepsFile}
 use Rattle.hiera_config.specs.Flags.{Knows}
 use Rattle.hiera_config.specs.SoundData.{is_sound_document}
 
@@ -24,15 +25,12 @@ pub record IsKept (path : List ℕ) (file : DataFile) : Type 0 where
   pub config : file.config ≡ config_read (is_of_module path) file.text
   pub flags : Knows file.flags.items (option_map json_view file.json)
   pub sound : file.is_sound ≡ is_sound_document (option_map json_view file.json)
+  pub options : KeepsFile (option_map json_view file.json) file.options
 
 abbrev pub AreKept : List (List ℕ × DataFile) → Type 0
 AreKept es = All (λ e. IsKept e.0 e.1) es
 
 -- ---- files with no options of look-ups, and no default levels
-
--- the key under which data files keep the options of look-ups
-abbrev pub options_key : List ℕ
-options_key = codes "lookup_options"
 
 abbrev pub lacks_options : Option Data → Bool
 lacks_options None = true

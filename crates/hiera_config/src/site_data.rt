@@ -16,6 +16,7 @@ ghost use Rattle.serde_json.specs.View.{view as json_view};
 use crate::config::{Config, Level};
 use crate::config_reading::{config_of, parsed};
 use crate::flags::flags_of;
+use crate::file_options::{FileOptions, options_of};
 use crate::option_table::{OPTIONS, OptionTable, options_in};
 use crate::plan::{FixedFile, Plan, file_at, plan_at};
 use crate::soundness::{are_sound_layers, is_sound_document};
@@ -34,6 +35,7 @@ pub struct DataFile {
     pub flags: Vec<bool>,
     /// No key's value is faulty in it.
     pub is_sound: bool,
+    pub options: FileOptions,
 }
 
 // By hand, so that callers drop a file by one call.
@@ -45,6 +47,7 @@ impl Drop for DataFile {
             config: _config,
             flags: _flags,
             is_sound: _is_sound,
+            options: _options,
         } = self;
     }
 }
@@ -212,6 +215,7 @@ fn read_file(alloc: Global, path: &str, text: Text) -> Result<DataFile, Memory>
     let json = parsed(alloc, text.as_str())?;
     let flags = flags_of(alloc, &json)?;
     let is_sound = is_sound_document(&json);
+    let options = options_of(alloc, &json)?;
     let config = config_if(alloc, is_of_module(path), &json)?;
     Ok(DataFile {
         text,
@@ -219,6 +223,7 @@ fn read_file(alloc: Global, path: &str, text: Text) -> Result<DataFile, Memory>
         config,
         flags,
         is_sound,
+        options,
     })
 }
 

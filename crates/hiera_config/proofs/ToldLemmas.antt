@@ -1,0 +1,139 @@
+-- The options of a key, file by file, are those of its sources.
+use Rattle.std.proofs.Common.{◌≡◌, ℕ, Bool, true, false, ◌&&◌, ◌||◌, cond, None, Some, Option, List, [], ◌∷◌, ◌++◌, Ok, Err, refl, sym, ap, ◌∙◌}
+use Rattle.std.specs.Prelude.{option_map, option_and_then}
+use Rattle.serde_json.specs.Data.{Data}
+use Rattle.serde_json.specs.Find.{get}
+use Rattle.json_values.specs.FromData.{both}
+use Rattle.pp_values.specs.Datum.{Datum}
+use Rattle.pp_values.specs.declared.fault.What.{What}
+use Rattle.pp_values.specs.declared.fault.What.TheVariants as what
+use Rattle.hiera_merge.specs.Digging.{member}
+use Rattle.hiera_config.specs.Documents.{is_document, strict}
+use Rattle.hiera_config.specs.FileOptions.{options_key, is_table, is_plain_value, is_plain_member, are_plain, options_in}
+use Rattle.hiera_config.specs.Meant.{Meant, go_on, in_turn}
+use Rattle.hiera_config.specs.OptionTables.{are_tables, first_options, option_by, Told, told_if, told_one, over, told_all, told_or}
+use Rattle.hiera_config.specs.Reached.{Reached, file, broken, read_from, read_all, or_default}
+use Rattle.hiera_config.specs.Sound.{or_else}
+use Rattle.hiera_config.specs.Sources as s
+
+-- ---- what sources tell
+
+some_source : List s.Source → Bool
+some_source [] = false
+some_source (x ∷ xs) = true
+
+abbrev told_of : List ℕ → List s.Source → Told
+told_of root ss = (some_source ss, first_options root ss)
+
+abbrev told_meant : List ℕ → Meant (List s.Source) → Option Told
+told_meant root (Ok ss) = cond (are_tables ss) (Some (told_of root ss)) None
+told_meant root (Err w) = None
+
+-- ---- what the higher one says counts
+
+or_or : (a b c : Option Datum) → or_else a (or_else b c) ≡ or_else (or_else a b) c
+or_or None b c = refl
+or_or (Some d) b c = refl
+
+either_either : (a b c : Bool) → (a || (b || c)) ≡ ((a || b) || c)
+either_either true b c = refl
+either_either false b c = refl
+
+over_over : (a b : Told) (o : Option Told) → option_map (over a) (option_map (over b) o) ≡ option_map (over (over a b)) o
+over_over a b None = refl
+over_over a b (Some c) =
+    ap (λ (x : Bool). Some (x, or_else a.1 (or_else b.1 c.1))) (either_either a.0 b.0 c.0)
+    ∙ ap (λ (x : Option Datum). Some ((a.0 || b.0) || c.0, x)) (or_or a.1 b.1 c.1)
+
+pub over_none : (o : Option Told) → option_map (over (false, None)) o ≡ o
+over_none None = refl
+over_none (Some t) = refl
+
+-- ---- one more source
+
+some_more : (ss : List s.Source) (x : s.Source) → some_source (ss ++ x ∷ []) ≡ true
+unfolding some_source
+some_more [] x = refl
+some_more (y ∷ ss) x = refl
+
+some_or_true : (ss : List s.Source) → true ≡ (some_source ss || true)
+unfolding some_source
+some_or_true [] = refl
+some_or_true (y ∷ ss) = refl
+
+alone : (o : Option Datum) → or_else o None ≡ o
+alone None = refl
+alone (Some d) = refl
+
+first_more : (root : List ℕ) (ss : List s.Source) (x : s.Source)
+    → first_options root (ss ++ x ∷ []) ≡ or_else (first_options root ss) (member root x.0)
+first_more root [] x = alone (member root x.0)
+first_more root (y ∷ ss) x =
+    ap (or_else (member root y.0)) (first_more root ss x)
+    ∙ or_or (member root y.0) (first_options root ss) (member root x.0)
+
+told_more : (root : List ℕ) (ss : List s.Source) (x : s.Source)
+    → told_of root (ss ++ x ∷ []) ≡ over (told_of root ss) (true, member root x.0)
+told_more root ss x =
+    ap (λ (b : Bool). (b, first_options root (ss ++ x ∷ []))) (some_more ss x ∙ some_or_true ss)
+    ∙ ap (λ (o : Option Datum). (some_source ss || true, o)) (first_more root ss x)
+
+and_true : (a : Bool) → (a && true) ≡ a
+and_true true = refl
+and_true false = refl
+
+and_and : (a b c : Bool) → (a && (b && c)) ≡ ((a && b) && c)
+and_and true b c = refl
+and_and false b c = refl
+
+tables_more : (ss : List s.Source) (x : s.Source) → are_tables (ss ++ x ∷ []) ≡ (are_tables ss && is_table x.0)
+tables_more [] x = and_true (is_table x.0)
+tables_more (y ∷ ss) x =
+    ap (λ b. is_table y.0 && b) (tables_more ss x) ∙ and_and (is_table y.0) (are_tables ss) (is_table x.0)
+
+-- ---- what one file adds, and what it tells
+
+-- nothing; a table; another value; a fault
+data Step (root : List ℕ) (found : List s.Source) (meant : Meant (List s.Source)) (told : Option Told) : Type 0 where
+  same : meant ≡ Ok found → told ≡ Some (false, None) → Step root found meant told
+  more : (x : s.Source) → is_table x.0 ≡ true → meant ≡ Ok (found ++ x ∷ []) → told ≡ Some (true, member root x.0)
+      → Step root found meant told
+  other : (x : s.Source) → is_table x.0 ≡ false → meant ≡ Ok (found ++ x ∷ []) → told ≡ None
+      → Step root found meant told
+  fault : (w : What) → meant ≡ Err w → told ≡ None → Step root found meant told
+
+module _ (root : List ℕ) where
+  table_step : (found : List s.Source) (path : List ℕ) (d : Datum) (b : Bool) → is_table d ≡ b
+      → Step root found (Ok (found ++ (d, path) ∷ [])) (told_if root b (Some d))
+  table_step found path d true is = more (d, path) is refl refl
+  table_step found path d false is = other (d, path) is refl refl
+
+  value_step : (found : List s.Source) (path : List ℕ) (o : Option Datum)
+      → Step root found (s.value_or_fault found path o) (told_if root (is_plain_value o) o)
+  value_step found path None = fault (what.BadData path) refl refl
+  value_step found path (Some d) = table_step found path d (is_table d) refl
+
+  member_step : (found : List s.Source) (path : List ℕ) (o : Option Data)
+      → Step root found (s.in_member found path o) (told_if root (is_plain_member o) (option_and_then strict o))
+  member_step found path None = same refl refl
+  member_step found path (Some d) = value_step found path (strict d)
+
+  document_step : (found : List s.Source) (path : List ℕ) (b : Bool) (o : Option Data)
+      → Step root found (cond b (s.in_member found path o) (Err (what.BadData path)))
+      (told_if root (b && is_plain_member o) (option_and_then strict o))
+  document_step found path true o = member_step found path o
+  document_step found path false o = fault (what.BadData path) refl refl
+
+  one_step : (found : List s.Source) (r : Reached) → Step root found (read_from options_key found r) (told_one root r)
+  one_step found (file path None) = fault (what.BadData path) refl refl
+  one_step found (file path (Some d)) = document_step found path (is_document d) (get options_key d)
+  one_step found (broken w) = fault w refl refl
+
+  -- ---- all of them
+
+  -- once a source is no table, nothing is told
+  never : (rs : List Reached) (found : List s.Source) → are_tables found ≡ false
+      → told_meant root (in_turn (read_from options_key) found rs) ≡ None
+  never_by : (r : Reached) (rs : List Reached) (found : List s.Source) → are_tables found ≡ false
+      → Step root found (read_from options_key found r) (told_one root r)
+      → told_meant root (go_on (read_from options_key found r) (λ b. in_turn (read_from options_key) b rs)) ≡ None

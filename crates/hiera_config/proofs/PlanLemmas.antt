@@ -77,7 +77,7 @@ same_go (Err f) = refl
 plain_text : (v : Variables) (t : List ℕ) → None ≡ cut_at (codes "%{") t → path_text v t ≡ Ok t
 plain_text v t plain = text_whole v [] t plain
 
-plain_path : (v : Variables) (folder : List ℕ) (level : Level) (t : List ℕ) → None ≡ cut_at (codes "%{") level.folder
+pub plain_path : (v : Variables) (folder : List ℕ) (level : Level) (t : List ℕ) → None ≡ cut_at (codes "%{") level.folder
     → None ≡ cut_at (codes "%{") t → s.path_of v folder level t ≡ Ok (s.joined_path folder level.folder t)
 unfolding go_on
 plain_path v folder level t inner plain =

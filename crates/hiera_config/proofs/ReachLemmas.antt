@@ -1,5 +1,5 @@
 -- The sources of a key are what the files that the levels come to have for it.
-use Rattle.std.proofs.Common.{◌≡◌, ℕ, zero, suc, ◌+◌, ◌<◌, List, [], ◌∷◌, ◌++◌, length, drop, get_or, Option, None, Some, Ok, Err, refl, sym, ap, ◌∙◌, arith}
+use Rattle.std.proofs.Common.{◌≡◌, ℕ, List, [], ◌∷◌, ◌++◌, Option, None, Some, Ok, Err, refl, sym, ap, ◌∙◌}
 use Rattle.hiera_config.specs.declared.config.Config.{Config}
 use Rattle.hiera_config.specs.declared.config.Level.{Level}
 use Rattle.hiera_config.specs.declared.config.LevelPaths.{LevelPaths}
@@ -166,15 +166,3 @@ module _ (files : List File) (key : List ℕ) where
       ∙ ap (λ o. go_on o default) (sym (both_turns step b environment own)))
       ∙ sym (go_twice (in_turn step [] global) (λ b. in_turn step b (environment ++ own)) default)
       ∙ ap (λ o. go_on o default) (sym (both_turns step [] global (environment ++ own)))
-
--- ---- a level that is found ahead
-
-pub each_at : {A : Type 0} (f : A → List Reached) (xs : List A) (i : ℕ) (x : A) → i < length xs → x ≡ get_or xs i x
-    → each f (drop i xs) ≡ f x ++ each f (drop (i + 1) xs)
-unfolding each
-each_at f [] i x h at = absurd (omega arith)
-each_at f (y ∷ xs) zero x h at = rw at refl
-each_at f (y ∷ xs) (suc i) x h at =
-    let h' : i < length xs = omega arith in
-    let e : suc i + 1 ≡ suc (i + 1) = omega arith in
-    rw e (each_at f xs i x h' at)

@@ -49,6 +49,18 @@ pub over_none : (o : Option Told) → option_map (over (false, None)) o ≡ o
 over_none None = refl
 over_none (Some t) = refl
 
+or_false : (a : Bool) → (a || false) ≡ a
+or_false true = refl
+or_false false = refl
+
+or_none : (o : Option Datum) → or_else o None ≡ o
+or_none None = refl
+or_none (Some d) = refl
+
+over_last : (t : Told) → over t (false, None) ≡ t
+over_last t =
+    ap (λ (b : Bool). (b, or_else t.1 None)) (or_false t.0) ∙ ap (λ (o : Option Datum). (t.0, o)) (or_none t.1)
+
 -- ---- one more source
 
 some_more : (ss : List s.Source) (x : s.Source) → some_source (ss ++ x ∷ []) ≡ true
@@ -61,13 +73,9 @@ unfolding some_source
 some_or_true [] = refl
 some_or_true (y ∷ ss) = refl
 
-alone : (o : Option Datum) → or_else o None ≡ o
-alone None = refl
-alone (Some d) = refl
-
 first_more : (root : List ℕ) (ss : List s.Source) (x : s.Source)
     → first_options root (ss ++ x ∷ []) ≡ or_else (first_options root ss) (member root x.0)
-first_more root [] x = alone (member root x.0)
+first_more root [] x = or_none (member root x.0)
 first_more root (y ∷ ss) x =
     ap (or_else (member root y.0)) (first_more root ss x)
     ∙ or_or (member root y.0) (first_options root ss) (member root x.0)
@@ -132,8 +140,92 @@ module _ (root : List ℕ) where
   -- ---- all of them
 
   -- once a source is no table, nothing is told
+  never_step : (found : List s.Source) (meant : Meant (List s.Source)) (t : Option Told)
+      (k : List s.Source → Meant (List s.Source)) → are_tables found ≡ false
+      → ((b : List s.Source) → are_tables b ≡ false → told_meant root (k b) ≡ None) → Step root found meant t
+      → told_meant root (go_on meant k) ≡ None
+  unfolding go_on
+  never_step found meant t k not rest (same is tells) = ap (λ o. told_meant root (go_on o k)) is ∙ rest found not
+  never_step found meant t k not rest (more x table is tells) =
+      ap (λ o. told_meant root (go_on o k)) is
+      ∙ rest (found ++ x ∷ []) (tables_more found x ∙ ap (λ b. b && is_table x.0) not)
+  never_step found meant t k not rest (other x table is tells) =
+      ap (λ o. told_meant root (go_on o k)) is
+      ∙ rest (found ++ x ∷ []) (tables_more found x ∙ ap (λ b. b && is_table x.0) not)
+  never_step found meant t k not rest (fault w is tells) = ap (λ o. told_meant root (go_on o k)) is
+
   never : (rs : List Reached) (found : List s.Source) → are_tables found ≡ false
       → told_meant root (in_turn (read_from options_key) found rs) ≡ None
-  never_by : (r : Reached) (rs : List Reached) (found : List s.Source) → are_tables found ≡ false
-      → Step root found (read_from options_key found r) (told_one root r)
-      → told_meant root (go_on (read_from options_key found r) (λ b. in_turn (read_from options_key) b rs)) ≡ None
+  unfolding in_turn
+  never [] found not = ap (λ b. cond b (Some (told_of root found)) None) not
+  never (r ∷ rs) found not =
+      never_step found (read_from options_key found r) (told_one root r) (λ b. in_turn (read_from options_key) b rs) not
+      (never rs) (one_step found r)
+
+  told_step : (found : List s.Source) (meant : Meant (List s.Source)) (t rest : Option Told)
+      (k : List s.Source → Meant (List s.Source)) → are_tables found ≡ true
+      → ((b : List s.Source) → are_tables b ≡ true
+      → told_meant root (k b) ≡ option_map (over (told_of root b)) rest)
+      → ((b : List s.Source) → are_tables b ≡ false → told_meant root (k b) ≡ None) → Step root found meant t
+      → told_meant root (go_on meant k) ≡ option_map (over (told_of root found)) (both over t rest)
+  unfolding go_on
+  told_step found meant t rest k are next none (same is tells) =
+      ap (λ o. told_meant root (go_on o k)) is ∙ next found are
+      ∙ ap (option_map (over (told_of root found))) (sym (over_none rest))
+      ∙ ap (λ o. option_map (over (told_of root found)) (both over o rest)) (sym tells)
+  told_step found meant t rest k are next none (more x table is tells) =
+      ap (λ o. told_meant root (go_on o k)) is
+      ∙ next (found ++ x ∷ [])
+      (tables_more found x ∙ ap (λ b. b && is_table x.0) are ∙ table)
+      ∙ ap (λ a. option_map (over a) rest) (told_more root found x)
+      ∙ sym (over_over (told_of root found) (true, member root x.0) rest)
+      ∙ ap (λ o. option_map (over (told_of root found)) (both over o rest)) (sym tells)
+  told_step found meant t rest k are next none (other x table is tells) =
+      ap (λ o. told_meant root (go_on o k)) is
+      ∙ none (found ++ x ∷ [])
+      (tables_more found x ∙ ap (λ b. b && is_table x.0) are ∙ table)
+      ∙ ap (λ o. option_map (over (told_of root found)) (both over o rest)) (sym tells)
+  told_step found meant t rest k are next none (fault w is tells) =
+      ap (λ o. told_meant root (go_on o k)) is
+      ∙ ap (λ o. option_map (over (told_of root found)) (both over o rest)) (sym tells)
+
+  all_told : (rs : List Reached) (found : List s.Source) → are_tables found ≡ true
+      → told_meant root (in_turn (read_from options_key) found rs)
+      ≡ option_map (over (told_of root found)) (told_all root rs)
+  unfolding in_turn
+  all_told [] found are =
+      ap (λ b. cond b (Some (told_of root found)) None) are ∙ ap Some (sym (over_last (told_of root found)))
+  all_told (r ∷ rs) found are =
+      told_step found (read_from options_key found r) (told_one root r) (told_all root rs)
+      (λ b. in_turn (read_from options_key) b rs) are (all_told rs) (never rs) (one_step found r)
+
+  from_none : (rs : List Reached) → told_meant root (in_turn (read_from options_key) [] rs) ≡ told_all root rs
+  unfolding some_source
+  from_none rs = all_told rs [] refl ∙ over_none (told_all root rs)
+
+  -- ---- with the default levels
+
+  option_told : (o : Meant (List s.Source)) → option_by root o ≡ option_map (λ t. t.1) (told_meant root o)
+  option_told (Ok ss) = elim (are_tables ss) as (λ b. cond b (Some (first_options root ss)) None
+      ≡ option_map (λ (t : Told). t.1) (cond b (Some (told_of root ss)) None)) [
+        | true ↦ refl
+        | false ↦ refl
+      ]
+  option_told (Err w) = refl
+
+  or_told : (o : Meant (List s.Source)) (ds : List Reached)
+      → option_by root (go_on o (or_default options_key ds)) ≡ told_or (told_meant root o) (told_all root ds)
+  unfolding go_on some_source
+  or_told (Ok []) ds =
+      option_told (in_turn (read_from options_key) [] ds) ∙ ap (option_map (λ (t : Told). t.1)) (from_none ds)
+  or_told (Ok (x ∷ xs)) ds = elim (are_tables (x ∷ xs)) as (λ b. cond b (Some (first_options root (x ∷ xs))) None
+      ≡ told_or (cond b (Some (told_of root (x ∷ xs))) None) (told_all root ds)) [
+        | true ↦ refl
+        | false ↦ refl
+      ]
+  or_told (Err w) ds = refl
+
+  pub option_read : (rs ds : List Reached)
+      → option_by root (read_all options_key rs ds) ≡ told_or (told_all root rs) (told_all root ds)
+  option_read rs ds =
+      or_told (in_turn (read_from options_key) [] rs) ds ∙ ap (λ o. told_or o (told_all root ds)) (from_none rs)

@@ -8,8 +8,6 @@ use Rattle.hiera_config.specs.declared.config.Config.{Config}
 use Rattle.hiera_config.specs.declared.config.Level.{Level}
 use Rattle.hiera_config.specs.declared.config.LevelPaths.{LevelPaths}
 use Rattle.hiera_config.specs.declared.config.LevelPaths.TheVariants as paths
-use Rattle.hiera_config.specs.declared.refused.Refused.{Refused}
-use Rattle.hiera_config.specs.declared.refused.Refused.TheVariants as refusal
 use Rattle.hiera_config.specs.Documents.{File, text_at}
 use Rattle.hiera_config.specs.Meant.{Meant, go_on, in_turn}
 use Rattle.hiera_config.specs.Sources.{Source, in_document, path_of, config_in, global_folder, module_folder}
@@ -84,11 +82,6 @@ reach files v name = in_layer files v global_folder ++ (in_layer files v [] ++ i
 abbrev pub reach_default : List File → Variables → Option (List ℕ) → List Reached
 reach_default files v None = []
 reach_default files v (Some name) = in_default files v (module_folder name)
-
--- a refusal in the place of a path or of levels
-abbrev pub refused : Refused → List Reached
-refused (refusal.Fault w) = broken w ∷ []
-refused refusal.Memory = []
 
 -- ---- what they have for a key
 

@@ -6,10 +6,10 @@ ghost use Rattle.hiera_config.specs.Found.{shown_config};
 ghost use Rattle.hiera_config.specs.Meant.{MeetsBy};
 ghost use Rattle.hiera_config.specs.Planning.{Fits, Planned, PlannedAt, slot_at, PathIs};
 ghost use Rattle.hiera_config.specs.Reached as come;
-ghost use Rattle.hiera_config.specs.ReachedFiles.{Adds, Comes};
+ghost use Rattle.hiera_config.specs.ReachedFiles.{Adds, AddsBroken, Comes};
 ghost use Rattle.hiera_config.specs.Seen.{seen, names_seen};
 ghost use Rattle.hiera_config.specs.Sources as spec;
-ghost use Rattle.hiera_config.specs.Variables.{variable as variable_of, mapped_values};
+ghost use Rattle.hiera_config.specs.Variables.{variable as variable_of, mapped_values, hiding};
 
 use crate::config::{Config, Level, LevelPaths};
 use crate::folders::{PATH_ROOM, config_path, module_folder};
@@ -44,7 +44,7 @@ struct MappedPath<'a> {
 
 /// What the levels of the global layer, of the environment and of this module come to, if there is one, the highest
 /// first. Behind a fault the others follow.
-pub fn reached<'a>(
+pub fn files_reached<'a>(
     alloc: Global,
     files: &'a SiteData,
     variables: &Variables<'_>,
@@ -64,7 +64,7 @@ pub fn reached<'a>(
 }
 
 /// What the default levels of this module come to.
-pub fn reached_by_default<'a>(
+pub fn files_by_default<'a>(
     alloc: Global,
     files: &'a SiteData,
     variables: &Variables<'_>,
@@ -148,7 +148,7 @@ fn add_layer<'a>(
 }
 
 fn add_broken<'a>(refused: Refused, found: &mut Vec<Reached<'a>>) -> Result<(), Memory>
-    ensures { OnOk result (Adds (come.refused refused) found.old.items found.new.items) }
+    ensures { OnOk result (AddsBroken refused found.old.items found.new.items) }
 {
     match refused {
         Refused::Fault(what) => {
@@ -347,19 +347,29 @@ fn add_for_values<'a>(
         mapped.now.name.now mapped.now.template.now (views values.now)) found.old.items found.new.items) }
 {
     for value in values {
-        let names = Names::hiding(variables, mapped.name, value);
-        add_template(
-            alloc,
-            files,
-            &names,
-            folder,
-            mapped.level,
-            mapped.template,
-            path,
-            found,
-        )?;
+        add_for_value(alloc, files, variables, folder, mapped, value, path, found)?;
     }
     Ok(())
+}
+
+/// The name stands for this value.
+fn add_for_value<'a>(
+    alloc: Global,
+    files: &'a SiteData,
+    variables: &Variables<'_>,
+    folder: &str,
+    mapped: &MappedPath<'_>,
+    value: &Value,
+    path: &mut String,
+    found: &mut Vec<Reached<'a>>,
+) -> Result<(), Memory>
+    ensures { OnOk result (Adds (come.in_template files.now folder.now mapped.now.level.now
+        (hiding mapped.now.name.now (view value.now) (seen variables.now)) mapped.now.template.now)
+        found.old.items found.new.items) }
+{
+    let names = Names::hiding(variables, mapped.name, value);
+    let level = mapped.level;
+    add_template(alloc, files, &names, folder, level, mapped.template, path, found)
 }
 
 fn add_template<'a>(

@@ -13,7 +13,7 @@ ghost use Rattle.hiera_config.specs.Sources as spec;
 
 use crate::flags::{mark_of, may_have};
 use crate::planned::planned_sources;
-use crate::reaching::{Reached, reached, reached_by_default};
+use crate::reaching::{Reached, files_reached, files_by_default};
 use crate::refused::{Refused, bad_data};
 use crate::site_data::{DataFile, SiteData};
 use crate::variables::Variables;
@@ -63,7 +63,7 @@ pub fn sources(
     if let Some(found) = planned_sources(alloc, files, module_name, key)? {
         return Ok(found);
     }
-    let there = reached(alloc, files, variables, module_name)?;
+    let there = files_reached(alloc, files, variables, module_name)?;
     let mut found = Vec::new(alloc);
     add_all(alloc, key, there, &mut found)?;
     add_default(alloc, files, variables, module_name, key, &mut found)?;
@@ -85,7 +85,7 @@ fn add_default(
         (source_views found.old.items)) }
 {
     if found.is_empty() {
-        let there = reached_by_default(alloc, files, variables, module_name)?;
+        let there = files_by_default(alloc, files, variables, module_name)?;
         add_all(alloc, key, there, found)
     } else {
         Ok(())
@@ -101,7 +101,7 @@ fn add_all(
 ) -> Result<(), Refused>
     requires { AreKeptAt there.items }
     ensures { MeetsBy (λ u. source_views found.new.items) result
-        (in_turn (read_from key.now) (source_views found.old.items) (reached_views there.items)) }
+        (in_turn (read_from key.now) (source_views found.old.items) (reached_views there.entry.items)) }
 {
     let mark = mark_of(key);
     for one in there {
@@ -120,7 +120,7 @@ fn add_one(
     requires kept { IsKeptAt one }
     requires mark { mark ≡ mark_of key.now }
     ensures { MeetsBy (λ u. source_views found.new.items) result
-        (read_from key.now (source_views found.old.items) (reached_view one)) }
+        (read_from key.now (source_views found.old.items) (reached_view one.entry)) }
 {
     match one {
         Reached::File { path, file } => add_from_file(alloc, key, mark, path, file, found),

@@ -13,7 +13,7 @@ ghost use Rattle.hiera_config.specs.Sources.{sources};
 
 use crate::highest::lacks_config;
 use crate::option_table::OptionTable;
-use crate::reaching::{Reached, reached, reached_by_default};
+use crate::reaching::{Reached, files_reached, files_by_default};
 use crate::site_data::{DataFile, SiteData};
 use crate::variables::Variables;
 use pp_values::{Memory, Text, Value};
@@ -77,7 +77,7 @@ fn option_in_files<'a>(
     ensures { IfOk result (λ o. option_map (option_map (λ v. view v.now)) o ≡ option_by key.now
         (sources files.now (seen variables.now) (option_map (λ m. m.now) module_name.entry) options_key)) }
 {
-    let there = reached(alloc, files, variables, module_name)?;
+    let there = files_reached(alloc, files, variables, module_name)?;
     match told_all(there.as_slice(), key) {
         Some(told) if told.has_options => Ok(Some(told.option)),
         Some(_) => option_by_default(alloc, files, variables, module_name, key),
@@ -96,7 +96,7 @@ fn option_by_default<'a>(
     ensures { IfOk result (λ o. option_map (option_map (λ v. view v.now)) o ≡ option_map (λ t. t.1)
         (told_all key.now (reach_default files.now (seen variables.now) (option_map (λ m. m.now) module_name.entry)))) }
 {
-    let there = reached_by_default(alloc, files, variables, module_name)?;
+    let there = files_by_default(alloc, files, variables, module_name)?;
     match told_all(there.as_slice(), key) {
         Some(told) => Ok(Some(told.option)),
         None => Ok(None),
@@ -124,7 +124,7 @@ fn told_all<'a>(there: &[Reached<'a>], key: &Text) -> Option<Told<'a>>
 
 /// What the higher one says counts.
 fn over<'a>(high: Told<'a>, low: Told<'a>) -> Told<'a>
-    ensures { told_view result ≡ over (told_view high) (told_view low) }
+    ensures { told_view result ≡ over (told_view high.entry) (told_view low.entry) }
 {
     Told {
         has_options: high.has_options || low.has_options,
@@ -134,7 +134,7 @@ fn over<'a>(high: Told<'a>, low: Told<'a>) -> Told<'a>
 
 fn or_else<'a>(high: Option<&'a Value>, low: Option<&'a Value>) -> Option<&'a Value>
     ensures { option_map (λ v. view v.now) result
-        ≡ or_else (option_map (λ v. view v.now) high) (option_map (λ v. view v.now) low) }
+        ≡ or_else (option_map (λ v. view v.now) high.entry) (option_map (λ v. view v.now) low.entry) }
 {
     match high {
         Some(value) => Some(value),

@@ -2,7 +2,7 @@
 use Rattle.std.proofs.Common.{◌≡◌, Bor, ℕ, zero, suc, ◌+◌, ◌<◌, List, [], ◌∷◌, ◌++◌, length, drop, get_or, map, None, Some, Option, Result, Ok, Err, refl, sym, ap, subst, ◌∙◌, arith, append_assoc, append-nil}
 use Rattle.std.specs.Prelude.{OnOk}
 use Rattle.std.proofs.lemmas.List.{map-append}
-use Rattle.std.proofs.lemmas.List.Elements.{All-nil, All-push}
+use Rattle.std.proofs.lemmas.List.Elements.{All-nil, All-push, All-rest}
 use Rattle.pp_values.specs.declared.fault.What.{What}
 use Rattle.hiera_config.specs.declared.config.Level.{Level}
 use Rattle.hiera_config.specs.declared.config.Config.{Config}
@@ -13,10 +13,10 @@ use Rattle.hiera_config.specs.declared.refused.Refused.TheVariants as refused
 use Rattle.hiera_config.specs.declared.site_data.DataFile.{DataFile}
 use Rattle.hiera_config.specs.Documents.{File, text_at}
 use Rattle.hiera_config.specs.Keeping.{IsKept}
-use Rattle.hiera_config.specs.Meant.{Meant, MeetsBy}
+use Rattle.hiera_config.specs.Meant.{Meant, go_on, in_turn, MeetsBy}
 use Rattle.hiera_config.specs.Planning.{PathIs}
-use Rattle.hiera_config.specs.Reached.{Reached, each, file, broken, file_if, file_at, come_to, in_template, in_paths, in_level, in_config}
-use Rattle.hiera_config.specs.Sources.{path_of}
+use Rattle.hiera_config.specs.Reached.{Reached, each, file, broken, file_if, file_at, come_to, in_template, in_paths, in_level, in_config, read_from}
+use Rattle.hiera_config.specs.Sources.{Source, path_of}
 use Rattle.hiera_config.specs.ReachedFiles.{reached_view, reached_views, IsKeptAt, AreKeptAt, Comes, Adds, AddsBroken}
 use Rattle.hiera_config.specs.Variables.{Variables}
 use Rattle.hiera_config.proofs.PlanLemmas.{plain_path}
@@ -141,3 +141,22 @@ level_comes files V folder level path is =
     ∙ append-nil (come_to files (path_of V folder level is.template))
     ∙ ap (come_to files) (plain_path V folder level is.template is.fixed_folder is.fixed_template)
     ∙ ap (file_at files) (sym is.joined)
+
+-- ---- what these have for a key
+
+pub one_refused : (key : List ℕ) (xs rest : Found) (x : declared.Reached) (a : List Source) → xs ≡ x ∷ rest
+    → in_turn (read_from key) a (reached_views xs)
+    ≡ go_on (read_from key a (reached_view x)) (λ b. in_turn (read_from key) b (reached_views rest))
+unfolding in_turn
+one_refused key xs rest x a split = ap (λ ys. in_turn (read_from key) a (reached_views ys)) split
+
+pub one_read : (key : List ℕ) (xs rest : Found) (x : declared.Reached) (a b : List Source) (whole : Meant (List Source))
+    → xs ≡ x ∷ rest → read_from key a (reached_view x) ≡ Ok b → in_turn (read_from key) a (reached_views xs) ≡ whole
+    → in_turn (read_from key) b (reached_views rest) ≡ whole
+unfolding go_on
+one_read key xs rest x a b whole split made held =
+    sym (one_refused key xs rest x a split
+    ∙ ap (λ o. go_on o (λ c. in_turn (read_from key) c (reached_views rest))) made) ∙ held
+
+pub rest_kept : (xs rest : Found) (x : declared.Reached) → xs ≡ x ∷ rest → AreKeptAt xs → AreKeptAt rest
+rest_kept xs rest x split kept = All-rest IsKeptAt x rest xs split kept

@@ -108,7 +108,7 @@ module _ (files : List File) (folder : List ℕ) where
   no_plan [] = tt
   no_plan (l ∷ ls) = tt
 
-  no_plan_at : PlannedAt files folder []
+  pub no_plan_at : PlannedAt files folder []
   no_plan_at = λ c is. no_plan c.levels
 
   pub empty_plan_at : (plan : List (Option FixedFile)) → plan ≡ [] → PlannedAt files folder plan

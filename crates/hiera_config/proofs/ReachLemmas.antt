@@ -166,3 +166,13 @@ module _ (files : List File) (key : List ℕ) where
       ∙ ap (λ o. go_on o default) (sym (both_turns step b environment own)))
       ∙ sym (go_twice (in_turn step [] global) (λ b. in_turn step b (environment ++ own)) default)
       ∙ ap (λ o. go_on o default) (sym (both_turns step [] global (environment ++ own)))
+
+  pub sources_begun : (v : Variables) (name : Option (List ℕ)) (rs : List Reached) (found : List s.Source)
+      → rs ≡ come.reach files v name → found ≡ []
+      → s.sources files v name key
+      ≡ go_on (in_turn (read_from key) found rs) (come.or_default key (come.reach_default files v name))
+  sources_begun v name rs found is none =
+      sources_read v name
+      ∙ ap (λ xs. go_on (in_turn (read_from key) [] xs) (come.or_default key (come.reach_default files v name))) (sym is)
+      ∙ ap (λ xs. go_on (in_turn (read_from key) xs rs) (come.or_default key (come.reach_default files v name)))
+      (sym none)

@@ -6,4 +6,4 @@ pub mod Lists
 mod PlainTexts
 pub mod Sources
 pub mod Steps
-pub pub mod LiteralValues
+pub mod LiteralValues

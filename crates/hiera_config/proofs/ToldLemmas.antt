@@ -1,5 +1,5 @@
 -- The options of a key, file by file, are those of its sources.
-use Rattle.std.proofs.Common.{◌≡◌, ℕ, Bool, true, false, ◌&&◌, ◌||◌, cond, None, Some, Option, List, [], ◌∷◌, ◌++◌, Ok, Err, refl, sym, ap, ◌∙◌}
+use Rattle.std.proofs.Common.{◌≡◌, ℕ, zero, suc, ◌+◌, ◌<◌, Bool, true, false, ◌&&◌, ◌||◌, cond, None, Some, Option, List, [], ◌∷◌, ◌++◌, length, drop, get_or, map, Ok, Err, refl, sym, ap, ◌∙◌, arith}
 use Rattle.std.specs.Prelude.{option_map, option_and_then}
 use Rattle.serde_json.specs.Data.{Data}
 use Rattle.serde_json.specs.Find.{get}
@@ -9,8 +9,7 @@ use Rattle.pp_values.specs.declared.fault.What.{What}
 use Rattle.pp_values.specs.declared.fault.What.TheVariants as what
 use Rattle.hiera_merge.specs.Digging.{member}
 use Rattle.hiera_config.specs.Documents.{File, is_document, strict}
-use Rattle.hiera_config.specs.declared.option_table.OptionTable.{OptionTable}
-use Rattle.hiera_config.specs.FileOptions.{options_key, is_table, is_plain_value, is_plain_member, are_plain, options_in, kept_option, IsTableOf}
+use Rattle.hiera_config.specs.FileOptions.{options_key, is_table, is_plain_value, is_plain_member, are_plain, options_in}
 use Rattle.hiera_config.specs.Meant.{Meant, go_on, in_turn}
 use Rattle.hiera_config.specs.OptionTables.{are_tables, first_options, option_by, Told, told_if, told_one, over, told_all, told_or}
 use Rattle.hiera_config.specs.Reached.{Reached, file, broken, reach, reach_default, read_from, read_all, or_default}
@@ -235,25 +234,26 @@ module _ (root : List ℕ) where
 
   -- ---- one after another
 
-  pub one_told : (left rest : List Reached) (r : Reached) (now more next : Told) (whole : Option Told)
-      → left ≡ r ∷ rest → Some more ≡ told_one root r → next ≡ over now more
-      → both over (Some now) (told_all root left) ≡ whole → both over (Some next) (told_all root rest) ≡ whole
-  one_told left rest r now more next whole split tells is held =
-      ap (λ t. option_map (over t) (told_all root rest)) is
-      ∙ sym (over_over now more (told_all root rest))
-      ∙ ap (λ o. option_map (over now) (both over o (told_all root rest))) tells
-      ∙ ap (λ rs. option_map (over now) (told_all root rs)) (sym split)
-      ∙ held
+  pub told_at : {X : Type 0} (of : X → Reached) (xs : List X) (i : ℕ) (x : X) → i < length xs → x ≡ get_or xs i x
+      → told_all root (map of (drop i xs))
+      ≡ both over (told_one root (of x)) (told_all root (map of (drop (i + 1) xs)))
+  told_at of [] i x h at = absurd (omega arith)
+  told_at of (y ∷ xs) zero x h at = rw at refl
+  told_at of (y ∷ xs) (suc i) x h at =
+      let h' : i < length xs = omega arith in
+      let e : suc i + 1 ≡ suc (i + 1) = omega arith in
+      rw e (told_at of xs i x h' at)
 
-  pub none_told : (left rest : List Reached) (r : Reached) (now : Told) (whole : Option Told) → left ≡ r ∷ rest
-      → None ≡ told_one root r → both over (Some now) (told_all root left) ≡ whole → None ≡ whole
-  none_told left rest r now whole split tells held =
-      ap (λ o. option_map (over now) (both over o (told_all root rest))) tells
-      ∙ ap (λ rs. option_map (over now) (told_all root rs)) (sym split)
-      ∙ held
+pub one_told : (here left rest whole : Option Told) (now this next : Told) → left ≡ both over here rest
+    → Some this ≡ here → next ≡ over now this → both over (Some now) left ≡ whole → both over (Some next) rest ≡ whole
+one_told here left rest whole now this next split tells is held =
+    ap (λ t. option_map (over t) rest) is ∙ sym (over_over now this rest)
+    ∙ ap (λ o. option_map (over now) (both over o rest)) tells ∙ ap (option_map (over now)) (sym split) ∙ held
 
-pub begin_told : (t : Told) (o : Option Told) → t ≡ (false, None) → both over (Some t) o ≡ o
-begin_told t o is = ap (λ x. option_map (over x) o) is ∙ over_none o
+pub none_told : (here left rest whole : Option Told) (now : Told) → left ≡ both over here rest → None ≡ here
+    → both over (Some now) left ≡ whole → None ≡ whole
+none_told here left rest whole now split tells held =
+    ap (λ o. option_map (over now) (both over o rest)) tells ∙ ap (option_map (over now)) (sym split) ∙ held
 
 pub end_told : (t : Told) (rest whole : Option Told) → rest ≡ Some (false, None) → both over (Some t) rest ≡ whole
     → Some t ≡ whole
@@ -269,27 +269,3 @@ option_files files v name root rs t is tells =
     ap (λ o. told_or o (told_all root (reach_default files v name))) (tells ∙ ap (told_all root) is)
     ∙ sym (option_read root (reach files v name) (reach_default files v name))
     ∙ ap (option_by root) (sym (sources_read files options_key v name))
-
--- ---- of one file
-
-pub not_told : (root : List ℕ) (plain b : Bool) (o : Option Datum) → plain ≡ b → plain ≡ false → None ≡ told_if root b o
-not_told root plain b o is not = ap (λ x. told_if root x o) (sym not ∙ is)
-
-table_told : (root : List ℕ) (table : OptionTable) (o : Option Datum) → IsTableOf (Some table) o
-    → Some (true, kept_option table root) ≡ told_if root true o
-table_told root table None of = absurd of
-table_told root table (Some d) of = ap (λ (x : Option Datum). Some (true, x)) (of root)
-
-pub has_told : (root : List ℕ) (table : OptionTable) (plain b : Bool) (o x : Option Datum) → plain ≡ b → plain ≡ true
-    → IsTableOf (Some table) o → x ≡ kept_option table root → Some (true, x) ≡ told_if root b o
-has_told root table plain b o x is are of tells =
-    ap (λ (y : Option Datum). Some (true, y)) tells ∙ table_told root table o of
-    ∙ ap (λ y. told_if root y o) (sym are ∙ is)
-
-none_of : (root : List ℕ) (o : Option Datum) → IsTableOf None o → Some (false, None) ≡ told_if root true o
-none_of root None of = refl
-none_of root (Some d) of = absurd of
-
-pub lacks_told : (root : List ℕ) (plain b : Bool) (o : Option Datum) → plain ≡ b → plain ≡ true → IsTableOf None o
-    → Some (false, None) ≡ told_if root b o
-lacks_told root plain b o is are of = none_of root o of ∙ ap (λ y. told_if root y o) (sym are ∙ is)

@@ -111,13 +111,11 @@ fn told_all<'a>(there: &[Reached<'a>], key: &Text) -> Option<Told<'a>>
         has_options: false,
         option: None,
     };
-    let mut left = there;
-    while let [one, after @ ..] = left {
+    for one in there {
         match told_one(one, key) {
             Some(more) => told = over(told, more),
             None => return None,
         }
-        left = after;
     }
     Some(told)
 }

@@ -10,6 +10,6 @@ returns-in-Mapped c =
     same_adds _ _ _ _ _
     (ap (in_paths c.args.files.now (seen c.args.variables.now) c.args.folder.now c.args.level.now) c.in-Mapped.is
     ∙ ap (λ t. in_mapped c.args.files.now c.args.folder.now c.args.level.now (seen c.args.variables.now)
-    c.in-Mapped.name.now c.in-Mapped.template.now (mapped_values (variable (seen c.args.variables.now) t)))
+    c.in-Mapped.name c.in-Mapped.template (mapped_values (variable (seen c.args.variables.now) t)))
     (sym c.as_str-variable.ensures.text))
     c.add_mapped.ensures

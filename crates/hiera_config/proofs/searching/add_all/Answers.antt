@@ -1,4 +1,5 @@
 use Rattle.std.proofs.Common.{refl, sym, ap, ◌∙◌}
+use Rattle.std.proofs.lemmas.List.{nil_from_length}
 use Rattle.hiera_config.specs.ReachedFiles.{reached_views}
 use Rattle.hiera_config.proofs.AddLemmas.{one_read, one_refused, rest_kept}
 use Rattle.hiera_config.proofs.Meets.{after_err, gives, same_meets, turns_end}
@@ -18,4 +19,5 @@ returns-in_err-add_one c =
 
 pub returns : goal.returns
 returns c =
-    gives (sym c.loop-one.invariant.0 ∙ turns_end _ _ _ (ap reached_views c.in-None.ensures.steps.0))
+    gives (sym c.loop-one.invariant.0 ∙ turns_end _ _ _ (ap reached_views
+    (nil_from_length _ (sym c.loop-one.one-iterator.rest.ok.0 ∙ c.in-None.ensures.steps.0))))

@@ -15,15 +15,12 @@ use Rattle.pp_values.specs.declared.value.Value.{Value}
 use Rattle.pp_values.proofs.Lists.{pairs_of-entries_of}
 use Rattle.hiera_merge.specs.Digging.{member}
 use Rattle.hiera_merge.specs.Merges.{pairs_in}
-use Rattle.hiera_config.specs.declared.option_table.OptionTable.{OptionTable}
 use Rattle.hiera_config.specs.declared.searching.Source as declared
-use Rattle.hiera_config.specs.Documents.{File}
 use Rattle.hiera_config.specs.Found.{source_view, source_views}
-use Rattle.hiera_config.specs.FileOptions.{options_key, is_table, option_among, kept_option}
-use Rattle.hiera_config.specs.OptionTables.{are_tables, first_options, option_by, PutsOver, KeepsOptions}
-use Rattle.hiera_config.specs.Sound.{LacksConfig, or_else}
-use Rattle.hiera_config.specs.Sources.{Source, sources}
-use Rattle.hiera_config.specs.Variables.{Variables}
+use Rattle.hiera_config.specs.FileOptions.{is_table, option_among}
+use Rattle.hiera_config.specs.OptionTables.{are_tables, first_options, PutsOver}
+use Rattle.hiera_config.specs.Sound.{or_else}
+use Rattle.hiera_config.specs.Sources.{Source}
 use Rattle.hiera_config.proofs.Booleans.{both_left, both_right}
 
 -- what a hash of the code's own says of its keys
@@ -173,11 +170,3 @@ pub lent_option : (o : Option (Bor Value)) (p : Option Value) → option_copied 
     → option_map (λ (v : Bor Value). view v.now) o ≡ option_map view p
 lent_option None p is = ap (option_map view) is
 lent_option (Some v) p is = ap (option_map view) is
-
-pub kept_by : (files : List File) (table : OptionTable) (v : Variables) (name : Option (List ℕ)) (root : List ℕ)
-    (o : Option Datum) → KeepsOptions files table → LacksConfig files name → o ≡ kept_option table root
-    → Some o ≡ option_by root (sources files v name options_key)
-kept_by files table v name root o keeps lacks is =
-    ap Some (is ∙ keeps.tables.1 root)
-    ∙ ap (λ b. cond b (Some (first_options root keeps.sources)) None) (sym keeps.tables.0)
-    ∙ ap (option_by root) (sym (keeps.told name lacks v))

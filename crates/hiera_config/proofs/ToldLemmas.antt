@@ -9,7 +9,7 @@ use Rattle.pp_values.specs.declared.fault.What.{What}
 use Rattle.pp_values.specs.declared.fault.What.TheVariants as what
 use Rattle.hiera_merge.specs.Digging.{member}
 use Rattle.hiera_config.specs.Documents.{File, is_document, strict}
-use Rattle.hiera_config.specs.FileOptions.{options_key, is_table, is_plain_value, is_plain_member, are_plain, options_in}
+use Rattle.hiera_config.specs.FileOptions.{options_key, is_table, is_plain_value, is_plain_member}
 use Rattle.hiera_config.specs.Meant.{Meant, go_on, in_turn}
 use Rattle.hiera_config.specs.OptionTables.{are_tables, first_options, option_by, Told, told_if, told_one, over, told_all, told_or}
 use Rattle.hiera_config.specs.Reached.{Reached, file, broken, reach, reach_default, read_from, read_all, or_default}

@@ -2,7 +2,6 @@
 use Rattle.std.specs.Prelude.{◌≡◌, ℕ, Bool, true, false, ◌||◌, if◌then◌else◌, List, [], ◌∷◌, Option, None, Some}
 use Rattle.std.specs.Prelude.{option_map, Ok, Err}
 use Rattle.std.specs.List.{list_all}
-use Rattle.serde_json.specs.Data.{Data}
 use Rattle.json_values.specs.FromData.{both}
 use Rattle.pp_values.specs.Datum.{Datum, Pair, text}
 use Rattle.pp_values.specs.Keys.{value_at}

@@ -56,7 +56,9 @@ pub fn files_reached<'a>(
     let mut found = Vec::new(alloc);
     let mut path = String::with_capacity(alloc, PATH_ROOM)?;
     let plan = files.global_plan();
-    add_layer(alloc, files, variables, "global/", plan, &mut path, &mut found)?;
+    add_layer(
+        alloc, files, variables, "global/", plan, &mut path, &mut found,
+    )?;
     let plan = files.environment_plan();
     add_layer(alloc, files, variables, "", plan, &mut path, &mut found)?;
     add_module(alloc, files, variables, module_name, &mut path, &mut found)?;
@@ -275,7 +277,9 @@ fn add_level<'a>(
     match &level.paths {
         LevelPaths::Templates(templates) => {
             let templates = templates.as_slice();
-            add_templates(alloc, files, variables, folder, level, templates, path, found)
+            add_templates(
+                alloc, files, variables, folder, level, templates, path, found,
+            )
         }
         LevelPaths::Mapped {
             variable,
@@ -288,7 +292,9 @@ fn add_level<'a>(
                 template,
             };
             let variable = variable.as_str();
-            add_mapped(alloc, files, variables, folder, &mapped, variable, path, found)
+            add_mapped(
+                alloc, files, variables, folder, &mapped, variable, path, found,
+            )
         }
     }
 }
@@ -369,7 +375,16 @@ fn add_for_value<'a>(
 {
     let names = Names::hiding(variables, mapped.name, value);
     let level = mapped.level;
-    add_template(alloc, files, &names, folder, level, mapped.template, path, found)
+    add_template(
+        alloc,
+        files,
+        &names,
+        folder,
+        level,
+        mapped.template,
+        path,
+        found,
+    )
 }
 
 fn add_template<'a>(
@@ -392,11 +407,7 @@ fn add_template<'a>(
 }
 
 /// Where there is no file at the path, nothing.
-fn add_file<'a>(
-    files: &'a SiteData,
-    path: Text,
-    found: &mut Vec<Reached<'a>>,
-) -> Result<(), Memory>
+fn add_file<'a>(files: &'a SiteData, path: Text, found: &mut Vec<Reached<'a>>) -> Result<(), Memory>
     ensures { OnOk result (Adds (come.file_at files.now path) found.old.items found.new.items) }
 {
     if let Some(file) = files.get(&path) {

@@ -13,7 +13,7 @@ ghost use Rattle.hiera_config.specs.Sources as spec;
 
 use crate::flags::{mark_of, may_have};
 use crate::planned::planned_sources;
-use crate::reaching::{Reached, files_reached, files_by_default};
+use crate::reaching::{Reached, files_by_default, files_reached};
 use crate::refused::{Refused, bad_data};
 use crate::site_data::{DataFile, SiteData};
 use crate::variables::Variables;

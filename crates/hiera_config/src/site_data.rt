@@ -14,8 +14,8 @@ ghost use Rattle.serde_json.specs.View.{view as json_view};
 
 use crate::config::Config;
 use crate::config_reading::{config_of, parsed};
-use crate::flags::flags_of;
 use crate::file_options::{FileOptions, options_of};
+use crate::flags::flags_of;
 use crate::option_table::{OptionTable, options_in};
 use crate::plan::{FixedFile, Plan, file_at, plan_at};
 use crate::soundness::{are_sound_layers, is_sound_document};

@@ -13,7 +13,7 @@ ghost use Rattle.hiera_config.specs.Sources.{sources};
 
 use crate::highest::lacks_config;
 use crate::option_table::OptionTable;
-use crate::reaching::{Reached, files_reached, files_by_default};
+use crate::reaching::{Reached, files_by_default, files_reached};
 use crate::site_data::{DataFile, SiteData};
 use crate::variables::Variables;
 use pp_values::{Memory, Text, Value};

@@ -1,4 +1,4 @@
-use Rattle.std.proofs.Common.{sym, ap, subst}
+use Rattle.std.proofs.Common.{subst}
 use Rattle.std.proofs.Math.ListN.{drop_of_length-le}
 use Rattle.hiera_config.specs.Reached.{each, in_template}
 use Rattle.hiera_config.specs.ReachedFiles.{Adds}

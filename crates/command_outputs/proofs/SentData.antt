@@ -13,6 +13,7 @@ use Rattle.serde_json.specs.contracts.value.Value as json
 use Rattle.pp_values.proofs.text.Text.TheSendSync as text
 use Rattle.hiera_config.proofs.config.Config.TheSendSync as config
 use Rattle.hiera_config.proofs.plan.FixedFile.TheSendSync as fixed_file
+use Rattle.hiera_config.specs.contracts.file_options.FileOptions as file_options
 use Rattle.hiera_config.specs.contracts.option_table.OptionTable as option_table
 use Rattle.hiera_config.specs.contracts.site_data.DataFile as data_file
 use Rattle.hiera_config.specs.contracts.site_data.SiteData as site_data
@@ -46,44 +47,6 @@ json_sync =
     )
     depth 40 fits 40000
 
-data_file_fields_send : IsSend (declared.field data_file.the_type).row
-data_file_fields_send =
-    struct_send (declared.shape data_file.the_type) (
-      text.the_send,
-      (
-        search (sendable, crosses, option.the_field_send, json_send) depth 40 fits 40000,
-        (
-          search (sendable, crosses, option.the_field_send, config.the_send) depth 40 fits 40000,
-          (
-            search (sendable, crosses, vec.the_send, global.the_send) depth 40 fits 40000,
-            (search (sendable, crosses) depth 40 fits 40000, tt),
-          ),
-        ),
-      ),
-    )
-
-data_file_fields_sync : IsSync (declared.field data_file.the_type).row
-data_file_fields_sync =
-    struct_sync (declared.shape data_file.the_type) (
-      text.the_sync,
-      (
-        search (sendable, crosses, option.the_field_sync, json_sync) depth 40 fits 40000,
-        (
-          search (sendable, crosses, option.the_field_sync, config.the_sync) depth 40 fits 40000,
-          (
-            search (sendable, crosses, vec.the_sync, global.the_sync) depth 40 fits 40000,
-            (search (sendable, crosses) depth 40 fits 40000, tt),
-          ),
-        ),
-      ),
-    )
-
-data_file_send : IsSend (declared.row data_file.the_type)
-data_file_send = search (sendable, data_file_fields_send) depth 20
-
-data_file_sync : IsSync (declared.row data_file.the_type)
-data_file_sync = search (sendable, data_file_fields_sync) depth 20
-
 option_table_fields_send : IsSend (declared.field option_table.the_type).row
 option_table_fields_send =
     struct_send (declared.shape option_table.the_type) (
@@ -103,6 +66,70 @@ option_table_send = search (sendable, option_table_fields_send) depth 20
 
 option_table_sync : IsSync (declared.row option_table.the_type)
 option_table_sync = search (sendable, option_table_fields_sync) depth 20
+
+file_options_fields_send : IsSend (declared.field file_options.the_type).row
+file_options_fields_send =
+    struct_send (declared.shape file_options.the_type) (
+      search (sendable, crosses) depth 40 fits 40000,
+      (search (sendable, crosses, option.the_field_send, option_table_send) depth 40 fits 40000, tt),
+    )
+
+file_options_fields_sync : IsSync (declared.field file_options.the_type).row
+file_options_fields_sync =
+    struct_sync (declared.shape file_options.the_type) (
+      search (sendable, crosses) depth 40 fits 40000,
+      (search (sendable, crosses, option.the_field_sync, option_table_sync) depth 40 fits 40000, tt),
+    )
+
+file_options_send : IsSend (declared.row file_options.the_type)
+file_options_send = search (sendable, file_options_fields_send) depth 20
+
+file_options_sync : IsSync (declared.row file_options.the_type)
+file_options_sync = search (sendable, file_options_fields_sync) depth 20
+
+data_file_fields_send : IsSend (declared.field data_file.the_type).row
+data_file_fields_send =
+    struct_send (declared.shape data_file.the_type) (
+      text.the_send,
+      (
+        search (sendable, crosses, option.the_field_send, json_send) depth 40 fits 40000,
+        (
+          search (sendable, crosses, option.the_field_send, config.the_send) depth 40 fits 40000,
+          (
+            search (sendable, crosses, vec.the_send, global.the_send) depth 40 fits 40000,
+            (
+              search (sendable, crosses) depth 40 fits 40000,
+              (search (sendable, crosses, file_options_send) depth 40 fits 40000, tt),
+            ),
+          ),
+        ),
+      ),
+    )
+
+data_file_fields_sync : IsSync (declared.field data_file.the_type).row
+data_file_fields_sync =
+    struct_sync (declared.shape data_file.the_type) (
+      text.the_sync,
+      (
+        search (sendable, crosses, option.the_field_sync, json_sync) depth 40 fits 40000,
+        (
+          search (sendable, crosses, option.the_field_sync, config.the_sync) depth 40 fits 40000,
+          (
+            search (sendable, crosses, vec.the_sync, global.the_sync) depth 40 fits 40000,
+            (
+              search (sendable, crosses) depth 40 fits 40000,
+              (search (sendable, crosses, file_options_sync) depth 40 fits 40000, tt),
+            ),
+          ),
+        ),
+      ),
+    )
+
+data_file_send : IsSend (declared.row data_file.the_type)
+data_file_send = search (sendable, data_file_fields_send) depth 20
+
+data_file_sync : IsSync (declared.row data_file.the_type)
+data_file_sync = search (sendable, data_file_fields_sync) depth 20
 
 pub data_send : IsSend site_data.the_row
 data_send =

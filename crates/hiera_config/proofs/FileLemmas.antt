@@ -1,21 +1,19 @@
 -- Files by path: what is put in, and what is found.
-use Rattle.std.proofs.Common.{◌≡◌, Bor, ℕ, true, false, ◌&&◌, cond, None, Some, Option, List, [], ◌∷◌, ◌++◌, refl, sym, ap, subst, ◌∙◌}
+use Rattle.std.proofs.Common.{◌≡◌, Bor, ℕ, true, false, cond, None, Some, Option, List, [], ◌∷◌, ◌++◌, refl, sym, ap, subst, ◌∙◌}
 use Rattle.std.specs.Prelude.{option_map, option_copied, IfSome}
 use Rattle.std.specs.declared.cmp.Ordering.TheVariants.{Less, Equal, Greater}
 use Rattle.std.specs.Ordering.{eq_by_cmp, is_eq, match_ordering}
-use Rattle.std.proofs.lemmas.List.Elements.{All-nil, All-head, All-tail, All-cons}
+use Rattle.std.proofs.lemmas.List.Elements.{All-head, All-tail, All-cons}
 use Rattle.std.proofs.lemmas.Map.Text.{is_eq-slice_cmp}
 use Rattle.std.proofs.lemmas.Slice.Eq.{bytes_eq-Decides}
 use Rattle.std.specs.BTreeMap.{insert_entry, is_at}
 use Rattle.std.specs.FinMap.{find, put}
 use Rattle.std.specs.FinMap.Entries.{by_order}
 use Rattle.std.specs.Map.{lookup}
-use Rattle.serde_json.specs.View.{view as json_view}
 use Rattle.pp_values.specs.Rising.{text_cmp}
 use Rattle.hiera_config.specs.declared.site_data.DataFile.{DataFile}
-use Rattle.hiera_config.specs.Config.{config_read}
-use Rattle.hiera_config.specs.Documents.{File, is_of_module, put_in}
-use Rattle.hiera_config.specs.Keeping.{filed, IsKept, AreKept, is_simple, AreSimple, simple_file, KeptSimple, lacks_options, lacks_defaults}
+use Rattle.hiera_config.specs.Documents.{File, put_in}
+use Rattle.hiera_config.specs.Keeping.{filed, IsKept, AreKept}
 
 abbrev pub Entry : Type 0
 Entry = List ℕ × DataFile
@@ -86,32 +84,6 @@ kept_insert (e ∷ es) path f kept all =
           All-cons (λ x. IsKept x.0 x.1) e (insert_entry text_cmp es path f) (All-head (λ x. IsKept x.0 x.1) e es all)
           (kept_insert es path f kept (All-tail (λ x. IsKept x.0 x.1) e es all))
     ] refl
-
-pub simple_insert : (es : List Entry) (path : List ℕ) (f : DataFile) → simple_file f ≡ true → KeptSimple es
-    → KeptSimple (insert_entry text_cmp es path f)
-simple_insert [] path f simple all = All-cons (λ x. simple_file x.1 ≡ true) (path, f) [] simple all
-simple_insert (e ∷ es) path f simple all =
-    elim (text_cmp path e.0) as (λ r. KeptSimple
-    (match_ordering r ((path, f) ∷ e ∷ es) ((e.0, f) ∷ es) (e ∷ insert_entry text_cmp es path f))) [
-      | Less ↦ All-cons (λ x. simple_file x.1 ≡ true) (path, f) (e ∷ es) simple all
-      | Equal ↦
-          All-cons (λ x. simple_file x.1 ≡ true) (e.0, f) es simple (All-tail (λ x. simple_file x.1 ≡ true) e es all)
-      | Greater ↦
-          All-cons (λ x. simple_file x.1 ≡ true) e (insert_entry text_cmp es path f)
-          (All-head (λ x. simple_file x.1 ≡ true) e es all)
-          (simple_insert es path f simple (All-tail (λ x. simple_file x.1 ≡ true) e es all))
-    ]
-
--- what is kept of simple files says what their texts say
-pub simple_texts : (es : List Entry) → AreKept es → KeptSimple es → AreSimple (filed es)
-simple_texts [] kept simple = All-nil (λ f. is_simple f.0 f.1 ≡ true)
-simple_texts (e ∷ es) kept simple =
-    let here = All-head (λ x. IsKept x.0 x.1) e es kept in
-    All-cons (λ f. is_simple f.0 f.1 ≡ true) (e.0, e.1.text) (filed es)
-    (ap (λ d. lacks_options d && lacks_defaults (config_read (is_of_module e.0) e.1.text)) (sym here.json)
-    ∙ ap (λ c. lacks_options (option_map json_view e.1.json) && lacks_defaults c) (sym here.config)
-    ∙ All-head (λ x. simple_file x.1 ≡ true) e es simple)
-    (simple_texts es (All-tail (λ x. IsKept x.0 x.1) e es kept) (All-tail (λ x. simple_file x.1 ≡ true) e es simple))
 
 -- ---- the last of the pairs is put in first
 

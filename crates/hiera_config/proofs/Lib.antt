@@ -13,6 +13,9 @@ mod PathLemmas
 mod PathTexts
 mod FlagLemmas
 mod PlanLemmas
-pub mod Simple
+pub mod Booleans
 mod SoundLemmas
 pub mod OptionLemmas
+mod AddLemmas
+mod ReachLemmas
+mod ToldLemmas

@@ -15,14 +15,13 @@ use Rattle.pp_values.specs.declared.value.Value.{Value}
 use Rattle.pp_values.proofs.Lists.{pairs_of-entries_of}
 use Rattle.hiera_merge.specs.Digging.{member}
 use Rattle.hiera_merge.specs.Merges.{pairs_in}
-use Rattle.hiera_config.specs.declared.option_table.OptionTable.{OptionTable}
 use Rattle.hiera_config.specs.declared.searching.Source as declared
-use Rattle.hiera_config.specs.Documents.{File}
 use Rattle.hiera_config.specs.Found.{source_view, source_views}
-use Rattle.hiera_config.specs.OptionTables.{is_table, are_tables, first_options, option_among, kept_option, PutsOver, KeepsOptions, IsOption}
-use Rattle.hiera_config.specs.Sound.{LacksConfig, or_else}
+use Rattle.hiera_config.specs.FileOptions.{is_table, option_among}
+use Rattle.hiera_config.specs.OptionTables.{are_tables, first_options, PutsOver}
+use Rattle.hiera_config.specs.Sound.{or_else}
 use Rattle.hiera_config.specs.Sources.{Source}
-use Rattle.hiera_config.proofs.Simple.{both_left, both_right}
+use Rattle.hiera_config.proofs.Booleans.{both_left, both_right}
 
 -- what a hash of the code's own says of its keys
 pub with_distinct : (b : Bool) (ps : List Pair) → IsTrue (are_distinct ps)
@@ -171,12 +170,3 @@ pub lent_option : (o : Option (Bor Value)) (p : Option Value) → option_copied 
     → option_map (λ (v : Bor Value). view v.now) o ≡ option_map view p
 lent_option None p is = ap (option_map view) is
 lent_option (Some v) p is = ap (option_map view) is
-
-pub is_option : (files : List File) (table : OptionTable) (name : Option (List ℕ)) (root : List ℕ) (o : Option Datum)
-    → KeepsOptions files table → LacksConfig files name → o ≡ kept_option table root → IsOption files name root o
-is_option files table name root o keeps lacks is = record {
-  sources = keeps.sources;
-  told = keeps.told name lacks;
-  tables = keeps.tables.0;
-  first = is ∙ keeps.tables.1 root;
-}

@@ -77,7 +77,7 @@ same_go (Err f) = refl
 plain_text : (v : Variables) (t : List ℕ) → None ≡ cut_at (codes "%{") t → path_text v t ≡ Ok t
 plain_text v t plain = text_whole v [] t plain
 
-plain_path : (v : Variables) (folder : List ℕ) (level : Level) (t : List ℕ) → None ≡ cut_at (codes "%{") level.folder
+pub plain_path : (v : Variables) (folder : List ℕ) (level : Level) (t : List ℕ) → None ≡ cut_at (codes "%{") level.folder
     → None ≡ cut_at (codes "%{") t → s.path_of v folder level t ≡ Ok (s.joined_path folder level.folder t)
 unfolding go_on
 plain_path v folder level t inner plain =
@@ -108,7 +108,7 @@ module _ (files : List File) (folder : List ℕ) where
   no_plan [] = tt
   no_plan (l ∷ ls) = tt
 
-  no_plan_at : PlannedAt files folder []
+  pub no_plan_at : PlannedAt files folder []
   no_plan_at = λ c is. no_plan c.levels
 
   pub empty_plan_at : (plan : List (Option FixedFile)) → plan ≡ [] → PlannedAt files folder plan

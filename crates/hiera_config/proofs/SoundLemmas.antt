@@ -21,12 +21,12 @@ use Rattle.hiera_config.specs.Documents.{File, text_at, is_document, strict}
 use Rattle.hiera_config.specs.Keeping.{IsKept}
 use Rattle.hiera_config.specs.Meant.{go_on, in_turn}
 use Rattle.hiera_config.specs.Planning.{Planned, PlannedAt}
-use Rattle.hiera_config.specs.Sound.{source_if, had_in, AreSources, is_sound_if, is_sound_slot, is_nothing, sound_by_config, sound_by, SoundPlan, SoundLayer, SoundLayers, SkipsAll, value_in_data, value_in_text, or_else, first_in, first_value, LacksConfig, IsHighest}
+use Rattle.hiera_config.specs.Sound.{source_if, had_in, AreSources, is_sound_if, is_sound_slot, is_nothing, sound_by_config, sound_by, SoundPlan, SoundLayer, SoundLayers, SkipsAll, value_in_data, value_in_text, or_else, first_in, first_value, LacksConfig, highest}
 use Rattle.hiera_config.specs.SoundData.{is_sound, are_sound_items, are_sound_members, is_sound_document, is_sound_text}
 use Rattle.hiera_config.specs.Sources as s
 use Rattle.hiera_config.specs.Variables.{Variables}
 use Rattle.hiera_config.proofs.PlanLemmas.{level_is}
-use Rattle.hiera_config.proofs.Simple.{both_left, both_right}
+use Rattle.hiera_config.proofs.Booleans.{both_left, both_right}
 
 -- ---- sound data have a value
 
@@ -192,18 +192,16 @@ module _ (files : List File) (key : List ℕ) where
       → found ≡ had_in files key global ++ had_in files key environment → AreSources files name key found
   are_sources name global environment found sound lacks is = λ v. all_told v name global environment sound lacks ∙ ap Ok (sym is)
 
-  pub is_highest : (name : Option (List ℕ)) (global environment : List (Option FixedFile)) (value : Option Datum)
-      → SoundLayers files global environment → LacksConfig files name
+  pub is_highest : (v : Variables) (name : Option (List ℕ)) (global environment : List (Option FixedFile))
+      (value : Option Datum) → SoundLayers files global environment → LacksConfig files name
       → value ≡ or_else (first_in files key global) (first_in files key environment)
-      → IsHighest files name key value
-  is_highest name global environment value sound lacks is = λ v. record {
-    sources = had_in files key global ++ had_in files key environment;
-    told = all_told v name global environment sound lacks;
-    highest =
-        first_of_both (had_in files key global) (had_in files key environment)
-        ∙ ap (λ o. or_else o (first_value (had_in files key environment))) (first_had global)
-        ∙ ap (or_else (first_in files key global)) (first_had environment) ∙ sym is;
-  }
+      → highest (s.sources files v name key) ≡ Ok value
+  unfolding go_on
+  is_highest v name global environment value sound lacks is =
+      ap highest (all_told v name global environment sound lacks)
+      ∙ ap Ok (first_of_both (had_in files key global) (had_in files key environment)
+      ∙ ap (λ o. or_else o (first_value (had_in files key environment))) (first_had global)
+      ∙ ap (or_else (first_in files key global)) (first_had environment) ∙ sym is)
 
 -- ---- plans
 

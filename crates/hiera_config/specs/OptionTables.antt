@@ -1,25 +1,21 @@
 -- The options of look-ups, where the sources of these are hashes in which nothing is interpolated.
-use Rattle.std.specs.Prelude.{◌≡◌, ℕ, Bool, true, ◌&&◌, List, [], ◌∷◌, Option, None, option_map}
-use Rattle.std.specs.BTreeMap.{is_at}
+use Rattle.std.specs.Prelude.{◌≡◌, ℕ, Bool, true, false, ◌||◌, if◌then◌else◌, List, [], ◌∷◌, Option, None, Some}
+use Rattle.std.specs.Prelude.{option_map, Ok, Err}
 use Rattle.std.specs.List.{list_all}
-use Rattle.std.specs.Map.{lookup}
+use Rattle.json_values.specs.FromData.{both}
 use Rattle.pp_values.specs.Datum.{Datum, Pair, text}
 use Rattle.pp_values.specs.Keys.{value_at}
-use Rattle.pp_values.specs.Rising.{text_cmp}
 use Rattle.pp_values.specs.Views.{view}
 use Rattle.pp_values.specs.declared.value.Value.{Value}
 use Rattle.hiera_config.specs.declared.option_table.OptionTable.{OptionTable}
+use Rattle.hiera_config.specs.declared.told_options.Told as declared
 use Rattle.hiera_config.specs.Documents.{File}
-use Rattle.hiera_config.specs.Keeping.{options_key}
-use Rattle.hiera_config.specs.Literals.{is_literal}
-use Rattle.hiera_config.specs.Sound.{AreSources, SoundSources, or_else}
+use Rattle.hiera_config.specs.FileOptions.{options_key, is_table, are_plain, options_in, option_among, kept_option}
+use Rattle.hiera_config.specs.Meant.{Meant}
+use Rattle.hiera_config.specs.Reached.{Reached, file, broken}
+use Rattle.hiera_config.specs.Sound.{SoundSources, or_else}
 use Rattle.hiera_config.specs.Sources.{Source}
 use Rattle.hiera_merge.specs.Digging.{member}
-use Rattle.hiera_merge.specs.Merges.{is_hash}
-
--- a hash in which nothing is interpolated
-abbrev pub is_table : Datum → Bool
-is_table d = is_hash d && is_literal d
 
 abbrev pub are_tables : List Source → Bool
 are_tables ss = list_all (λ s. is_table s.0) ss
@@ -29,12 +25,12 @@ abbrev pub first_options : List ℕ → List Source → Option Datum
 first_options root [] = None
 first_options root (s ∷ ss) = or_else (member root s.0) (first_options root ss)
 
--- what is kept for a key
-abbrev pub option_among : List (List ℕ × Value) → List ℕ → Option Datum
-option_among es root = option_map view (lookup (is_at (text_cmp root)) es)
+-- what the options say of a key, if anything, where their sources are told, and are such tables; None where not
+abbrev pub option_by : List ℕ → Meant (List Source) → Option (Option Datum)
+option_by root (Ok ss) = if are_tables ss then Some (first_options root ss) else None
+option_by root (Err w) = None
 
-abbrev pub kept_option : OptionTable → List ℕ → Option Datum
-kept_option table root = option_among table.by_key.entries root
+-- ---- for a whole site
 
 -- these pairs are put over what was kept: of two with one key the first counts
 abbrev pub PutsOver : List Pair → List (List ℕ × Value) → List (List ℕ × Value) → Type 0
@@ -51,9 +47,36 @@ pub record KeepsOptions (files : List File) (table : OptionTable) : Type 0 where
   pub told : SoundSources files options_key sources
   pub tables : KeepsTables sources table
 
--- the sources of the options are such tables, whatever the variables, and this is what they have for the key
-pub record IsOption (files : List File) (name : Option (List ℕ)) (root : List ℕ) (option : Option Datum) : Type 0 where
-  pub sources : List Source
-  pub told : AreSources files name options_key sources
-  pub tables : are_tables sources ≡ true
-  pub first : option ≡ first_options root sources
+-- ---- file by file
+
+-- whether there are options, and what they have for a key
+abbrev pub Told : Type 0
+Told = Bool × Option Datum
+
+abbrev pub told_view : declared.Told → Told
+told_view t = (t.has_options, option_map (λ v. view v.now) t.option)
+
+-- of a file with these options, or with none, where they are plain
+abbrev pub told_if : List ℕ → Bool → Option Datum → Option Told
+told_if root false options = None
+told_if root true None = Some (false, None)
+told_if root true (Some d) = Some (true, member root d)
+
+abbrev pub told_one : List ℕ → Reached → Option Told
+told_one root (file path d) = told_if root (are_plain d) (options_in d)
+told_one root (broken w) = None
+
+-- what the higher one says counts
+abbrev pub over : Told → Told → Told
+over high low = (high.0 || low.0, or_else high.1 low.1)
+
+-- None where it is not plain of one of them
+abbrev pub told_all : List ℕ → List Reached → Option Told
+told_all root [] = Some (false, None)
+told_all root (r ∷ rs) = both over (told_one root r) (told_all root rs)
+
+-- the default levels count where nothing else has options
+abbrev pub told_or : Option Told → Option Told → Option (Option Datum)
+told_or None default = None
+told_or (Some (true, option)) default = Some option
+told_or (Some (false, option)) default = option_map (λ t. t.1) default

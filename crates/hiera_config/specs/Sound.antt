@@ -11,7 +11,7 @@ use Rattle.hiera_config.specs.declared.config.Level.{Level}
 use Rattle.hiera_config.specs.declared.plan.FixedFile.{FixedFile}
 use Rattle.hiera_config.specs.declared.site_data.DataFile.{DataFile}
 use Rattle.hiera_config.specs.Documents.{File, text_at, strict}
-use Rattle.hiera_config.specs.Meant.{Meant}
+use Rattle.hiera_config.specs.Meant.{Meant, go_on}
 use Rattle.hiera_config.specs.Planning.{PathIs, Skips}
 use Rattle.hiera_config.specs.SoundData.{is_sound_text}
 use Rattle.hiera_config.specs.Sources.{Source, config_in, config_path, global_folder, module_folder, sources}
@@ -110,16 +110,11 @@ abbrev pub first_value : List Source → Option Datum
 first_value [] = None
 first_value (s ∷ ss) = Some s.0
 
--- the sources are told, and this is what the highest has, if there is one
-pub record HasHighest (meant : Meant (List Source)) (value : Option Datum) : Type 0 where
-  pub sources : List Source
-  pub told : meant ≡ Ok sources
-  pub highest : first_value sources ≡ value
+-- what the highest of these has, if there is one
+abbrev pub highest : Meant (List Source) → Meant (Option Datum)
+highest meant = go_on meant (λ ss. Ok (first_value ss))
 
 -- whatever the variables
-abbrev pub IsHighest : List File → Option (List ℕ) → List ℕ → Option Datum → Type 0
-IsHighest files name key value = (v : Variables) → HasHighest (sources files v name key) value
-
 abbrev pub AreSources : List File → Option (List ℕ) → List ℕ → List Source → Type 0
 AreSources files name key found = (v : Variables) → sources files v name key ≡ Ok found
 

@@ -1,41 +1,81 @@
-//! The value of a key's highest source, where it is plain that no other source can be faulty.
+//! The value of a key's highest source.
 ghost use Rattle.std.specs.Prelude.{◌≡◌, None, true, IfOk, IfSome, option_map};
 ghost use Rattle.pp_values.specs.Views.{view};
 ghost use Rattle.serde_json.specs.View.{view as json_view};
 ghost use Rattle.hiera_config.specs.Documents.{text_at, strict};
 ghost use Rattle.hiera_config.specs.Flags.{mark_of};
 ghost use Rattle.hiera_config.specs.Planning.{Skips};
-ghost use Rattle.hiera_config.specs.Sound.{SkipsAll, SoundLayers, LacksConfig, IsHighest, or_else, first_in};
+ghost use Rattle.hiera_config.specs.Found.{source_views};
+ghost use Rattle.hiera_config.specs.Meant.{MeetsBy};
+ghost use Rattle.hiera_config.specs.Seen.{seen};
+ghost use Rattle.hiera_config.specs.Sound.{SkipsAll, SoundLayers, LacksConfig, or_else, first_in, first_value, highest};
 ghost use Rattle.hiera_config.specs.Sound.{value_in_slot, value_in_text, value_in_data};
 ghost use Rattle.hiera_config.specs.Sources as spec;
 
 use crate::flags::mark_of;
 use crate::folders::{PATH_ROOM, config_path, module_folder};
 use crate::plan::FixedFile;
+use crate::refused::Refused;
+use crate::searching::{Source, sources};
 use crate::site_data::SiteData;
+use crate::variables::Variables;
 use json_values::{DataStop, Numbers, from_data};
 use pp_values::{Memory, Text, Value};
 use serde_json::Value as Json;
 use std::alloc::Global;
 
-/// What the key's highest source has, if there is one, where this is plain from the plans of the layers: no variable
-/// stands in a path, no key's value is faulty, and the module has no configuration. None where it is not plain.
+/// What the key's highest source has, if there is one. Where it is plain that no source can be faulty, the others are
+/// not read.
 pub fn highest_value(
     alloc: Global,
     files: &SiteData,
+    variables: &Variables<'_>,
     module_name: Option<&str>,
     key: &str,
-) -> Option<Option<Value>>
-    ensures { IfSome result
-        (λ v. IsHighest files.now (option_map (λ m. m.now) module_name.entry) key.now (option_map view v)) }
+) -> Result<Option<Value>, Refused>
+    ensures { MeetsBy (option_map view) result (highest
+        (spec.sources files.now (seen variables.now) (option_map (λ m. m.now) module_name.entry) key.now)) }
 {
-    let (global, environment) = files.sound_plans()?;
-    if !lacks_config(alloc, files, module_name) {
-        return None;
+    match sound_plans_for(alloc, files, module_name) {
+        Some((global, environment)) => Ok(highest_of(alloc, files, global, environment, key)?),
+        None => {
+            let sources = sources(alloc, files, variables, module_name, key)?;
+            Ok(first_value(sources))
+        }
     }
-    match highest_of(alloc, files, global, environment, key) {
-        Ok(value) => Some(value),
-        Err(Memory) => None,
+}
+
+/// The value of the first source.
+fn first_value(sources: Vec<Source>) -> Option<Value>
+    ensures { option_map view result ≡ first_value (source_views sources.items) }
+{
+    let mut sources = sources;
+    if sources.is_empty() {
+        None
+    } else {
+        Some(sources.swap_remove(0).into_value())
+    }
+}
+
+/// The plans of the layers, where each of their levels has a file in them, no key's value is faulty in any, and the
+/// module has no configuration.
+pub fn sound_plans_for<'a>(
+    alloc: Global,
+    files: &'a SiteData,
+    module_name: Option<&str>,
+) -> Option<(&'a [Option<FixedFile>], &'a [Option<FixedFile>])>
+    ensures plans { IfSome result (λ p. SoundLayers files.now p.0.now p.1.now) }
+    ensures module { IfSome result (λ p. LacksConfig files.now (option_map (λ m. m.now) module_name.entry)) }
+{
+    match files.sound_plans() {
+        Some(plans) => {
+            if lacks_config(alloc, files, module_name) {
+                Some(plans)
+            } else {
+                None
+            }
+        }
+        None => None,
     }
 }
 

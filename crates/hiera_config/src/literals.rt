@@ -2,6 +2,7 @@
 ghost use Rattle.std.specs.Prelude.{◌≡◌};
 ghost use Rattle.pp_values.specs.Datum.{data_of, entries_of};
 ghost use Rattle.pp_values.specs.Views.{view, views, pair_views};
+ghost use Rattle.hiera_config.specs.FileOptions.{is_table};
 ghost use Rattle.hiera_config.specs.Literals.{is_literal, are_literal, are_literal_pairs};
 
 use crate::interpolation::interpolates;
@@ -42,4 +43,14 @@ fn are_literal_pairs(pairs: &[(Value, Value)]) -> bool
         }
     }
     true
+}
+
+/// Whether it is a hash in which nothing is interpolated.
+pub fn is_table(value: &Value) -> bool
+    ensures { result ≡ is_table (view value.now) }
+{
+    match value {
+        Value::Hash(_) => is_literal(value),
+        _ => false,
+    }
 }

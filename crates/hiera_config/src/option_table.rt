@@ -2,12 +2,12 @@
 ghost use Rattle.std.specs.Prelude.{◌≡◌, ℕ, true, List, [], ◌∷◌, IfOk, IfSome, OnOk, option_map};
 ghost use Rattle.pp_values.specs.Views.{view};
 ghost use Rattle.hiera_config.specs.Found.{source_views};
-ghost use Rattle.hiera_config.specs.OptionTables.{IsOption, KeepsOptions, KeepsTables, PutsOver, are_tables, is_table};
-ghost use Rattle.hiera_config.specs.OptionTables.{first_options, kept_option, option_among};
+ghost use Rattle.hiera_config.specs.FileOptions.{is_table, kept_option, option_among};
+ghost use Rattle.hiera_config.specs.OptionTables.{KeepsOptions, KeepsTables, PutsOver, are_tables, first_options};
+ghost use Rattle.hiera_merge.specs.Digging.{member};
 ghost use Rattle.hiera_merge.specs.Merges.{pairs_in};
 
-use crate::highest::lacks_config;
-use crate::literals::is_literal;
+use crate::literals::is_table;
 use crate::planned::sound_sources;
 use crate::searching::Source;
 use crate::site_data::SiteData;
@@ -32,32 +32,21 @@ impl Drop for OptionTable {
 }
 
 impl OptionTable {
-    fn get(&self, key: &Text) -> Option<&Value>
+    pub fn get(&self, key: &Text) -> Option<&Value>
         ensures { option_map (λ v. view v.now) result ≡ kept_option self.now key.now }
     {
         self.by_key.get(key)
     }
 }
 
-/// What the options have for this key, if they have anything, where it is plain from what `SiteData::plan` read: the
-/// sources of the options are hashes in which nothing is interpolated. None where it is not plain.
-pub fn option_of<'a>(
-    alloc: Global,
-    files: &'a SiteData,
-    module_name: Option<&str>,
-    root: &str,
-) -> Option<Option<&'a Value>>
-    ensures { IfSome result (λ o. IsOption files.now (option_map (λ m. m.now) module_name.entry) root.now
-        (option_map (λ v. view v.now) o)) }
+/// The table of a hash.
+pub fn table_of(alloc: Global, hash: Value) -> Result<OptionTable, Memory>
+    requires { is_table (view hash) ≡ true }
+    ensures { IfOk result (λ t. (root : List ℕ) → kept_option t root ≡ member root (view hash)) }
 {
-    let table = files.options()?;
-    if !lacks_config(alloc, files, module_name) {
-        return None;
-    }
-    match Text::from_str(alloc, root) {
-        Ok(key) => Some(table.get(&key)),
-        Err(Memory) => None,
-    }
+    let mut by_key = BTreeMap::new(alloc);
+    put_table(alloc, &mut by_key, hash)?;
+    Ok(OptionTable { by_key })
 }
 
 /// The options of these files, where they are plain from the plans of the layers.
@@ -65,12 +54,12 @@ pub fn options_in(alloc: Global, files: &SiteData) -> Result<Option<OptionTable>
     ensures { IfOk result (λ o. IfSome o (λ t. KeepsOptions files.now t)) }
 {
     match sound_sources(alloc, files, OPTIONS)? {
-        Some(sources) => table_of(alloc, sources),
+        Some(sources) => joined_table(alloc, sources),
         None => Ok(None),
     }
 }
 
-fn table_of(alloc: Global, sources: Vec<Source>) -> Result<Option<OptionTable>, Memory>
+fn joined_table(alloc: Global, sources: Vec<Source>) -> Result<Option<OptionTable>, Memory>
     ensures { IfOk result (λ o. IfSome o (λ t. KeepsTables (source_views sources.items) t)) }
 {
     if are_tables(sources.as_slice()) {
@@ -82,7 +71,7 @@ fn table_of(alloc: Global, sources: Vec<Source>) -> Result<Option<OptionTable>, 
 }
 
 /// Whether the value of each source is a hash in which nothing is interpolated.
-pub fn are_tables(sources: &[Source]) -> bool
+fn are_tables(sources: &[Source]) -> bool
     ensures { result ≡ are_tables (source_views sources.now) }
 {
     for source in sources {
@@ -91,15 +80,6 @@ pub fn are_tables(sources: &[Source]) -> bool
         }
     }
     true
-}
-
-fn is_table(value: &Value) -> bool
-    ensures { result ≡ is_table (view value.now) }
-{
-    match value {
-        Value::Hash(_) => is_literal(value),
-        _ => false,
-    }
 }
 
 /// From the lowest table up, so that what a higher one has for a key counts.

@@ -8,7 +8,7 @@ ghost use Rattle.hiera_config.specs.Sound.{SkipsAll, SoundLayers, SoundSources, 
 ghost use Rattle.hiera_config.specs.Sound.{had_in, value_in_text};
 
 use crate::flags::mark_of;
-use crate::highest::{lacks_config, value_in_file};
+use crate::highest::{sound_plans_for, value_in_file};
 use crate::plan::FixedFile;
 use crate::searching::Source;
 use crate::site_data::SiteData;
@@ -26,12 +26,9 @@ pub fn planned_sources(
     ensures { IfOk result (λ o. IfSome o (λ v.
         AreSources files.now (option_map (λ m. m.now) module_name.entry) key.now (source_views v.items))) }
 {
-    let Some((global, environment)) = files.sound_plans() else {
+    let Some((global, environment)) = sound_plans_for(alloc, files, module_name) else {
         return Ok(None);
     };
-    if !lacks_config(alloc, files, module_name) {
-        return Ok(None);
-    }
     Ok(Some(sources_in(alloc, files, global, environment, key)?))
 }
 

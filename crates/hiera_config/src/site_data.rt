@@ -1,22 +1,22 @@
 //! The files of a site's data.
-ghost use Rattle.std.specs.Prelude.{◌≡◌, ◌&&◌, [], true, is_ok, if◌then◌else◌, IfOk, IfSome, option_map};
+ghost use Rattle.std.specs.Prelude.{◌≡◌, [], is_ok, if◌then◌else◌, IfOk, IfSome, option_map};
 ghost use Rattle.std.specs.Prelude.{option_and_then};
 ghost use Rattle.std.specs.FinMap.{find, put};
 ghost use Rattle.pp_values.specs.Rising.{text_cmp};
 ghost use Rattle.hiera_config.specs.Config.{config_of};
 ghost use Rattle.hiera_config.specs.Documents.{is_of_module, put_in};
-ghost use Rattle.hiera_config.specs.Keeping.{filed, IsKept, AreSimple, lacks_options, are_none, lacks_defaults};
-ghost use Rattle.hiera_config.specs.Keeping.{simple_file};
+ghost use Rattle.hiera_config.specs.Keeping.{filed, IsKept};
 ghost use Rattle.hiera_config.specs.OptionTables.{KeepsOptions};
 ghost use Rattle.hiera_config.specs.Planning.{PlannedAt};
 ghost use Rattle.hiera_config.specs.Sound.{SoundLayers};
 ghost use Rattle.hiera_config.specs.Sources.{global_folder};
 ghost use Rattle.serde_json.specs.View.{view as json_view};
 
-use crate::config::{Config, Level};
+use crate::config::Config;
 use crate::config_reading::{config_of, parsed};
+use crate::file_options::{FileOptions, options_of};
 use crate::flags::flags_of;
-use crate::option_table::{OPTIONS, OptionTable, options_in};
+use crate::option_table::{OptionTable, options_in};
 use crate::plan::{FixedFile, Plan, file_at, plan_at};
 use crate::soundness::{are_sound_layers, is_sound_document};
 use pp_values::{Memory, Text, TextPairs, copy_text_pairs};
@@ -34,6 +34,7 @@ pub struct DataFile {
     pub flags: Vec<bool>,
     /// No key's value is faulty in it.
     pub is_sound: bool,
+    pub options: FileOptions,
 }
 
 // By hand, so that callers drop a file by one call.
@@ -45,6 +46,7 @@ impl Drop for DataFile {
             config: _config,
             flags: _flags,
             is_sound: _is_sound,
+            options: _options,
         } = self;
     }
 }
@@ -53,8 +55,6 @@ impl Drop for DataFile {
 #[derive(Drop)]
 pub struct SiteData {
     by_path: BTreeMap<Text, DataFile>,
-    // No file has options of look-ups, and none has default levels.
-    is_simple: bool,
     // The data files of the global layer and of the environment that are found ahead, once the files are read.
     global: Plan,
     environment: Plan,
@@ -67,7 +67,7 @@ pub struct SiteData {
 impl Model for SiteData {
     ghost use Rattle.std.specs.Prelude.{◌≡◌, true, List, IfSome};
     ghost use Rattle.hiera_config.specs.Documents.{File};
-    ghost use Rattle.hiera_config.specs.Keeping.{filed, AreKept, KeptSimple};
+    ghost use Rattle.hiera_config.specs.Keeping.{filed, AreKept};
     ghost use Rattle.hiera_config.specs.OptionTables.{KeepsOptions};
     ghost use Rattle.hiera_config.specs.Planning.{ArePlanned};
     ghost use Rattle.hiera_config.specs.Sound.{SoundLayers};
@@ -76,7 +76,7 @@ impl Model for SiteData {
 
     ghost view = { λ s. filed s.by_path.entries };
 
-    ghost invariant = { λ s. AreKept s.by_path.entries × (s.is_simple ≡ true → KeptSimple s.by_path.entries)
+    ghost invariant = { λ s. AreKept s.by_path.entries
         × ArePlanned (filed s.by_path.entries) s.global.items s.environment.items
         × (s.is_sound ≡ true → SoundLayers (filed s.by_path.entries) s.global.items s.environment.items)
         × IfSome s.options (λ t. KeepsOptions (filed s.by_path.entries) t) };
@@ -88,7 +88,6 @@ impl SiteData {
     {
         SiteData {
             by_path: BTreeMap::new(alloc),
-            is_simple: true,
             global: Vec::new(alloc),
             environment: Vec::new(alloc),
             is_sound: false,
@@ -102,9 +101,7 @@ impl SiteData {
         ensures { self.new ≡ (if is_ok result then put text_cmp path text self.old else self.old) }
     {
         let file = read_file(alloc, path.as_str(), text)?;
-        let is_simple = stays_simple(self.is_simple, &file);
         drop(self.by_path.insert(path, file)?);
-        self.is_simple = is_simple;
         self.global = Vec::new(alloc);
         self.environment = Vec::new(alloc);
         self.is_sound = false;
@@ -133,14 +130,6 @@ impl SiteData {
         self.global = global;
         self.environment = environment;
         Ok(())
-    }
-
-    /// Whether no file has `lookup_options`, and none default levels, as far as is known. Then the sources of
-    /// `lookup_options` are none wherever those of another key are told.
-    pub fn is_simple(&self) -> bool
-        ensures { result ≡ true → AreSimple self.now }
-    {
-        self.is_simple
     }
 
     /// The file at this path.
@@ -212,6 +201,7 @@ fn read_file(alloc: Global, path: &str, text: Text) -> Result<DataFile, Memory>
     let json = parsed(alloc, text.as_str())?;
     let flags = flags_of(alloc, &json)?;
     let is_sound = is_sound_document(&json);
+    let options = options_of(alloc, &json)?;
     let config = config_if(alloc, is_of_module(path), &json)?;
     Ok(DataFile {
         text,
@@ -219,40 +209,8 @@ fn read_file(alloc: Global, path: &str, text: Text) -> Result<DataFile, Memory>
         config,
         flags,
         is_sound,
+        options,
     })
-}
-
-fn stays_simple(so_far: bool, file: &DataFile) -> bool
-    ensures { result ≡ (so_far && simple_file file.now) }
-{
-    so_far && lacks_options(&file.json) && lacks_defaults(&file.config)
-}
-
-fn lacks_options(json: &Option<Json>) -> bool
-    ensures { result ≡ lacks_options (option_map json_view json.now) }
-{
-    match json {
-        Some(json) => json.get(OPTIONS).is_none(),
-        None => true,
-    }
-}
-
-fn lacks_defaults(config: &Option<Config>) -> bool
-    ensures { result ≡ lacks_defaults config.now }
-{
-    match config {
-        Some(config) => are_none(config.default_levels.as_slice()),
-        None => true,
-    }
-}
-
-fn are_none(levels: &[Level]) -> bool
-    ensures { result ≡ are_none levels.now }
-{
-    match levels {
-        [] => true,
-        [_, ..] => false,
-    }
 }
 
 fn config_if(alloc: Global, is_module: bool, json: &Option<Json>) -> Result<Option<Config>, Memory>

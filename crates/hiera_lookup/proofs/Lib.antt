@@ -6,5 +6,4 @@ pub mod Lists
 mod PlainTexts
 pub mod Sources
 pub mod Steps
-pub mod Firsts
 pub mod LiteralValues

@@ -1,30 +1,29 @@
 -- Options that interpolate nothing: what the merged tables say of a root key.
-use Rattle.std.proofs.Common.{◌≡◌, ◌≢◌, ℕ, Bool, true, false, cond, ◌&&◌, ◌-◌, None, Some, Option, IsTrue, List, [], ◌∷◌, ◌++◌, map, Ok, refl, sym, ap, ◌∙◌}
-use Rattle.std.specs.Prelude.{IfSome}
+use Rattle.std.proofs.Common.{◌≡◌, ◌≢◌, ℕ, Bool, true, false, cond, ◌&&◌, ◌-◌, None, Some, Option, IsTrue, List, [], ◌∷◌, ◌++◌, map, Ok, refl, sym, ap, ◌∙◌, true≢false}
+use Rattle.std.specs.Prelude.{◌||◌, ◌==◌, Err, option_and_then}
+use Rattle.std.specs.Str.{bytes_eq}
+use Rattle.std.proofs.lemmas.Bool.Decides.{Decides-eqb}
 use Rattle.pp_values.specs.Datum.{Datum, undef, flag, int, text, list, hash, reference, kind, default, Pair, entries_of, pairs_of}
 use Rattle.pp_values.specs.Keys.{same_key, are_distinct, value_at, with_pair}
 use Rattle.pp_values.proofs.Lists.{pairs_of-entries_of, entries_of-pairs_of}
 use Rattle.hiera_config.specs.Literals.{is_literal, are_literal_pairs}
-use Rattle.hiera_config.specs.Documents.{File}
 use Rattle.hiera_config.specs.Meant.{Meant, go_on}
-use Rattle.hiera_config.specs.OptionTables.{is_table, are_tables, first_options, IsOption}
-use Rattle.hiera_lookup.specs.OptionTables.{joined_tables, merge_by, HasOption}
+use Rattle.hiera_config.specs.FileOptions.{is_table}
+use Rattle.hiera_config.specs.OptionTables.{are_tables, first_options, option_by}
 use Rattle.hiera_config.specs.Sound.{or_else}
-use Rattle.hiera_config.specs.Sources.{Source, sources}
-use Rattle.hiera_config.specs.Variables.{Variables}
+use Rattle.hiera_config.specs.Sources.{Source}
 use Rattle.hiera_config.proofs.OptionLemmas.{table_member}
-use Rattle.hiera_config.proofs.Simple.{both_left, both_right}
+use Rattle.hiera_config.proofs.Booleans.{both_left, both_right}
 use Rattle.hiera_merge.specs.declared.merge.Merge.{Merge}
 use Rattle.hiera_merge.specs.declared.merge.Merge.TheVariants as by
 use Rattle.hiera_merge.specs.DeepSteps.{AreKeyed}
 use Rattle.hiera_merge.specs.Merges.{pairs_in, with_pairs, is_hash, takes}
 use Rattle.hiera_merge.proofs.HashLemmas.{none_put, value_put, hash_distinct}
 use Rattle.hiera_lookup.specs.Found.{found, found_in, dug_or_refused}
-use Rattle.hiera_lookup.specs.Look.{Looks, is_busy, look, look_within, merge_for, interpolated}
+use Rattle.hiera_lookup.specs.Look.{Looks, is_busy, look, look_within, merge_for, option_for, interpolated}
 use Rattle.hiera_lookup.specs.Options.{options_key, option_in, of_options, or_bad}
-use Rattle.hiera_lookup.specs.Plain.{IsOptionFor, MergesBy}
+use Rattle.hiera_lookup.specs.Plain.{joined_tables, merge_by, plain_merge}
 use Rattle.hiera_lookup.specs.World.{World}
-use Rattle.hiera_lookup.proofs.Firsts.{within_none}
 use Rattle.hiera_lookup.proofs.LiteralValues.{literal_whole}
 use Rattle.hiera_lookup.proofs.Steps.{look_free, option_looked}
 
@@ -132,26 +131,16 @@ first_of_tables root (s ∷ ss) are =
     ∙ over_lower (text root) (pairs_in s.0) (joined_tables ss) (value_at (text root) (pairs_in s.0))
     (table_distinct s.0 table) refl
 
-pub merges_by_if : (root : List ℕ) (ss : List Source) (o : Option Datum) (r : Option Merge) → are_tables ss ≡ true
-    → o ≡ first_options root ss → r ≡ merge_by o → IfSome r (λ m. MergesBy ss root m)
-merges_by_if root ss o None are is says = tt
-merges_by_if root ss o (Some m) are is says =
-    (are, ap merge_by (sym (is ∙ first_of_tables root ss are)) ∙ sym says)
-
-pub told_by : (meant : Meant (List Source)) (ss : List Source) (root : List ℕ) (o : Option Merge) → meant ≡ Ok ss
-    → IfSome o (λ m. MergesBy ss root m) → IfSome o (λ m. HasOption meant root m)
-told_by meant ss root None told by = tt
-told_by meant ss root (Some m) told by =
-    record { sources = ss; told = told; tables = by.0; says = by.1 }
-
-pub has_by_option : (files : List File) (v : Variables) (name : Option (List ℕ)) (root : List ℕ) (o : Option Datum)
-    (r : Option Merge) → IsOption files name root o → r ≡ merge_by o
-    → IfSome r (λ m. HasOption (sources files v name options_key) root m)
-has_by_option files v name root o r option is =
-    told_by (sources files v name options_key) option.sources root r (option.told v)
-    (merges_by_if root option.sources o r option.tables option.first is)
-
 -- ---- the look-up of the options gives the joined tables as they are
+
+found_none : (w : World) (m : Option (List ℕ)) → w.had m options_key ≡ Ok [] → found w m options_key by.Hash ≡ Ok None
+unfolding found found_in go_on
+found_none w m none = ap (λ o. go_on o (found_in options_key by.Hash)) none
+
+within_none : (w : World) (f : Looks) (busy : List (List ℕ)) (m : Option (List ℕ)) → w.had m options_key ≡ Ok []
+    → look_within w f busy m options_key (Some by.Hash) ≡ Ok (None, [])
+unfolding look_within merge_for interpolated go_on
+within_none w f busy m none = ap (λ o. go_on o (interpolated w f busy)) (found_none w m none)
 
 found_tables : (w : World) (m : Option (List ℕ)) (s : Source) (ss : List Source) → w.had m options_key ≡ Ok (s ∷ ss)
     → are_tables (s ∷ ss) ≡ true
@@ -189,17 +178,45 @@ by_sources w f busy m root merge (s ∷ ss) told are is =
     ∙ ap (λ qs. of_options w m [] root (value_at (text root) qs)) (pairs_of-entries_of ps)
     ∙ options_say w m root merge (value_at (text root) ps) is
 
-is_option_for : (w : World) (n : ℕ) (busy : List (List ℕ)) (m : Option (List ℕ)) (root : List ℕ) (merge : Merge)
-    → is_busy busy options_key ≡ false → n ≢ 0 → HasOption (w.had m options_key) root merge
-    → IsOptionFor w n busy m root merge
-is_option_for w n busy m root merge free begins has = λ other.
-    option_looked w (look w n) busy m root other
-    ∙ ap (λ o. go_on o (option_in w m root)) (look_free w n busy m options_key (Some by.Hash) free begins)
-    ∙ by_sources w (look w (n - 1)) (busy ++ options_key ∷ []) m root merge has.sources has.told has.tables has.says
+-- ---- where it is plain
 
-pub is_option_for_if : (w : World) (n : ℕ) (busy : List (List ℕ)) (m : Option (List ℕ)) (root : List ℕ)
-    (o : Option Merge) → is_busy busy options_key ≡ false → n ≢ 0
-    → IfSome o (λ merge. HasOption (w.had m options_key) root merge)
-    → IfSome o (λ merge. IsOptionFor w n busy m root merge)
-is_option_for_if w n busy m root None free begins has = tt
-is_option_for_if w n busy m root (Some merge) free begins has = is_option_for w n busy m root merge free begins has
+from_tables : (root : List ℕ) (ss : List Source) (merge : Merge) (b : Bool) → are_tables ss ≡ b
+    → Some merge ≡ option_and_then merge_by (cond b (Some (first_options root ss)) None)
+    → (are_tables ss ≡ true) × (merge_by (value_at (text root) (joined_tables ss)) ≡ Some merge)
+from_tables root ss merge true are is = (are, ap merge_by (sym (first_of_tables root ss are)) ∙ sym is)
+from_tables root ss merge false are is = absurd (cc is)
+
+by_told : (w : World) (f : Looks) (busy : List (List ℕ)) (m : Option (List ℕ)) (root : List ℕ) (merge : Merge)
+    (o : Meant (List Source)) → w.had m options_key ≡ o → Some merge ≡ option_and_then merge_by (option_by root o)
+    → go_on (look_within w f busy m options_key (Some by.Hash)) (option_in w m root) ≡ Ok merge
+by_told w f busy m root merge (Ok ss) told is =
+    let tables = from_tables root ss merge (are_tables ss) refl is in
+    by_sources w f busy m root merge ss told tables.0 tables.1
+by_told w f busy m root merge (Err e) told is = absurd (cc is)
+
+left_false : (a b : Bool) → (a || b) ≡ false → a ≡ false
+left_false true b is = absurd (cc is)
+left_false false b is = refl
+
+right_false : (a b : Bool) → (a || b) ≡ false → b ≡ false
+right_false true b is = absurd (cc is)
+right_false false b is = is
+
+plain_by : (w : World) (n : ℕ) (busy : List (List ℕ)) (m : Option (List ℕ)) (root : List ℕ) (merge : Merge) (b : Bool)
+    → ((n == 0) || is_busy busy options_key) ≡ b
+    → Some merge ≡ cond b None (option_and_then merge_by (option_by root (w.had m options_key)))
+    → bytes_eq root options_key ≡ false → option_for w (look w n) busy m root ≡ Ok merge
+plain_by w n busy m root merge true begins is other = absurd (cc is)
+plain_by w n busy m root merge false begins is other =
+    let none = left_false (n == 0) (is_busy busy options_key) begins in
+    let more : n ≢ 0 = λ zero. true≢false (sym ((Decides-eqb n 0).1 zero) ∙ none) in
+    option_looked w (look w n) busy m root other
+    ∙ ap (λ o. go_on o (option_in w m root))
+    (look_free w n busy m options_key (Some by.Hash) (right_false (n == 0) (is_busy busy options_key) begins) more)
+    ∙ by_told w (look w (n - 1)) (busy ++ options_key ∷ []) m root merge (w.had m options_key) refl is
+
+pub plain_is : (w : World) (n : ℕ) (busy : List (List ℕ)) (m : Option (List ℕ)) (root : List ℕ) (merge : Merge)
+    → Some merge ≡ plain_merge w n busy m root → bytes_eq root options_key ≡ false
+    → option_for w (look w n) busy m root ≡ Ok merge
+plain_is w n busy m root merge is other =
+    plain_by w n busy m root merge ((n == 0) || is_busy busy options_key) refl is other

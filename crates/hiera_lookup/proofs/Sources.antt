@@ -1,11 +1,11 @@
 -- Sources as the code holds them.
 use Rattle.std.proofs.Common.{◌≡◌, ℕ, zero, suc, ◌+◌, ◌<◌, true, false, List, [], ◌∷◌, length, drop, get_or, Option, None, Some, map, Ok, refl, sym, ap, ◌∙◌, arith}
-use Rattle.std.specs.Prelude.{option_and_then, slice_get}
+use Rattle.std.specs.Prelude.{Err, option_and_then}
 use Rattle.pp_values.specs.Views.{view, views}
 use Rattle.pp_values.specs.declared.value.Value.{Value}
 use Rattle.hiera_config.specs.Found.{source_views}
-use Rattle.hiera_config.specs.Meant.{go_on}
-use Rattle.hiera_config.specs.Sound.{first_value}
+use Rattle.hiera_config.specs.Meant.{Meant, go_on}
+use Rattle.hiera_config.specs.Sound.{first_value, highest}
 use Rattle.hiera_config.specs.Sources as s
 use Rattle.hiera_config.specs.declared.searching.Source.{Source}
 use Rattle.hiera_merge.specs.declared.merge.Merge.{Merge}
@@ -16,7 +16,6 @@ use Rattle.hiera_merge.specs.Merges.{merged}
 use Rattle.hiera_lookup.specs.Filled.{Answer}
 use Rattle.hiera_lookup.specs.Found.{found, found_in, dug_or_refused, root_of, steps_of}
 use Rattle.hiera_lookup.specs.Options.{has_options, highest_path}
-use Rattle.hiera_lookup.specs.Plain.{IsFound}
 use Rattle.hiera_lookup.specs.World.{World}
 
 pub found_none : (key : List ℕ) (merge : Merge) (xs : List Source) → map (λ s. view s.value) xs ≡ []
@@ -44,31 +43,25 @@ pub none_of_length : (vs : List Value) → length vs ≡ 0 → views vs ≡ []
 none_of_length [] is = refl
 none_of_length (v ∷ vs) is = absurd (omega (arith, is))
 
--- by `first`, the highest alone
-pub found_first : (key : List ℕ) (merge : Merge) (xs : List Source) (steps : List (List ℕ)) (d : Datum)
-    (found : Option Datum) → merge ≡ by.First → slice_get (map (λ s. view s.value) xs) 0 ≡ Some d → steps ≡ steps_of key
-    → found ≡ dug steps d → found_in key merge (source_views xs) ≡ Ok found
+by_first : (key : List ℕ) (merge : Merge) (ss : List s.Source) → merge ≡ by.First
+    → found_in key merge ss ≡ Ok (option_and_then (dug (steps_of key)) (first_value ss))
 unfolding found_in
-found_first key merge [] steps d found first at same is = absurd (cc at)
-found_first key merge (x ∷ xs) steps d found first at same is =
-    let high : view x.value ≡ d = cc at in
-    rw (first, is, same, sym high) refl
-
-by_first : (key : List ℕ) (merge : Merge) (ss : List s.Source) (v : Option Datum) → merge ≡ by.First
-    → first_value ss ≡ v → found_in key merge ss ≡ Ok (option_and_then (dug (steps_of key)) v)
-unfolding found_in
-by_first key merge [] v first is = ap (λ o. Ok (option_and_then (dug (steps_of key)) o)) is
-by_first key merge (x ∷ xs) v first is =
+by_first key merge [] first = refl
+by_first key merge (x ∷ xs) first =
     ap (λ m. dug_or_refused key (merged m x.0 (map (λ (y : s.Source). y.0) xs))) first
-    ∙ ap (λ o. Ok (option_and_then (dug (steps_of key)) o)) is
 
--- what the highest has, where that is known without the others
-pub found_highest : (w : World) (m : Option (List ℕ)) (key : List ℕ) (merge : Merge) (v o : Option Datum)
-    → IsFound w m (root_of key) merge v → o ≡ option_and_then (dug (steps_of key)) v → found w m key merge ≡ Ok o
-unfolding found go_on
-found_highest w m key merge v o known is =
-    ap (λ x. go_on x (found_in key merge)) known.highest.told
-    ∙ by_first key merge known.highest.sources v known.first known.highest.highest ∙ ap Ok (sym is)
+highest_in : (key : List ℕ) (merge : Merge) (o : Meant (List s.Source)) → merge ≡ by.First
+    → go_on o (found_in key merge) ≡ go_on (highest o) (λ v. Ok (option_and_then (dug (steps_of key)) v))
+unfolding go_on
+highest_in key merge (Ok ss) first = by_first key merge ss first
+highest_in key merge (Err f) first = refl
+
+-- by `first`, what the highest has
+pub found_highest : (w : World) (m : Option (List ℕ)) (key : List ℕ) (merge : Merge) → merge ≡ by.First
+    → found w m key merge
+    ≡ go_on (highest (w.had m (root_of key))) (λ v. Ok (option_and_then (dug (steps_of key)) v))
+unfolding found
+found_highest w m key merge first = highest_in key merge (w.had m (root_of key)) first
 
 -- ---- the file of options that are none
 

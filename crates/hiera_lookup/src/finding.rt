@@ -1,13 +1,11 @@
 //! What the sources have for a key.
-ghost use Rattle.std.specs.Prelude.{◌≡◌, ◌<◌, ◌∷◌, IfOk, IfSome, Some, length, map, option_map, option_and_then};
-ghost use Rattle.std.specs.Prelude.{slice_get, vec_len};
+ghost use Rattle.std.specs.Prelude.{◌≡◌, ◌<◌, ◌∷◌, IfOk, map, option_map, option_and_then, vec_len};
 ghost use Rattle.pp_values.specs.Views.{view, views};
 ghost use Rattle.hiera_config.specs.Meant.{MeetsBy};
 ghost use Rattle.hiera_config.specs.Found.{source_views};
 ghost use Rattle.hiera_merge.specs.Digging.{dug};
 ghost use Rattle.hiera_merge.specs.Merges.{merged};
 ghost use Rattle.hiera_lookup.specs.Found.{found, found_in, dug_or_refused, root_of, steps_of};
-ghost use Rattle.hiera_lookup.specs.Plain.{IsFound};
 ghost use Rattle.hiera_lookup.specs.World.{seen};
 
 use crate::refusals::mismatch_at;
@@ -31,56 +29,19 @@ pub fn find_value(
 {
     let parts = parts(alloc, key)?;
     let root_key = root(&parts);
-    if let Some(value) = highest_if(alloc, world, of_module, root_key, merge) {
-        return Ok(part_if(alloc, value, steps(&parts))?);
-    }
-    let sources = sources(alloc, world.data, &world.variables, of_module, root_key)?;
-    found_in(alloc, key, steps(&parts), merge, sources)
-}
-
-/// By `first`, what the highest source has, where it is plain without a look at the others.
-fn highest_if(
-    alloc: Global,
-    world: &World<'_>,
-    of_module: Option<&str>,
-    root: &str,
-    merge: Merge,
-) -> Option<Option<Value>>
-    ensures { IfSome result (λ v. IsFound (seen world.now) (option_map (λ t. t.now) of_module.entry) root.now merge
-        (option_map view v)) }
-{
     match merge {
-        Merge::First => highest_value(alloc, world.data, of_module, root),
-        _ => None,
+        Merge::First => {
+            let value = highest_value(alloc, world.data, &world.variables, of_module, root_key)?;
+            Ok(part_if(alloc, value, steps(&parts))?)
+        }
+        _ => {
+            let sources = sources(alloc, world.data, &world.variables, of_module, root_key)?;
+            found_in(alloc, key, steps(&parts), merge, sources)
+        }
     }
 }
 
 fn found_in(
-    alloc: Global,
-    key: &str,
-    steps: &[&str],
-    merge: Merge,
-    sources: Vec<Source>,
-) -> Result<Option<Value>, Refused>
-    requires { map (λ x. x.now) steps.now ≡ steps_of key.now }
-    ensures { MeetsBy (option_map view) result (found_in key.now merge (source_views sources.items)) }
-{
-    match merge {
-        Merge::First if !sources.is_empty() => Ok(part(alloc, highest(sources), steps)?),
-        _ => found_in_all(alloc, key, steps, merge, sources),
-    }
-}
-
-/// The value of the highest source.
-fn highest(sources: Vec<Source>) -> Value
-    requires { 0 < length sources.items }
-    ensures { slice_get (map (λ s. view s.value) sources.items) 0 ≡ Some (view result) }
-{
-    let mut sources = sources;
-    sources.swap_remove(0).into_value()
-}
-
-fn found_in_all(
     alloc: Global,
     key: &str,
     steps: &[&str],

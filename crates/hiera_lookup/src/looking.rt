@@ -1,10 +1,9 @@
 //! Look-ups, and the look-ups within them.
-ghost use Rattle.std.specs.Prelude.{◌≡◌, [], true, IfSome, option_map};
+ghost use Rattle.std.specs.Prelude.{◌≡◌, [], option_map};
 ghost use Rattle.pp_values.specs.Views.{view};
 ghost use Rattle.hiera_config.specs.Meant.{MeetsBy};
 ghost use Rattle.hiera_lookup.specs.Look.{answer, answers, interpolated, option_for, merge_for, look_within, look};
 ghost use Rattle.hiera_lookup.specs.Looked.{looked_view};
-ghost use Rattle.hiera_lookup.specs.Plain.{IsFirst, LacksOptions};
 ghost use Rattle.hiera_lookup.specs.World.{seen};
 
 use crate::answer::{Answer, Answers};
@@ -60,9 +59,6 @@ fn look_within(
         (look_within (seen world.now) (look (seen world.now) left) busy.now
         (option_map (λ t. t.now) of_module.entry) key.now merge) }
 {
-    if let Some(value) = found_first(alloc, world, busy, of_module, key, merge, left) {
-        return interpolated(alloc, world, busy, value, left);
-    }
     let merge = merge_for(alloc, world, busy, of_module, key, merge, left)?;
     let value = find_value(alloc, world, of_module, key, merge)?;
     interpolated(alloc, world, busy, value, left)
@@ -108,7 +104,7 @@ fn option_for(
     if root == OPTIONS {
         return Ok(Merge::Hash);
     }
-    if let Some(merge) = plain_option(alloc, world, busy, of_module, root, left) {
+    if let Some(merge) = plain_option(alloc, world, busy, of_module, root, left)? {
         return Ok(merge);
     }
     let options = look(
@@ -220,41 +216,5 @@ fn answer(
             Ok(Answer::new(key.copy(alloc)?, looked.value))
         }
         Ask::Broken(text) => Err(bad_interpolation(alloc, text.as_str())),
-    }
-}
-
-/// What the sources have by `first`, where it is plain that no options say otherwise. A fault is left to whoever looks
-/// for the options first.
-fn found_first(
-    alloc: Global,
-    world: &World<'_>,
-    busy: &Texts,
-    of_module: Option<&str>,
-    key: &str,
-    merge: Option<Merge>,
-    left: u64,
-) -> Option<Option<Value>>
-    ensures { IfSome result (λ v. IsFirst (seen world.now) left busy.now
-        (option_map (λ t. t.now) of_module.entry) key.now merge (option_map view v)) }
-{
-    if merge.is_some() || !lacks_options(alloc, world, busy, key, left) {
-        return None;
-    }
-    match find_value(alloc, world, of_module, key, Merge::First) {
-        Ok(value) => Some(value),
-        Err(_) => None,
-    }
-}
-
-/// Whether it is plain that a look-up for options would find none.
-fn lacks_options(alloc: Global, world: &World<'_>, busy: &Texts, key: &str, left: u64) -> bool
-    ensures { result ≡ true → LacksOptions world.now.data.now left busy.now key.now }
-{
-    if left == 0 || !world.data.is_simple() || is_busy(busy, OPTIONS) {
-        return false;
-    }
-    match root_of(alloc, key) {
-        Ok(root) => root != OPTIONS,
-        Err(_) => false,
     }
 }

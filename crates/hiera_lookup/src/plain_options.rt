@@ -1,18 +1,16 @@
 //! The merge of a key by its options, where it is plain without all options merged.
-ghost use Rattle.std.specs.Prelude.{◌≡◌, IfSome, option_map};
+ghost use Rattle.std.specs.Prelude.{◌≡◌, IfOk, option_and_then, option_map};
 ghost use Rattle.pp_values.specs.Views.{view};
-ghost use Rattle.hiera_config.specs.Found.{source_views};
-ghost use Rattle.hiera_config.specs.OptionTables.{first_options};
-ghost use Rattle.hiera_lookup.specs.OptionTables.{HasOption, merge_by};
+ghost use Rattle.hiera_config.specs.OptionTables.{option_by};
+ghost use Rattle.hiera_lookup.specs.Plain.{merge_by, plain_merge};
 ghost use Rattle.hiera_lookup.specs.Options.{options_key};
-ghost use Rattle.hiera_lookup.specs.Plain.{IsOptionFor, MergesBy};
 ghost use Rattle.hiera_lookup.specs.World.{seen};
 
 use crate::busy::is_busy;
 use crate::world::World;
-use hiera_config::{OPTIONS, Source, are_tables, option_of, sources};
-use hiera_merge::{Merge, member, merge_of};
-use pp_values::{Texts, Value};
+use hiera_config::{OPTIONS, option_of};
+use hiera_merge::{Merge, merge_of};
+use pp_values::{Memory, Texts, Value};
 use std::alloc::Global;
 
 /// The merge that the options give for a root key, where these interpolate nothing and their look-up may begin. None
@@ -24,15 +22,12 @@ pub fn plain_option(
     of_module: Option<&str>,
     root: &str,
     left: u64,
-) -> Option<Merge>
-    ensures { IfSome result (λ m. IsOptionFor (seen world.now) left busy.now
-        (option_map (λ t. t.now) of_module.entry) root.now m) }
+) -> Result<Option<Merge>, Memory>
+    ensures { IfOk result (λ o. o
+        ≡ plain_merge (seen world.now) left busy.now (option_map (λ t. t.now) of_module.entry) root.now) }
 {
-    if left == 0 {
-        return None;
-    }
-    if is_busy(busy, OPTIONS) {
-        return None;
+    if left == 0 || is_busy(busy, OPTIONS) {
+        return Ok(None);
     }
     told_option(alloc, world, of_module, root)
 }
@@ -42,58 +37,21 @@ fn told_option(
     world: &World<'_>,
     of_module: Option<&str>,
     root: &str,
-) -> Option<Merge>
-    ensures { IfSome result (λ m.
-        HasOption ((seen world.now).had (option_map (λ t. t.now) of_module.entry) options_key) root.now m) }
+) -> Result<Option<Merge>, Memory>
+    ensures { IfOk result (λ o. o ≡ option_and_then merge_by
+        (option_by root.now ((seen world.now).had (option_map (λ t. t.now) of_module.entry) options_key))) }
 {
-    match option_of(alloc, world.data, of_module, root) {
-        Some(options) => merge_by(options),
-        None => source_option(alloc, world, of_module, root),
+    match option_of(alloc, world.data, &world.variables, of_module, root)? {
+        Some(option) => Ok(merge_by(option)),
+        None => Ok(None),
     }
 }
 
-/// By the sources of the options, which are read for this key alone.
-fn source_option(
-    alloc: Global,
-    world: &World<'_>,
-    of_module: Option<&str>,
-    root: &str,
-) -> Option<Merge>
-    ensures { IfSome result (λ m.
-        HasOption ((seen world.now).had (option_map (λ t. t.now) of_module.entry) options_key) root.now m) }
+fn merge_by(option: Option<&Value>) -> Option<Merge>
+    ensures { result ≡ merge_by (option_map (λ v. view v.now) option.entry) }
 {
-    match sources(alloc, world.data, &world.variables, of_module, OPTIONS) {
-        Ok(sources) => option_in_tables(sources.as_slice(), root),
-        Err(_) => None,
-    }
-}
-
-fn option_in_tables(sources: &[Source], root: &str) -> Option<Merge>
-    ensures { IfSome result (λ m. MergesBy (source_views sources.now) root.now m) }
-{
-    if !are_tables(sources) {
-        return None;
-    }
-    merge_by(options_in(sources, root))
-}
-
-fn merge_by(options: Option<&Value>) -> Option<Merge>
-    ensures { result ≡ merge_by (option_map (λ v. view v.now) options.entry) }
-{
-    match options {
-        Some(options) => merge_of(options),
+    match option {
+        Some(option) => merge_of(option),
         None => Some(Merge::First),
     }
-}
-
-/// What the highest of these tables that has the key has for it.
-fn options_in<'s>(sources: &'s [Source], root: &str) -> Option<&'s Value>
-    ensures { option_map (λ v. view v.now) result ≡ first_options root.now (source_views sources.now) }
-{
-    for source in sources {
-        if let Some(options) = member(&source.value, root) {
-            return Some(options);
-        }
-    }
-    None
 }

@@ -1,7 +1,8 @@
 -- The tables that are left, put over what is kept so far, give the whole.
 use Rattle.std.proofs.Common.{◌≡◌, ℕ, true, List, length}
 use Rattle.hiera_config.specs.Found.{source_views}
-use Rattle.hiera_config.specs.OptionTables.{are_tables, first_options, option_among}
+use Rattle.hiera_config.specs.FileOptions.{option_among}
+use Rattle.hiera_config.specs.OptionTables.{are_tables, first_options}
 use Rattle.hiera_config.specs.Sound.{or_else}
 use Rattle.hiera_config.proofs.option_table.joined.Given as goal
 

@@ -3,7 +3,7 @@ use Rattle.std.proofs.Common.{◌≡◌, ℕ, List, length}
 use Rattle.pp_values.specs.Datum.{text}
 use Rattle.pp_values.specs.Keys.{value_at}
 use Rattle.pp_values.specs.Views.{pair_views}
-use Rattle.hiera_config.specs.OptionTables.{option_among}
+use Rattle.hiera_config.specs.FileOptions.{option_among}
 use Rattle.hiera_config.specs.Sound.{or_else}
 use Rattle.hiera_config.proofs.option_table.put_pairs.Given as goal
 

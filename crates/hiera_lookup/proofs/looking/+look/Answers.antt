@@ -6,8 +6,8 @@ use Rattle.hiera_config.proofs.Meets.{after_ok, after_err, gives, refuses, same_
 use Rattle.hiera_lookup.specs.Asks.{asks}
 use Rattle.hiera_lookup.specs.Look.{answer, interpolated, merge_for, look_within, look}
 use Rattle.hiera_lookup.specs.World.{seen}
-use Rattle.hiera_lookup.proofs.Firsts.{first_within}
 use Rattle.hiera_lookup.proofs.LiteralValues.{literal_whole}
+use Rattle.hiera_lookup.proofs.PlainOptions.{plain_is}
 use Rattle.hiera_lookup.proofs.Steps.{look_busy, look_deep, look_free, answers_at, answers_made, answers_end, interpolated_by, option_hash, option_looked}
 use Rattle.hiera_lookup.proofs.looking.+look.Goals as goal
 
@@ -25,18 +25,14 @@ unfolding look_within
 look_within-returns t c =
     after_ok _ c.in_ok-merge.ensures
     (after_ok _ c.in_ok-value.ensures
-    c.interpolated-2.ensures)
-
-pub look_within-returns-in-Some : goal.look_within-returns-in-Some
-look_within-returns-in-Some t c =
-    same_meets (first_within _ _ _ _ _ _ _ c.in-Some.ensures)
-    c.interpolated.ensures
+    c.interpolated.ensures)
 
 pub option_for-returns-then-eq : goal.option_for-returns-then-eq
 option_for-returns-then-eq t c = same_meets (option_hash _ _ _ _ _ (sym c.eq.ensures ∙ c.if-eq.true)) (gives refl)
 
 pub option_for-returns-in-Some : goal.option_for-returns-in-Some
-option_for-returns-in-Some t c = gives (c.in-Some.ensures (sym c.eq.ensures ∙ c.if-eq.false))
+option_for-returns-in-Some t c =
+    gives (plain_is _ _ _ _ _ _ (sym c.in-Some.is ∙ c.in_ok-plain_option.ensures) (sym c.eq.ensures ∙ c.if-eq.false))
 
 pub option_for-returns-in_err-options : goal.option_for-returns-in_err-options
 option_for-returns-in_err-options t c =

@@ -1,5 +1,5 @@
--- What the clauses of `site_main` rest on, and a reader has to believe: Given, SiteView, Refusals,
--- Documents, Keeping, Files, GivenFacts, Nodes, RequestsOf, Machines, Bundles, Walks, Gathering, FolderSites
+-- What the clauses of `site_main` rest on, and a reader has to believe: Given, SiteView, Refusals, Documents,
+-- Keeping, Files, GivenFacts, Nodes, RequestsOf, Machines, Bundles, Walks, Gathering, FolderSites
 -- What functions promise one another, what types keep, and what proofs read: Listing, Templates
 pub mod Given
 pub mod SiteView

@@ -1,18 +1,16 @@
 -- The entry that its own line says is the entry, and what is said to be one is one.
-use Rattle.std.proofs.Common.{◌≡◌, inl, inr, ℕ, suc, ◌+◌, ◌^◌, ◌<◌, ◌≤◌, Bool, true, false, ◌&&◌, if◌then◌else◌, nat_lt, List, [], ◌∷◌, ◌++◌, length, map, codes, decimal, Option, Some, None, option_map, option_and_then, refl, sym, ap, ap₂, subst, ◌∙◌, arith, append_assoc, length-append}
+use Rattle.std.proofs.Common.{◌≡◌, inl, ℕ, ◌^◌, ◌<◌, ◌≤◌, Bool, true, false, ◌&&◌, if◌then◌else◌, nat_lt, List, ◌++◌, length, codes, decimal, Option, Some, None, option_map, option_and_then, refl, sym, ap, ap₂, ◌∙◌, arith, append_assoc, length-append}
 use Rattle.std.proofs.lemmas.Bool.{lt-ltb, ltb-true}
 use Rattle.std.proofs.lemmas.List.Sums.{count_by-le-length}
 use Rattle.std.specs.Cmp.{first_so, second_so}
 use Rattle.std.specs.Cmp.Derive.{both_true}
 use Rattle.std.specs.List.{list_all, count_by}
-use Rattle.std.specs.Prelude.{⊤, IsTrue}
 use Rattle.std.specs.Str.{bytes_eq}
 use Rattle.json.specs.Print.{quoted}
 use Rattle.serde_json.proofs.OnLiterals.{serde_json_on_literals}
 use Rattle.serde_json.specs.Data.{Data, null, Items, no_items, item, string, array}
 use Rattle.serde_json.specs.Data as j
 use Rattle.serde_json.specs.Find.{get, as_array, as_number, as_u64}
-use Rattle.serde_json.specs.View.{items_of}
 use Rattle.serde_json.specs.Written.{compact_text}
 use Rattle.pp_values.specs.Datum.{Datum}
 use Rattle.pp_values.specs.Facts.{are_facts}
@@ -32,8 +30,7 @@ use Rattle.agent_docs.specs.ReportText.{has_changed, has_failed, was_noop, fault
 use Rattle.agent_docs.specs.ReportReading.{text_at, items_at, report_in}
 use Rattle.agent_docs.proofs.ReportsRead.{Holds, holds_then, holds_if, is_same, same_bytes, report_complete, report_sound}
 use Rattle.site_bundle.specs.SiteView.{SiteView}
-use Rattle.site_docs.specs.SiteText.{site_data}
-use Rattle.site_docs.specs.JournalText.{export_data, publication_object, deactivation_object, deployment_object, filing_object, plain_data, entry_data}
+use Rattle.site_docs.specs.JournalText.{publication_object, deactivation_object, deployment_object, filing_object, plain_data, entry_data}
 use Rattle.journal_reading.specs.Journals.{IsSite, is_count, is_export, is_publication, IsEntry}
 use Rattle.journal_reading.specs.EntryReading.{if_count, number_at, maker_said, exports_said, work_said, publication_of, named_said, publication_said, removal_of, removal_said, deployment_of, deployment_said, within, filing_of, filing_in, filing_said, said_as, entry_said}
 use Rattle.journal_reading.specs.SiteReading.{facts_said, site_said}

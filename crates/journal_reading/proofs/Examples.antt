@@ -1,5 +1,5 @@
 -- Texts, and what is read of them as journals.
-use Rattle.std.proofs.Common.{◌≡◌, ℕ, Bool, true, false, List, [], ◌∷◌, ◌++◌, Option, Some, None, Result, Ok, Err, pos, refl, codes}
+use Rattle.std.proofs.Common.{◌≡◌, ℕ, List, [], ◌∷◌, ◌++◌, Some, None, Ok, Err, pos, refl, codes}
 use Rattle.std.specs.Fmt.{digits}
 use Rattle.std.specs.Prelude.{⊤}
 use Rattle.serde_json.proofs.OnLiterals.{serde_json_on_literals}

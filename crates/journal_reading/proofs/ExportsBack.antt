@@ -1,16 +1,15 @@
 -- The exported resource that its own JSON says is the resource, and what is said to be one is one.
-use Rattle.std.proofs.Common.{◌≡◌, ℕ, ◌+◌, ◌-◌, ◌*◌, ◌/◌, ◌%◌, ◌^◌, ◌<◌, ◌≤◌, ◌==◌, Bool, true, false, ◌&&◌, ◌||◌, nat_lt, List, [], ◌∷◌, ◌++◌, map, codes, decimal, Option, Some, None, option_map, option_and_then, refl, sym, ap, ap₂, subst, ◌∙◌, arith}
+use Rattle.std.proofs.Common.{◌≡◌, ℕ, ◌+◌, ◌-◌, ◌*◌, ◌/◌, ◌%◌, ◌^◌, ◌<◌, ◌≤◌, ◌==◌, Bool, true, false, ◌&&◌, ◌||◌, List, [], ◌∷◌, ◌++◌, map, codes, decimal, Some, None, option_map, option_and_then, refl, ap, ap₂, ◌∙◌, arith}
 use Rattle.std.proofs.lemmas.Bool.{lt-ltb, ltb-true, eq-eqb}
 use Rattle.std.proofs.lemmas.Fmt.{decimal_by_steps}
 use Rattle.std.specs.Char.{is_ascii_digit, to_ascii_lowercase, to_ascii_uppercase}
 use Rattle.std.specs.Cmp.{first_so, second_so}
 use Rattle.std.specs.Cmp.Derive.{both_true}
 use Rattle.std.specs.List.{list_all}
-use Rattle.std.specs.Prelude.{⊤, if◌then◌else◌}
+use Rattle.std.specs.Prelude.{if◌then◌else◌}
 use Rattle.std.specs.Str.{str_to_ascii_lowercase}
 use Rattle.serde_json.proofs.OnLiterals.{serde_json_on_literals}
-use Rattle.serde_json.specs.Data.{Data, Items, no_items, item, Members, no_members, member, string, array, object}
-use Rattle.serde_json.specs.Find.{get, as_array, as_str}
+use Rattle.serde_json.specs.Data.{Data, Items, no_items, item, Members, no_members, member, string, array}
 use Rattle.serde_json.specs.View.{items_of}
 use Rattle.pp_values.specs.Datum.{Datum}
 use Rattle.pp_values.specs.Kinds.{is_kind, is_kind_byte, kind_of}
@@ -39,7 +38,7 @@ use Rattle.site_docs.specs.JournalText.{export_object, export_data}
 use Rattle.journal_reading.specs.Journals.{is_count, is_export}
 use Rattle.journal_reading.specs.EntryReading.{cut_last, with_digit, digits_from, place_of, place_said, settings_said, if_rising, attributes_said, if_tags, tags_said, kind_said, name_said, resource_of, lists_said, if_plain, resource_said, export_said, exports_said}
 use Rattle.journal_reading.specs.SiteReading.{members_at}
-use Rattle.journal_reading.proofs.SitesBack.{read_at, members_read, value_proper}
+use Rattle.journal_reading.proofs.SitesBack.{members_read, value_proper}
 
 -- ---- the digits of a number
 

@@ -1,13 +1,12 @@
 -- Journals of one text are of one history.
-use Rattle.std.proofs.Common.{◌≡◌, ℕ, suc, ◌+◌, ◌^◌, ◌<◌, ◌≤◌, Bool, true, false, List, [], ◌∷◌, ◌++◌, length, codes, Option, Some, None, option_and_then, refl, sym, ap, ap₂, subst, ◌∙◌, arith, append_assoc, length-append}
+use Rattle.std.proofs.Common.{◌≡◌, ℕ, suc, ◌+◌, ◌^◌, ◌<◌, Bool, true, false, List, [], ◌∷◌, ◌++◌, length, codes, Option, Some, None, option_and_then, refl, sym, ap, ap₂, subst, ◌∙◌, arith, length-append}
 use Rattle.std.specs.Cmp.{first_so, second_so}
 use Rattle.std.specs.List.{list_all}
-use Rattle.std.specs.Str.{bytes_eq}
 use Rattle.serde_json.specs.Data.{Data}
 use Rattle.serde_json.specs.Find.{get}
 use Rattle.serde_json.specs.Written.{compact_text}
 use Rattle.site_core.specs.Events.{Event, opens, publishes, adds, is_later}
-use Rattle.json_documents.specs.LinesOfText.{cut_at, has_byte}
+use Rattle.json_documents.specs.LinesOfText.{cut_at}
 use Rattle.json_documents.specs.Tokens.{line}
 use Rattle.json_documents.proofs.Cutting.{split_here}
 use Rattle.json_documents.proofs.Feeds.{no_feed}
@@ -15,7 +14,7 @@ use Rattle.json_documents.proofs.ReadBack.{one_value}
 use Rattle.agent_docs.proofs.ReportsRead.{is_same}
 use Rattle.site_bundle.specs.SiteView.{SiteView}
 use Rattle.site_docs.specs.JournalText.{count_object, entry_data, entry_lines, journal_text}
-use Rattle.journal_reading.specs.Journals.{IsSite, IsEntry, AreAll, IsHistory, is_first, first_text}
+use Rattle.journal_reading.specs.Journals.{IsSite, IsEntry, AreAll, IsHistory, first_text}
 use Rattle.journal_reading.specs.EntryReading.{entry_said}
 use Rattle.journal_reading.specs.JournalLaws.{JournalsAreToldApart, FirstJournalsAreToldApart}
 use Rattle.journal_reading.specs.JournalLines.{opening_data}

@@ -1,23 +1,20 @@
 -- What is read of a text line by line is the history whose journal it is, or the first bad line.
-use Rattle.std.proofs.Common.{◌≡◌, inl, inr, ℕ, suc, ◌+◌, ◌^◌, ◌<◌, ◌==◌, Bool, true, false, ◌&&◌, not, if◌then◌else◌, List, [], ◌∷◌, ◌++◌, length, Option, Some, None, option_map, option_and_then, Result, Ok, Err, refl, sym, ap, subst, ◌∙◌, arith, append_assoc}
+use Rattle.std.proofs.Common.{◌≡◌, inl, inr, ℕ, suc, ◌+◌, ◌^◌, ◌<◌, Bool, true, false, not, List, [], ◌∷◌, ◌++◌, length, Option, Some, None, Result, Ok, Err, refl, sym, ap, subst, ◌∙◌, arith, append_assoc}
 use Rattle.std.specs.Cmp.{first_so, second_so}
 use Rattle.std.specs.Cmp.Derive.{both_true}
 use Rattle.std.specs.List.{list_all}
-use Rattle.std.specs.Prelude.{⊤}
-use Rattle.serde_json.specs.Data.{Data}
 use Rattle.serde_json.specs.Written.{compact_text}
 use Rattle.site_core.specs.Events.{Event, opens, publishes, adds, is_opening, is_later}
 use Rattle.json_documents.specs.declared.doc_stop.DocStop.{DocStop}
 use Rattle.json_documents.specs.declared.doc_stop.DocStop.TheVariants as stop
-use Rattle.json_documents.specs.LineDocuments.{LineTable, split_lines, with_byte, add_byte, result_map, IsDocument, at_end, lines_read, read_lines}
-use Rattle.json_documents.specs.LinesOfText.{first_lines, cut_at, cut_line, Begins, IsFirstBad, ReadsDocument}
+use Rattle.json_documents.specs.LineDocuments.{result_map, IsDocument, read_lines}
+use Rattle.json_documents.specs.LinesOfText.{Begins, ReadsDocument}
 use Rattle.json_documents.specs.Tokens.{line}
 use Rattle.json_documents.proofs.LineDocumentLemmas.{BeginsAt, IsAnswer, read_lines_answers}
 use Rattle.site_bundle.specs.SiteView.{SiteView}
-use Rattle.site_docs.specs.SiteText.{site_data}
-use Rattle.site_docs.specs.JournalText.{opening_object, count_object, entry_data, entry_lines, journal_text}
-use Rattle.journal_reading.specs.Journals.{IsSite, IsEntry, AreAll, IsHistory, IsShallow, is_filing, is_first, first_text, IsTextOf, IsJournalText}
-use Rattle.journal_reading.specs.JournalLines.{Progress, nothing, entries, all as finished, JournalLine, opening, later, last, opening_data, may_stand, next_of, text_at, FitsAt, journal_table, line_in, with_line, events_in, entries_from, journal_read, Gives}
+use Rattle.site_docs.specs.JournalText.{count_object, entry_data, entry_lines}
+use Rattle.journal_reading.specs.Journals.{IsSite, IsEntry, AreAll, IsHistory, IsShallow, is_filing, IsTextOf, IsJournalText}
+use Rattle.journal_reading.specs.JournalLines.{Progress, nothing, entries, all as finished, JournalLine, opening, later, last, opening_data, may_stand, FitsAt, journal_table, line_in, events_in, entries_from, journal_read, Gives}
 use Rattle.journal_reading.proofs.LinesRead.{is_behind, line_one, line_sound, line_complete, Stands, line_keeps, line_way}
 
 abbrev Events : Type 0

@@ -1,5 +1,5 @@
 -- The lines of journals are read as what they are, and no other lines are read.
-use Rattle.std.proofs.Common.{◌≡◌, ℕ, ◌+◌, ◌^◌, ◌<◌, ◌≤◌, ◌==◌, Bool, true, false, ◌&&◌, not, if◌then◌else◌, nat_lt, List, [], ◌∷◌, ◌++◌, length, codes, Option, Some, None, option_map, option_and_then, refl, sym, ap, subst, ◌∙◌, arith}
+use Rattle.std.proofs.Common.{◌≡◌, ℕ, ◌+◌, ◌^◌, ◌<◌, ◌≤◌, Bool, true, false, ◌&&◌, not, if◌then◌else◌, nat_lt, List, [], ◌∷◌, ◌++◌, length, codes, Option, Some, None, option_map, option_and_then, refl, sym, ap, subst, ◌∙◌, arith}
 use Rattle.std.proofs.lemmas.Bool.{lt-ltb, ltb-true}
 use Rattle.std.specs.Cmp.{first_so, second_so}
 use Rattle.std.specs.Cmp.Derive.{both_true}
@@ -12,22 +12,22 @@ use Rattle.serde_json.specs.Read.{max_depth, read}
 use Rattle.serde_json.specs.Written.{compact_text}
 use Rattle.pp_values.specs.Facts.{are_facts}
 use Rattle.pp_values.specs.declared.place.TheConstants.{MAIN_MANIFEST}
-use Rattle.site_core.specs.Events.{Publication, Event, opens, publishes, adds, is_opening, is_later}
+use Rattle.site_core.specs.Events.{Event, opens, publishes, adds, is_opening, is_later}
 use Rattle.site_core.specs.declared.plain.Plain.TheVariants as ask
 use Rattle.json_documents.specs.ExactData.{has_rising, is_read}
-use Rattle.json_documents.specs.LineDocuments.{LineTable, IsDocument}
+use Rattle.json_documents.specs.LineDocuments.{IsDocument}
 use Rattle.json_documents.specs.LinesOfText.{has_byte}
 use Rattle.json_documents.specs.SmallNumbers.{has_small}
 use Rattle.json_documents.proofs.Feeds.{no_feed}
 use Rattle.json_documents.proofs.ReadBack.{read_written, shallow_if_read}
-use Rattle.json_documents.proofs.ReadData.{Each, any, all, read_is_read}
+use Rattle.json_documents.proofs.ReadData.{read_is_read}
 use Rattle.agent_docs.proofs.ReportsRead.{Holds, holds_then, holds_if, is_same, same_bytes}
 use Rattle.site_bundle.specs.SiteView.{SiteView, put_in, site_of}
 use Rattle.site_docs.specs.SiteText.{site_object, site_data}
 use Rattle.site_docs.specs.JournalText.{opening_object, publication_object, deactivation_object, deployment_object, filing_object, count_object, plain_data, entry_data}
-use Rattle.journal_reading.specs.Journals.{IsSite, is_count, IsEntry, IsShallow, first_object, is_filing}
+use Rattle.journal_reading.specs.Journals.{IsSite, is_count, IsEntry, IsShallow, first_object}
 use Rattle.journal_reading.specs.EntryReading.{entry_said}
-use Rattle.journal_reading.specs.JournalLines.{Progress, nothing, entries, all as finished, JournalLine, opening, later, last, opening_data, may_stand, next_of, ends_at, text_at, FitsAt, journal_table, says_first, if_opening, opening_said, opening_in, is_written, if_written, entry_written, entry_in, is_last, line_in}
+use Rattle.journal_reading.specs.JournalLines.{Progress, nothing, entries, all as finished, JournalLine, opening, later, last, opening_data, may_stand, next_of, text_at, FitsAt, journal_table, says_first, if_opening, opening_said, opening_in, is_written, if_written, entry_written, entry_in, is_last, line_in}
 use Rattle.journal_reading.specs.SiteReading.{site_said}
 use Rattle.journal_reading.proofs.EntriesBack.{entry_back, entry_small, entry_rises, entry_holds}
 use Rattle.journal_reading.proofs.SitesBack.{site_back, site_small, site_rises, site_holds, read_at}

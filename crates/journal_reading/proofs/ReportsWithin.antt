@@ -1,5 +1,5 @@
 -- What a report's reader answers of a line with a line feed is the report of the line.
-use Rattle.std.proofs.Common.{◌≡◌, ℕ, ◌^◌, ◌<◌, List, [], ◌∷◌, ◌++◌, length, Option, Some, None, refl, sym, subst, ◌∙◌}
+use Rattle.std.proofs.Common.{◌≡◌, ℕ, ◌^◌, ◌<◌, List, [], ◌∷◌, ◌++◌, length, Some, None, refl, sym, subst, ◌∙◌}
 use Rattle.std.proofs.lemmas.List.{append_cancel_right}
 use Rattle.agent_machine.specs.declared.report.Report.{Report}
 use Rattle.json_documents.specs.LinesOfText.{IsFirstBad}

@@ -1,14 +1,13 @@
 -- The site that its own JSON says is the site, and what is said to be a site is one.
-use Rattle.std.proofs.Common.{◌≡◌, ℕ, Bool, true, false, ◌&&◌, List, [], ◌∷◌, map, cond, codes, Option, Some, None, option_and_then, Less, Equal, Greater, refl, sym, ap, subst, ◌∙◌}
+use Rattle.std.proofs.Common.{◌≡◌, ℕ, Bool, true, false, ◌&&◌, List, [], ◌∷◌, cond, codes, Option, Some, None, option_and_then, Less, Equal, Greater, refl, sym, ap, subst, ◌∙◌}
 use Rattle.std.specs.Cmp.{first_so, second_so}
 use Rattle.std.specs.Cmp.Derive.{both_true}
-use Rattle.std.specs.List.{list_all}
 use Rattle.std.specs.Ordering.{is_lt, match_ordering}
-use Rattle.std.specs.Prelude.{⊤, IsTrue, if◌then◌else◌, not, filter}
+use Rattle.std.specs.Prelude.{IsTrue, if◌then◌else◌, not, filter}
 use Rattle.serde_json.proofs.OnLiterals.{serde_json_on_literals}
 use Rattle.serde_json.specs.Data as j
 use Rattle.serde_json.specs.Data.{Data, Members, no_members, member, put, string, array, object}
-use Rattle.serde_json.specs.Find.{get, get_member, as_object, as_str}
+use Rattle.serde_json.specs.Find.{get, get_member, as_object}
 use Rattle.pp_values.proofs.RisingLemmas.{above_first}
 use Rattle.pp_values.specs.Datum.{Datum, text}
 use Rattle.pp_values.specs.Facts.{are_facts}
@@ -30,7 +29,7 @@ use Rattle.site_bundle.specs.SiteView.{SiteView, Filed, Listed, have_facts, mani
 use Rattle.site_docs.specs.SiteText.{site_object, file_settings, file_members, site_data}
 use Rattle.journal_reading.specs.Journals.{IsSite, paths_of}
 use Rattle.journal_reading.specs.SiteReading.{members_at, texts_said, are_files, if_files, files_said, if_facts, facts_said, listed_said, if_rising, nodes_said, site_said}
-use Rattle.journal_reading.proofs.Ordered.{distinct_rising, less, keys, without_second, kept_behind, kept_rising, put_in_rising}
+use Rattle.journal_reading.proofs.Ordered.{distinct_rising, less, without_second, kept_behind, kept_rising, put_in_rising}
 
 -- ---- files of both kinds in one object
 

@@ -1,9 +1,9 @@
 -- What a text is read as, from its first line on.
-use Rattle.std.proofs.Common.{◌≡◌, ◌≢◌, ℕ, suc, ◌+◌, ◌==◌, Bool, true, false, if◌then◌else◌, List, [], ◌∷◌, ◌++◌, append_assoc, append-nil, length, ◌<◌, arith, length-append, Option, Some, None, option_map, option_and_then, Result, Ok, Err, refl, sym, ap, subst, ◌∙◌}
+use Rattle.std.proofs.Common.{◌≡◌, ℕ, ◌+◌, ◌==◌, Bool, true, false, if◌then◌else◌, List, [], ◌∷◌, ◌++◌, append_assoc, append-nil, length, ◌<◌, arith, length-append, Option, Some, None, option_map, option_and_then, Result, Ok, Err, refl, sym, ap, subst, ◌∙◌}
 use Rattle.std.proofs.lemmas.Bool.{eqb-true}
 use Rattle.site_core.specs.Events.{Event, opens}
-use Rattle.json_documents.specs.LineDocuments.{split_lines, with_byte, add_byte, result_map, if_line, line_and_next, at_end, lines_read, read_lines}
-use Rattle.json_documents.specs.LinesOfText.{cut_at, cut_line}
+use Rattle.json_documents.specs.LineDocuments.{split_lines, with_byte, result_map, if_line, line_and_next, lines_read}
+use Rattle.json_documents.specs.LinesOfText.{cut_line}
 use Rattle.json_documents.specs.declared.doc_stop.DocStop.{DocStop}
 use Rattle.json_documents.specs.declared.doc_stop.DocStop.TheVariants as stop
 use Rattle.json_documents.proofs.Cutting.{IsCut, is_cut}

@@ -1,10 +1,10 @@
 -- The entry that the JSON of a line says. What stands in the line beside it is not looked at here.
-use Rattle.std.specs.Prelude.{ℕ, ◌+◌, ◌-◌, ◌*◌, ◌^◌, ◌==◌, nat_lt, Bool, ◌&&◌, ◌||◌, if◌then◌else◌, codes, List, []}
+use Rattle.std.specs.Prelude.{ℕ, ◌+◌, ◌-◌, ◌*◌, ◌==◌, ◌&&◌, if◌then◌else◌, codes, List, []}
 use Rattle.std.specs.Prelude.{◌∷◌, Option, Some, None, option_map, option_and_then}
 use Rattle.std.specs.Char.{is_ascii_digit}
 use Rattle.std.specs.Str.{bytes_eq, str_to_ascii_lowercase}
 use Rattle.serde_json.specs.Data.{Data, null, Items, no_items, item, Members, no_members, member}
-use Rattle.serde_json.specs.Find.{get, as_number, as_str, as_u64}
+use Rattle.serde_json.specs.Find.{get, as_number, as_u64}
 use Rattle.serde_json.specs.Written.{compact_text}
 use Rattle.pp_values.specs.Datum.{Datum}
 use Rattle.pp_values.specs.Kinds.{kind_of}
@@ -15,7 +15,7 @@ use Rattle.res_core.specs.PlainAttributes.{are_plain}
 use Rattle.res_core.specs.declared.exported.Exported.{Exported}
 use Rattle.res_core.specs.declared.resource.Resource.{Resource}
 use Rattle.agent_machine.specs.declared.report.Report.{Report}
-use Rattle.site_core.specs.Events.{Publication, Event, publishes, adds}
+use Rattle.site_core.specs.Events.{Event, publishes, adds}
 use Rattle.site_core.specs.declared.plain.Plain.TheVariants as ask
 use Rattle.json_values.specs.Forms.{value_of}
 use Rattle.json_values.specs.FromData.{both}

@@ -1,5 +1,4 @@
 use Rattle.std.proofs.Common.{arith, refl}
-use Rattle.site_core.specs.declared.history.History.{History}
 use Rattle.journal_reading.proofs.JournalsRead.{journal_reads}
 use Rattle.journal_reading.proofs.reading.read_journal.Goals as goal
 

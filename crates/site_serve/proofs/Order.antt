@@ -1,18 +1,16 @@
 -- Reads and writes of a connection, in their order.
-use Rattle.std.proofs.Common.{◌≡◌, ◌⊎◌, inl, inr, ℕ, List, [], ◌∷◌, ◌++◌, Option, Some, None, Result, Ok, Err, refl, sym, ap, ◌∙◌, subst, append_assoc}
-use Rattle.std.specs.List.{AllZip}
-use Rattle.site_io.specs.Events.{Event, Since, Kept, Sends}
+use Rattle.std.proofs.Common.{◌≡◌, ℕ, List, [], ◌∷◌, ◌++◌, refl, sym, ap, ◌∙◌, subst, append_assoc}
+use Rattle.site_io.specs.Events.{Since, Kept}
 use Rattle.site_io.specs.Stream.{Stream, HasWritten}
 use Rattle.site_io.proofs.Events.{nothing_kept, kept_each, kept_drawn, kept_sent}
 use Rattle.site_core.specs.Asked.{Asked}
 use Rattle.site_core.specs.declared.reply.ReplyOf.{ReplyOf}
-use Rattle.http_wire.specs.Messages.{HasNext, HasNone, Begins}
+use Rattle.http_wire.specs.Messages.{HasNone, Begins}
 use Rattle.http_wire.specs.Reading.{HasDrawn}
-use Rattle.http_wire.specs.Responses.{HasBegun}
 use Rattle.http_wire.specs.declared.request.H.{H}
 use Rattle.http_wire.specs.declared.request.HttpRequest.{HttpRequest}
 use Rattle.site_serve.specs.Replies.{refusal_text}
-use Rattle.site_serve.specs.Ends.{Turn, Dialect, IsTurn, texts_of, AllAnswered, IsPrompt, HasTalked}
+use Rattle.site_serve.specs.Ends.{Dialect, AllAnswered, IsPrompt, HasTalked}
 use Rattle.site_serve.specs.Steps.{EndsRefused}
 use Rattle.site_serve.specs.declared.conn_end.ConnEnd.{ConnEnd}
 use Rattle.site_serve.specs.declared.conn_end.ConnEnd.TheVariants as end

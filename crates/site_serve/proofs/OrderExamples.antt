@@ -1,11 +1,10 @@
 -- What is in order in a connection, and what is late.
-use Rattle.std.proofs.Common.{◌≡◌, ℕ, List, [], ◌∷◌, ◌++◌, Some, None, refl, sym, subst}
-use Rattle.std.specs.List.{AllZip}
+use Rattle.std.proofs.Common.{◌≡◌, ℕ, List, [], ◌∷◌, Some, None, refl, subst}
 use Rattle.site_io.specs.Events.{Event, came, went, EachRead}
 use Rattle.site_io.specs.Stream.{Stream}
-use Rattle.http_wire.specs.Messages.{HasNext, HasNone, Begins}
+use Rattle.http_wire.specs.Messages.{HasNext}
 use Rattle.http_wire.specs.declared.request.HttpRequest.{HttpRequest}
-use Rattle.site_serve.specs.Ends.{Turn, Dialect, IsTurn, texts_of, AllAnswered, IsPrompt}
+use Rattle.site_serve.specs.Ends.{Dialect, AllAnswered, IsPrompt}
 
 -- a stream that tells its calls
 abbrev told : List Event → Stream

@@ -12,7 +12,7 @@ use Rattle.site_core.specs.Fits.{Listed}
 use Rattle.site_core.specs.declared.reply.ReplyOf.{ReplyOf}
 use Rattle.shared_site.specs.Known.{Known}
 use Rattle.http_wire.specs.Messages.{HasNext, HasNone, Begins, Refuses, IsOpen}
-use Rattle.http_wire.specs.Reading.{HasGathered, HasDrawn, HasLost, StopsBy, ReadsNext}
+use Rattle.http_wire.specs.Reading.{HasGathered, HasLost, StopsBy, ReadsNext}
 use Rattle.http_wire.specs.Responses.{response_text, HasBegun, WritesText}
 use Rattle.http_wire.specs.declared.request.H.{H}
 use Rattle.http_wire.specs.declared.request.HttpRequest.{HttpRequest}

@@ -81,12 +81,6 @@ file_options_fields_sync =
       (search (sendable, crosses, option.the_field_sync, option_table_sync) depth 40 fits 40000, tt),
     )
 
-file_options_send : IsSend (declared.row file_options.the_type)
-file_options_send = search (sendable, file_options_fields_send) depth 20
-
-file_options_sync : IsSync (declared.row file_options.the_type)
-file_options_sync = search (sendable, file_options_fields_sync) depth 20
-
 data_file_fields_send : IsSend (declared.field data_file.the_type).row
 data_file_fields_send =
     struct_send (declared.shape data_file.the_type) (
@@ -99,7 +93,7 @@ data_file_fields_send =
             search (sendable, crosses, vec.the_send, global.the_send) depth 40 fits 40000,
             (
               search (sendable, crosses) depth 40 fits 40000,
-              (search (sendable, crosses, file_options_send) depth 40 fits 40000, tt),
+              (file_options_fields_send, tt),
             ),
           ),
         ),
@@ -118,7 +112,7 @@ data_file_fields_sync =
             search (sendable, crosses, vec.the_sync, global.the_sync) depth 40 fits 40000,
             (
               search (sendable, crosses) depth 40 fits 40000,
-              (search (sendable, crosses, file_options_sync) depth 40 fits 40000, tt),
+              (file_options_fields_sync, tt),
             ),
           ),
         ),

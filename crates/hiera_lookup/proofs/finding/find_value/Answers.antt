@@ -16,8 +16,8 @@ returns-in_err-value-in-First c =
     c.in-First.is)
     (after_err _ (rw is at c.in_err-value-in-First.ensures) c.from_residual-in_err-value-in-First.ensures.1)
 
-pub returns-in_ok-part_if-in-First : goal.returns-in_ok-part_if-in-First
-returns-in_ok-part_if-in-First c =
+pub returns-in-First : goal.returns-in-First
+returns-in-First c =
     let is : c.root-root_key.result.now ≡ root_of c.args.key.now =
     c.root-root_key.ensures ∙ ap (λ xs. root (map (λ x. x.now) xs)) c.deref.ensures.value ∙ ap root c.in_ok-parts.ensures in
     let stepped : map (λ x. x.now) c.steps-in-First.result.now ≡ steps_of c.args.key.now =
@@ -30,16 +30,16 @@ returns-in_ok-part_if-in-First c =
     (gives (ap Ok (sym (c.in_ok-part_if-in-First.ensures
     ∙ ap (λ ss. option_and_then (dug ss) (option_map view c.in_ok-value-in-First.field-0)) stepped)))))
 
-pub returns-in_err-sources : goal.returns-in_err-sources
+pub returns-in_err-sources-in_default : goal.returns-in_err-sources-in_default
 unfolding found
-returns-in_err-sources c =
+returns-in_err-sources-in_default c =
     let is : c.root-root_key.result.now ≡ root_of c.args.key.now =
     c.root-root_key.ensures ∙ ap (λ xs. root (map (λ x. x.now) xs)) c.deref.ensures.value ∙ ap root c.in_ok-parts.ensures in
-    after_err _ (rw is at c.in_err-sources.ensures) c.from_residual.ensures.1
+    after_err _ (rw is at c.in_err-sources-in_default.ensures) c.from_residual-in_err-sources-in_default.ensures.1
 
 pub returns : goal.returns
 unfolding found
 returns c =
     let is : c.root-root_key.result.now ≡ root_of c.args.key.now =
     c.root-root_key.ensures ∙ ap (λ xs. root (map (λ x. x.now) xs)) c.deref.ensures.value ∙ ap root c.in_ok-parts.ensures in
-    after_ok _ (rw is at c.in_ok-sources.ensures) c.found_in.ensures
+    after_ok _ (rw is at c.in_ok-sources-in_default.ensures) c.found_in.ensures

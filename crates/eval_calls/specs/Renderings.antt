@@ -3,7 +3,7 @@ use Rattle.std.specs.Prelude.{ℕ, List, Option, option_map}
 use Rattle.pp_values.specs.Datum.{Datum}
 use Rattle.pp_values.specs.Views.{view}
 use Rattle.pp_values.specs.declared.place.Place.{Place}
-use Rattle.eval_world.specs.declared.rendering.Rendering as held
+use Rattle.eval_calls.specs.declared.rendering.Rendering as held
 
 -- the path of its file, its text, the hash that is given, the name and the place of the call
 pub record Rendering : Type 0 where

@@ -1,25 +1,28 @@
 //! Templates: what is given to one, and its text.
 ghost use Rattle.std.specs.Prelude.{◌≡◌, IfOk, Some, option_map};
-ghost use Rattle.class_eval.specs.Templates as spec;
+ghost use Rattle.eval_calls.specs.Templates as spec;
 ghost use Rattle.eval_world.specs.Nests.{Nests};
 ghost use Rattle.eval_world.specs.Outcomes.{Gives, nothing, same};
-ghost use Rattle.eval_world.specs.Renderings.{rendering_seen};
+ghost use Rattle.eval_calls.specs.Renderings.{rendering_seen};
 ghost use Rattle.pp_values.specs.Datum as d;
 ghost use Rattle.pp_values.specs.Faults.{fault};
 ghost use Rattle.pp_values.specs.Keys.{same_key};
 ghost use Rattle.pp_values.specs.Views.{view, pair_views};
 ghost use Rattle.pp_values.specs.declared.fault.What.TheVariants as what;
 
-use crate::statements::block;
-use crate::top_names::{is_variable, pairs_within};
-use epp_text::parse_epp;
-use eval_calls::{bind_one, default_value};
-use eval_world::{Evaluated, Forms, Goal, Here, Meaning, Rendering, World};
+use crate::functions::{bind_one, default_value};
+use crate::rendering::Rendering;
+use crate::variable_names::is_variable;
+use eval_world::{Evaluated, Forms, Goal, Here, Meaning, World};
 use pp_tree::{Block, Expr, Param, Template};
 use pp_values::{Fault, Memory, Place, Stop, Text, Value, What};
 use std::alloc::Global;
 
-/// The text of a template, which is parsed here where it is not yet.
+/// The line at which a template is refused that stands too deep.
+const FIRST_LINE: u32 = 1;
+
+/// The text of a template, in the scope that it is rendered in: what is given to it is set there, and its block stands one
+/// level further in.
 #[tactic(auto, unfolding(crate::specs::Templates::template_rule))]
 pub fn template<F: Fn(&mut World<'_>, Goal<'_>, Here, u32) -> Result<Evaluated, Stop>, M: Meaning>(
     forms: &Forms<F, M>,
@@ -31,30 +34,11 @@ pub fn template<F: Fn(&mut World<'_>, Goal<'_>, Here, u32) -> Result<Evaluated, 
     ensures { Gives same (spec.template_rule (M.within forms.now.left) (rendering_seen rendering.now) own world.old) result
         world.new }
 {
-    match world
+    let alloc = world.heap.alloc();
+    let read = world
         .environment
-        .template_at(rendering.file, rendering.text)
-    {
-        Some(Ok(read)) => written(forms, world, read, rendering, own),
-        Some(Err(fault)) => Err(Stop::Fault(fault.copy(world.heap.alloc())?)),
-        None => parsed(forms, world, rendering, own),
-    }
-}
-
-/// The text of a template that is not parsed yet.
-#[tactic(auto, unfolding(crate::specs::Templates::template_rule))]
-fn parsed<F: Fn(&mut World<'_>, Goal<'_>, Here, u32) -> Result<Evaluated, Stop>, M: Meaning>(
-    forms: &Forms<F, M>,
-    world: &mut World<'_>,
-    rendering: &Rendering<'_>,
-    own: Here,
-) -> Result<Evaluated, Stop>
-    requires { Nests (M.within forms.now.left) forms.now.left (F.pre forms.now.inner) (F.post forms.now.inner) }
-    ensures { Gives same (spec.template_rule (M.within forms.now.left) (rendering_seen rendering.now) own world.old) result
-        world.new }
-{
-    let read = parse_epp(world.heap.alloc(), rendering.file, rendering.text)?;
-    written(forms, world, &read, rendering, own)
+        .template(alloc, rendering.file, rendering.text)?;
+    written(forms, world, read.get(), rendering, own)
 }
 
 /// The text of a template by its tree.
@@ -75,9 +59,9 @@ fn written<F: Fn(&mut World<'_>, Goal<'_>, Here, u32) -> Result<Evaluated, Stop>
     Ok(Evaluated::new(Value::Text(text)))
 }
 
-/// The text that a block emits. What was emitted before is put apart meanwhile.
+/// The text that a template's statements emit. What was emitted before is put apart meanwhile.
 #[tactic(auto, unfolding(crate::specs::Templates::rendered_rule))]
-pub fn rendered<F: Fn(&mut World<'_>, Goal<'_>, Here, u32) -> Result<Evaluated, Stop>, M: Meaning>(
+fn rendered<F: Fn(&mut World<'_>, Goal<'_>, Here, u32) -> Result<Evaluated, Stop>, M: Meaning>(
     forms: &Forms<F, M>,
     world: &mut World<'_>,
     statements: &Block,
@@ -88,7 +72,7 @@ pub fn rendered<F: Fn(&mut World<'_>, Goal<'_>, Here, u32) -> Result<Evaluated, 
         world.new }
 {
     let before = world.begin_rendering();
-    drop(block(forms, world, statements, own)?);
+    drop(forms.block(world, statements, FIRST_LINE, own)?);
     Ok(world.end_rendering(before).into_text())
 }
 
@@ -109,6 +93,17 @@ fn give<F: Fn(&mut World<'_>, Goal<'_>, Here, u32) -> Result<Evaluated, Stop>, M
     match &read.params {
         Some(params) => give_params(forms, world, params.as_slice(), given, rendering, own),
         None => set_names(world, given, rendering.at, own),
+    }
+}
+
+/// The pairs of a hash; none of another value.
+#[tactic(auto, using(crate::proofs::Pairs::pairs_back))]
+pub fn pairs_within(facts: &Value) -> &[(Value, Value)]
+    ensures { pair_views result.now ≡ spec.pairs_within (view facts.now) }
+{
+    match facts {
+        Value::Hash(pairs) => pairs.as_slice(),
+        _ => &[],
     }
 }
 

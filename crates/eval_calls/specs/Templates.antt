@@ -7,21 +7,24 @@ use Rattle.pp_tree.specs.declared.param.Param.{Param}
 use Rattle.pp_tree.specs.declared.statement.Statement.{Statement}
 use Rattle.pp_tree.specs.declared.template.Template.{Template}
 use Rattle.pp_values.specs.Datum as d
-use Rattle.pp_values.specs.Datum.{Datum, Pair}
+use Rattle.pp_values.specs.Datum.{Datum, Pair, pairs_of}
 use Rattle.pp_values.specs.Faults as faults
 use Rattle.pp_values.specs.Keys.{value_at}
 use Rattle.pp_values.specs.declared.fault.What.TheVariants as what
 use Rattle.pp_values.specs.declared.place.Place.{Place}
-use Rattle.class_eval.specs.Statements.{block_rule}
-use Rattle.class_eval.specs.TopNames.{is_variable, pairs_within}
 use Rattle.eval_calls.specs.Functions.{bind_rule, default_value}
+use Rattle.eval_calls.specs.Renderings.{Rendering}
+use Rattle.eval_calls.specs.VariableNames.{is_variable}
 use Rattle.eval_world.specs.Inner.{Inner}
 use Rattle.eval_world.specs.Outcomes.{Step, ◌>>=◌, ◌>>◌, pure, answered}
-use Rattle.eval_world.specs.Renderings.{Rendering}
 use Rattle.eval_world.specs.Worlds.{assign_at, with_rendered}
 use Rattle.eval_world.specs.declared.here.Here.{Here}
 
 -- ---- what is given
+
+abbrev pub pairs_within : Datum → List Pair
+pairs_within (d.hash es) = pairs_of es
+pairs_within _ = []
 
 -- the pairs of the hash, where one is given
 abbrev pub pairs_given : Option Datum → List Pair
@@ -60,7 +63,7 @@ are_taken ps gs = are_params ps gs && are_given gs ps
 
 -- ---- parameters
 
--- Undef that is given counts as not given
+-- Undef that is given counts as not given. A default is evaluated one level deeper than the call, as one of a function.
 abbrev pub unless_undef : Inner → Datum → Option Expr → Here → Step Datum
 unless_undef inner d.undef default own = default_value inner default own
 unless_undef inner v default own = pure v
@@ -119,11 +122,12 @@ begin = λ w. Ok (w.rendered, with_rendered [] w)
 abbrev pub finish : List ℕ → Step Datum
 finish before = λ w. Ok (d.text w.rendered, with_rendered before w)
 
--- the text that a block emits; its value is nobody's
+-- The text that the statements of a template emit, which stand in a block one level deeper than the call: a template that
+-- is too deep is refused at its first line. The block's value is nobody's.
 unfoldable pub rendered_rule : Inner → List Statement → Here → Step Datum
 rendered_rule inner b own = do
   before ← begin
-  block_rule inner b own
+  inner.block b 1 own
   finish before
 
 -- the text by the template's tree

@@ -1,8 +1,8 @@
 -- What is left decides.
 use Rattle.std.proofs.Common.{◌≡◌, length}
 use Rattle.pp_values.specs.Views.{pair_views}
-use Rattle.class_eval.specs.Templates.{params_from}
-use Rattle.class_eval.proofs.templates.bind_params.Given as goal
+use Rattle.eval_calls.specs.Templates.{params_from}
+use Rattle.eval_calls.proofs.templates.bind_params.Given as goal
 
 abbrev pub invariant-loop-param : goal.invariant-loop-param
 invariant-loop-param g l =

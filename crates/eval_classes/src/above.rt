@@ -55,7 +55,7 @@ fn above_class(alloc: Global, environment: &Environment<'_>, name: &str) -> Resu
 }
 
 /// The sources of this class and of its parents.
-#[tactic(auto, unfolding(crate::specs::Above::sources_from), using(crate::proofs::Upward::one_more, crate::proofs::Upward::at_end))]
+#[tactic(auto, unfolding(crate::specs::Above::sources_from), using(crate::proofs::Upward::begins, crate::proofs::Upward::one_more, crate::proofs::Upward::at_end))]
 fn sources_from(
     alloc: Global,
     environment: &Environment<'_>,

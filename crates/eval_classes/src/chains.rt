@@ -17,7 +17,7 @@ use res_book::Book;
 use std::alloc::Global;
 
 /// A class, and its parents up to the last one, or to one that is declared already.
-#[tactic(auto, using(crate::proofs::Links::no_parent, crate::proofs::Links::no_further, crate::proofs::Links::first))]
+#[tactic(auto, using(crate::proofs::Links::begins, crate::proofs::Links::no_parent, crate::proofs::Links::no_further))]
 pub fn chain_of<'a>(
     alloc: Global,
     environment: &Environment<'a>,

@@ -42,7 +42,7 @@ fn inherits_itself(
 
 /// Whether one of these classes has this name: the first, its parent, and so on. One of those that were passed is
 /// marked, a later one after twice as many turns, and a way that comes back to the mark has gone round.
-#[tactic(auto, using(crate::proofs::Ways::further, crate::proofs::Ways::at_end, crate::proofs::Ways::met, crate::proofs::Ways::round, crate::proofs::Ways::none_marked, crate::proofs::Ways::marked, crate::proofs::Ways::mark_stays))]
+#[tactic(auto, using(crate::proofs::Ways::begins, crate::proofs::Ways::further, crate::proofs::Ways::at_end, crate::proofs::Ways::met, crate::proofs::Ways::round, crate::proofs::Behind::none_marked, crate::proofs::Behind::marked, crate::proofs::Behind::mark_stays))]
 fn comes_to(
     alloc: Global,
     environment: &Environment<'_>,

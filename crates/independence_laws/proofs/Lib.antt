@@ -1,0 +1,4 @@
+pub mod Going
+pub mod OfClasses
+pub mod OfWorld
+pub mod Owning

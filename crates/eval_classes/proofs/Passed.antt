@@ -96,10 +96,11 @@ or_true false = refl
 
 first_part : (x : List ℕ) (ks ls : List DefinitionName) → has x ks ≡ true → has x (ks ++ ls) ≡ true
 first_part x [] ls h = absurd cc
-first_part x (k ∷ ks) ls h = by (same_name (Code x) k) h where
-  by : (b : Bool) → (b || has x ks) ≡ true → (b || has x (ks ++ ls)) ≡ true
-  by true g = refl
-  by false g = first_part x ks ls g
+first_part x (k ∷ ks) ls h = by (same_name (Code x) k) h (first_part x ks ls) where
+  by : (b : Bool) → (b || has x ks) ≡ true → (has x ks ≡ true → has x (ks ++ ls) ≡ true)
+      → (b || has x (ks ++ ls)) ≡ true
+  by true g rest = refl
+  by false g rest = rest g
 
 last_part : (x : List ℕ) (ks ls : List DefinitionName) → has x ls ≡ true → has x (ks ++ ls) ≡ true
 last_part x [] ls h = h
@@ -118,11 +119,12 @@ in_file x c (Ok file) is = by (lookup (same_name (Code x)) file.definitions) ref
 in_files : (x path : List ℕ) (c : Class) (fs : List (List ℕ × ManifestFile))
     → class_told (in_module x (lookup (is_at (text_cmp path)) fs)) ≡ Some c → has x (names_within fs) ≡ true
 in_files x path c [] is = absurd cc
-in_files x path c (f ∷ fs) is = by (is_at (text_cmp path) f.0) is where
+in_files x path c (f ∷ fs) is = by (is_at (text_cmp path) f.0) is (in_files x path c fs) where
   by : (b : Bool) → class_told (in_module x (cond b (Some f.1) (lookup (is_at (text_cmp path)) fs))) ≡ Some c
+      → (class_told (in_module x (lookup (is_at (text_cmp path)) fs)) ≡ Some c → has x (names_within fs) ≡ true)
       → has x (names_read f.1.read ++ names_within fs) ≡ true
-  by true g = first_part x (names_read f.1.read) (names_within fs) (in_file x c f.1.read g)
-  by false g = last_part x (names_read f.1.read) (names_within fs) (in_files x path c fs g)
+  by true g rest = first_part x (names_read f.1.read) (names_within fs) (in_file x c f.1.read g)
+  by false g rest = last_part x (names_read f.1.read) (names_within fs) (rest g)
 
 module _ (m : Environment) (x : List ℕ) (c : Class) where
   by_main : (o : Option Definition) → defined_in x m.main ≡ o → class_told (or_in_module o m x) ≡ Some c

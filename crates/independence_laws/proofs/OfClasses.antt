@@ -16,7 +16,9 @@ use Rattle.pp_values.specs.declared.reference.Reference.{Reference}
 use Rattle.override_rules.specs.Meaning.{State, scope_opened}
 use Rattle.res_book.specs.Relations.{Related, with_containment, with_line}
 use Rattle.res_book.specs.Rows.{item_at, number_of, reference_of, with_bound}
+use Rattle.res_book.specs.declared.containment.Containment.{Containment}
 use Rattle.res_book.specs.declared.mode.Mode.TheVariants as mode
+use Rattle.res_book.specs.declared.relation_line.RelationLine.{RelationLine}
 use Rattle.res_book.specs.declared.row.Row.{Row}
 use Rattle.res_core.specs.AttributeViews.{set_in}
 use Rattle.res_core.specs.declared.declared.Declared.{Declared}
@@ -31,9 +33,11 @@ use Rattle.eval_world.specs.Worlds.{place_at}
 use Rattle.eval_world.specs.declared.here.Here.{Here}
 use Rattle.eval_world.specs.declared.owner.Owner.{Owner}
 use Rattle.eval_world.specs.declared.world.World.{World}
+use Rattle.expr_eval.specs.Testing.{is_of}
+use Rattle.pp_tree.specs.Building.{line_of}
 use Rattle.eval_classes.specs.Bodies.{keep, body_rule, class_body, class_by, class_rule}
 use Rattle.eval_classes.specs.Definitions.{class_found, class_name, longest_way, module_of}
-use Rattle.eval_classes.specs.Included.{contain_by, declared_once, include_from, include_names, include_rule, included}
+use Rattle.eval_classes.specs.Included.{before, contain_by, declared_once, include_from, include_names, include_rule, included}
 use Rattle.eval_classes.specs.Included.{included_by, names_asked, references, relate_rule, require_by, unless_there}
 use Rattle.eval_classes.specs.Listing.{chain_declared, chain_from, class_declared, class_item, class_names, class_owner}
 use Rattle.eval_classes.specs.Listing.{class_reference, declare_rule, enter_all, enter_chain, enter_scope, is_declared}
@@ -49,7 +53,7 @@ use Rattle.eval_classes.specs.declared.including.Including.TheVariants as includ
 use Rattle.eval_classes.specs.declared.listed.Listed.{Listed}
 use Rattle.independence_laws.specs.Alike.{AreAlike, AreSameRelations, AreTold, IsSameHere, IsSameOwner, OwnersGoOn}
 use Rattle.independence_laws.specs.Steps.{Come, Comes, Equal, IsAlike, Likeness, Same, SameInner, Two}
-use Rattle.independence_laws.proofs.Going.{and_then, and_then_like, and_then_to, answer_same, bind_like, owner_same}
+use Rattle.independence_laws.proofs.Going.{and_then, and_then_like, and_then_to, answer_same, bind_like, fault_same, owner_same}
 use Rattle.independence_laws.proofs.Going.{place_same, pure_like, pure_same, told}
 use Rattle.independence_laws.proofs.OfWorld.{assign_same, fault_here, gives, look_up_same, put_same, with_same_book}
 use Rattle.independence_laws.proofs.OfWorld.{with_same_scopes}
@@ -302,6 +306,68 @@ module _ (two : Two) where
       (λ first second v w alike f g. ap (λ m. class_found m name at) alike.environment) (λ r. answer_same two r))
       (λ c. pure_same two)
 
+-- ---- `contain` and `require`
+
+module _ (two : Two) where
+  one_containment : (x : Containment) (first second : List LogLine) (v w : World) → AreAlike first second v w
+      → AreSameRelations v.owners w.owners (with_containment x v.relations) (with_containment x w.relations)
+  one_containment x first second v w alike = record {
+    lines = alike.relations.lines;
+    containments = ap (λ cs. cs ++ x ∷ []) alike.relations.containments;
+    applied = alike.relations.applied;
+    collectors = alike.relations.collectors;
+  }
+
+  one_line : (x : RelationLine) (first second : List LogLine) (v w : World) → AreAlike first second v w
+      → AreSameRelations v.owners w.owners (with_line x v.relations) (with_line x w.relations)
+  one_line x first second v w alike = record {
+    lines = ap (λ ls. ls ++ x ∷ []) alike.relations.lines;
+    containments = alike.relations.containments;
+    applied = alike.relations.applied;
+    collectors = alike.relations.collectors;
+  }
+
+  put_containment : (x : Containment) → Same two (λ here w. Ok (tt, record w { relations = with_containment x w.relations }))
+  put_containment x = record { comes = λ first second v w alike f g. gives tt first second v w
+      (record v { relations = with_containment x v.relations }) (record w { relations = with_containment x w.relations })
+      refl refl (with_same_relations alike (with_containment x v.relations) (with_containment x w.relations)
+      (one_containment x first second v w alike)) }
+
+  put_line : (x : RelationLine) → Same two (λ here w. Ok (tt, record w { relations = with_line x w.relations }))
+  put_line x = record { comes = λ first second v w alike f g. gives tt first second v w
+      (record v { relations = with_line x v.relations }) (record w { relations = with_line x w.relations })
+      refl refl (with_same_relations alike (with_line x v.relations) (with_line x w.relations)
+      (one_line x first second v w alike)) }
+
+  resource_same : (first second : List LogLine) (v w : World) → AreAlike first second v w
+      → OwnersGoOn two.first v.owners → OwnersGoOn two.second w.owners
+      → (owner_at two.left.owner v.owners).resource ≡ (owner_at two.right.owner w.owners).resource
+  resource_same first second v w alike f g = ap (λ (o : Owner). o.resource) (owner_same two first second v w alike f g)
+
+  contain_by_same : (number : Option ℕ) → Same two (λ here. contain_by number here)
+  contain_by_same None = pure_same two
+  contain_by_same (Some number) = told two (λ here w. (owner_at here.owner w.owners).resource)
+      (λ here outer w. Ok (tt, record w { relations = with_containment (record { outer = outer; inner = number }) w.relations }))
+      resource_same (λ outer. put_containment (record { outer = outer; inner = number }))
+
+  require_by_same : (item : Option Declared) (class : Reference) (at : Place) → Same two (λ here. require_by item class at)
+  require_by_same None class at = pure_same two
+  require_by_same (Some item) class at = put_line (before class item at)
+
+  relate_same : (f : Including) (c : Class) (at : Place) → Same two (λ here. relate_rule f c at here)
+  unfolding relate_rule
+  relate_same including.Include c at = pure_same two
+  relate_same including.Contain c at = told two (λ here w. number_of (class_reference (class_name c)) w.book)
+      (λ here number. contain_by number here)
+      (λ first second v w alike f g. ap (λ b. number_of (class_reference (class_name c)) b) alike.book) contain_by_same
+  relate_same including.Require c at = told two
+      (λ here w. item_at w.book (owner_at here.owner w.owners).resource)
+      (λ here item. require_by item (class_reference (class_name c)) at)
+      (λ first second v w alike f g.
+      ap (λ b. item_at b (owner_at two.left.owner v.owners).resource) alike.book
+      ∙ ap (λ n. item_at w.book n) (resource_same first second v w alike f g))
+      (λ item. require_by_same item (class_reference (class_name c)) at)
+
 module _ (inner : Inner) (same : SameInner inner) where
   class_body_same : (o p : Owners) (l k : Listed) → IsSameListed o p l k → (first second : List LogLine) (v w : World)
       → AreAlike first second v w → OwnersGoOn o v.owners → OwnersGoOn p w.owners
@@ -359,3 +425,142 @@ module _ (inner : Inner) (same : SameInner inner) where
         (λ here chain. chain_declared inner chain given at here.owner)
         (λ first second v w alike f g. chain_found_same c first second v w alike)
         (λ chain. chain_same chain given at)
+
+    -- ---- `include`, `contain` and `require`
+
+    unless_same : (b : Bool) (c : Class) (at : Place) → Same two (λ here. unless_there b inner c at here.owner)
+    unless_same true c at = pure_same two
+    unless_same false c at = class_declared_same c [] at
+
+    pub once_same : (c : Class) (at : Place) → Same two (λ here. declared_once inner c at here.owner)
+    unfolding declared_once
+    once_same c at = told two (λ here w. is_declared (class_name c) w.book)
+        (λ here there. unless_there there inner c at here.owner)
+        (λ first second v w alike f g. ap (λ b. is_declared (class_name c) b) alike.book)
+        (λ there. unless_same there c at)
+
+    include_same : (f : Including) (name : List ℕ) (at : Place) → Same two (λ here. include_rule inner f name at here)
+    unfolding include_rule
+    include_same f name at = and_then two
+        (told two (λ here w. class_found w.environment name at) (λ here r. answered r)
+        (λ first second v w alike o p. ap (λ m. class_found m name at) alike.environment) (λ r. answer_same two r))
+        (λ c. and_then two (once_same c at) (λ u. relate_same two f c at))
+
+    includes_same : (f : Including) (names : List (List ℕ)) (at : Place)
+        → Same two (λ here. include_from inner f names at here)
+    unfolding include_from
+    includes_same f [] at = pure_same two
+    includes_same f (name ∷ names) at = and_then two (include_same f name at) (λ u. includes_same f names at)
+
+    include_names_same : (f : Including) (names : List (List ℕ)) (line : ℕ)
+        → Same two (λ here. include_names inner f names line here)
+    unfolding include_names
+    include_names_same f names line = and_then two
+        (told two (λ here w. place_at w here line) (λ here at. include_from inner f names at here)
+        (λ first second v w alike o p. place_same two first second v w alike o p line) (λ at. includes_same f names at))
+        (λ u. pure_same two)
+
+    included_by_same : (f : Including) (written : List ℕ) (names : Option (List (List ℕ))) (line : ℕ)
+        → Same two (λ here. included_by inner f written names line here)
+    included_by_same f written None line = fault_here two line _
+    included_by_same f written (Some names) line = include_names_same f names line
+
+    pub included_same : (f : Including) (written : List ℕ) (arguments : List Datum) (line : ℕ)
+        → Same two (λ here. included inner f written arguments line here)
+    unfolding included
+    included_same f written arguments line = included_by_same f written (names_asked arguments) line
+
+-- ---- parameters and bodies
+
+module _ (two : Two) where
+  data_by_same : (b : Bool) (of : Reference) (x : List ℕ) (at : Place) → Same two (λ own. data_by b of x at)
+  data_by_same false of x at = pure_same two
+  data_by_same true of x at = look_up_same two 0 _ None at
+
+  or_else_same : (v : Option Datum) (p : Here → Step Datum) → Same two p → Same two (λ own. or_else v (p own))
+  or_else_same None p f = f
+  or_else_same (Some v) p f = pure_same two
+
+  keep_same : (number : ℕ) (bound : List Setting) → Same two (λ own. keep number bound)
+  keep_same number bound = record { comes = λ first second v w alike f g. gives tt first second v w
+      (record v { book = with_bound number bound v.book }) (record w { book = with_bound number bound w.book })
+      refl refl (with_same_book alike (with_bound number bound v.book) (with_bound number bound w.book)
+      (ap (λ b. with_bound number bound b) alike.book)) }
+
+-- within the type of a parameter
+typed_two : Two → Two
+typed_two two = record {
+  left = within_type two.left;
+  right = within_type two.right;
+  first = two.first;
+  second = two.second;
+  same = record { scope = two.same.scope; typed = refl; owner = two.same.owner };
+}
+
+module _ (inner : Inner) (same : SameInner inner) (two : Two) where
+  default_same : (o : Option Expr) (of : Reference) (x : List ℕ) (at : Place)
+      → Same two (λ own. default_rule inner o of x at own)
+  default_same None of x at = fault_same two (λ own w. faults.fault at (what.MissingParameter of x))
+      (λ first second v w alike f g. refl)
+  default_same (Some e) of x at = same.value e two
+
+  data_same : (p : Param Expr) (of : Reference) (at : Place) → Same two (λ own. data_or_default inner p of at own)
+  unfolding data_or_default
+  data_same p of at = and_then two (data_by_same two (is_class of) of p.name at)
+      (λ found. or_else_same two (counted found) (λ own. default_rule inner p.default of p.name at own)
+      (default_same p.default of p.name at))
+
+  value_same : (given : Given) (p : Param Expr) (of : Reference) (at : Place)
+      → Same two (λ own. value_rule inner given p of at own)
+  unfolding value_rule
+  value_same given p of at = or_else_same two (counted (given p.name)) (λ own. data_or_default inner p of at own)
+      (data_same p of at)
+
+  pub type_same : (kind : Expr) (value : Datum) → Same two (λ own. has_type inner kind value own)
+  unfolding has_type typed_two
+  type_same kind value = and_then two
+      (record { comes = λ first second v w alike f g.
+          (same.value kind (typed_two two)).comes first second v w alike f g })
+      (λ of_kind. told two (λ own w. place_at w own (line_of kind)) (λ own at. answered (is_of value of_kind at))
+      (λ first second v w alike f g. place_same two first second v w alike f g (line_of kind))
+      (λ at. answer_same two (is_of value of_kind at)))
+
+  pub typed_same : (kind : Option Expr) (v : Datum) (x : List ℕ) (at : Place)
+      → Same two (λ own. typed inner kind v x at own)
+  typed_same None v x at = pure_same two
+  typed_same (Some kind) v x at = and_then two (type_same kind v) (λ fits. answer_same two _)
+
+  bind_same : (given : Given) (done : List Setting) (p : Param Expr) (of : Reference) (at : Place)
+      → Same two (λ own. bind_rule inner given done p of at own)
+  unfolding bind_rule
+  bind_same given done p of at = and_then two (value_same given p of at) (λ v.
+      and_then two (typed_same p.kind v p.name at) (λ u. and_then two (assign_same two p.name v p.at) (λ u. pure_same two)))
+
+  binds_same : (given : Given) (done : List Setting) (ps : List (Param Expr)) (of : Reference) (at : Place)
+      → Same two (λ own. bind_from inner given done ps of at own)
+  unfolding bind_from
+  binds_same given done [] of at = pure_same two
+  binds_same given done (p ∷ ps) of at = and_then two (bind_same given done p of at) (λ more. binds_same given more ps of at)
+
+  pub body_same : (given : Given) (of : Reference) (at : Place) (params : List (Param Expr)) (block : List Statement)
+      (number line : ℕ) → Same two (λ own. body_rule inner given of at params block number line own)
+  unfolding body_rule
+  body_same given of at params block number line = and_then two (binds_same given [] params of at) (λ bound.
+      and_then two (keep_same two number bound) (λ u. same.block block line two))
+
+  class_body_is : (given : List Setting) (of : Reference) (at : Place) (number line : ℕ)
+      → Same two (λ own. class_body inner given of at number line own)
+  unfolding class_body
+  class_body_is given of at number line = and_then two
+      (told two (λ own w. class_found w.environment of.title at) (λ own r. answered r)
+      (λ first second v w alike f g. ap (λ m. class_found m of.title at) alike.environment) (λ r. answer_same two r))
+      (λ c. body_same (set_in given) of at c.params c.block number line)
+
+  class_by_same : (item : Option Declared) (number line : ℕ) → Same two (λ own. class_by inner item number line own)
+  class_by_same None number line = pure_same two
+  class_by_same (Some item) number line = class_body_is _ _ _ number line
+
+  pub class_same : (number line : ℕ) → Same two (λ own. class_rule inner number line own)
+  unfolding class_rule
+  class_same number line = told two (λ own w. item_at w.book number) (λ own item. class_by inner item number line own)
+      (λ first second v w alike f g. ap (λ b. item_at b number) alike.book) (λ item. class_by_same item number line)

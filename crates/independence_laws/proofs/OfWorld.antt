@@ -23,7 +23,7 @@ use Rattle.eval_world.specs.Data.{look_up, looked_up_in}
 use Rattle.eval_world.specs.Environment.{Environment}
 use Rattle.eval_world.specs.Inner.{Inner}
 use Rattle.eval_world.specs.Outcomes.{Outcome, Step, answered}
-use Rattle.eval_world.specs.Worlds.{read, with_scopes, assign, assign_at, emit, write_log, place_at, with_book, put, fault}
+use Rattle.eval_world.specs.Worlds.{read, with_scopes, assign, assign_at, emit, write_log, place_at, with_book, put, fault, answered_at}
 use Rattle.eval_world.specs.Worlds.{with_overrides}
 use Rattle.eval_world.specs.declared.here.Here.{Here}
 use Rattle.eval_world.specs.declared.world.World.{World}
@@ -199,6 +199,25 @@ module _ (two : Two) where
   fault_here line details = fault_same two (λ here w. faults.fault (place_at w here line) details)
       (λ first second v w alike f g.
       ap (λ p. faults.fault p details) (place_same two first second v w alike f g line))
+
+  -- an answer whose fault is placed at a line
+  pub answered_at_same : {A : Type 0} (answer : Place → Result A Fault) (line : ℕ)
+      → Same two (λ here. answered_at answer line here)
+  answered_at_same answer line = told two (λ here w. place_at w here line) (λ here at. answered (answer at))
+      (λ first second v w alike f g. place_same two first second v w alike f g line)
+      (λ at. answer_same two (answer at))
+
+  -- an answer by what is read alone
+  pub by_environment : {A : Type 0} (answer : Environment → Result A Fault) → Same two (λ here w. answered (answer w.environment) w)
+  by_environment answer = told two (λ here w. answer w.environment) (λ here r. answered r)
+      (λ first second v w alike f g. ap answer alike.environment) (λ r. answer_same two r)
+
+  -- the same, and by the place of a line
+  pub by_environment_at : {A : Type 0} (answer : Environment → Place → Result A Fault) (line : ℕ)
+      → Same two (λ here w. answered (answer w.environment (place_at w here line)) w)
+  by_environment_at answer line = told two (λ here w. answer w.environment (place_at w here line)) (λ here r. answered r)
+      (λ first second v w alike f g. ap (λ m. answer m (place_at v two.left line)) alike.environment
+      ∙ ap (λ p. answer w.environment p) (place_same two first second v w alike f g line)) (λ r. answer_same two r)
 
   -- ---- the book
 

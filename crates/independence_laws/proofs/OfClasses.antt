@@ -28,7 +28,7 @@ use Rattle.scope_core.specs.declared.scope_kind.ScopeKind.TheVariants as kind
 use Rattle.eval_world.specs.Environment.{Environment}
 use Rattle.eval_world.specs.Inner.{Inner}
 use Rattle.eval_world.specs.Outcomes.{Outcome, Step, go_on, pure, answered, ◌>>=◌, ◌>>◌}
-use Rattle.eval_world.specs.Owners.{Owners, inline_file, owner_at, with_owner}
+use Rattle.eval_world.specs.Owners.{Owners, owner_at, with_owner}
 use Rattle.eval_world.specs.Worlds.{place_at}
 use Rattle.eval_world.specs.declared.here.Here.{Here}
 use Rattle.eval_world.specs.declared.owner.Owner.{Owner}
@@ -57,8 +57,9 @@ use Rattle.independence_laws.proofs.Going.{and_then, and_then_like, and_then_to,
 use Rattle.independence_laws.proofs.Going.{place_same, pure_like, pure_same, told}
 use Rattle.independence_laws.proofs.OfWorld.{assign_same, fault_here, gives, look_up_same, put_same, with_same_book}
 use Rattle.independence_laws.proofs.OfWorld.{with_same_scopes}
-use Rattle.independence_laws.proofs.Owning.{now, number_stays, owner_stays, owners_on, owners_stay, same_here_on}
+use Rattle.independence_laws.proofs.Owning.{last_there, one_goes_on, owner_last, owners_on, owners_stay, same_here_on}
 use Rattle.independence_laws.proofs.Owning.{same_relations_on}
+use Rattle.independence_laws.proofs.Telling.{files_stay, inlines_stay}
 
 -- ---- relations
 
@@ -80,35 +81,19 @@ module _ {first second : List LogLine} {v w : World} (alike : AreAlike first sec
 -- ---- an owner more
 
 module _ (o : Owners) (x : Owner) where
-  pub one_owner : OwnersGoOn o (with_owner x o)
-  one_owner = record { main = refl; more = x ∷ []; others = refl }
+  one_owner : OwnersGoOn o (with_owner x o)
+  one_owner = one_goes_on x o (with_owner x o) refl refl
 
-  get_last : (xs : List Owner) → slice_get (xs ++ x ∷ []) (length xs) ≡ Some x
-  get_last [] = refl
-  get_last (y ∷ ys) = get_last ys
+  number_there : length o.others + 1 ≤ length (with_owner x o).others
+  number_there = last_there x o (with_owner x o) refl refl
 
-  longer : (xs : List Owner) → length (xs ++ x ∷ []) ≡ length xs + 1
-  longer [] = refl
-  longer (y ∷ ys) = let rest = longer ys in omega (arith, rest)
+  owner_there : owner_at (length o.others + 1) (with_owner x o) ≡ x
+  owner_there = owner_last x o (with_owner x o) refl refl
 
-  pub number_there : length o.others + 1 ≤ length (with_owner x o).others
-  number_there = let is = longer o.others in omega (arith, is)
-
-  pub owner_there : owner_at (length o.others + 1) (with_owner x o) ≡ x
-  unfolding owner_at
-  owner_there =
-      let is : length o.others + 1 ≡ suc (length o.others) = omega arith in
-      rw is (ap (λ y. unwrap_or y o.main) (get_last o.others))
-
-  pub told_more : AreTold o → AreTold (with_owner x o)
+  told_more : AreTold o → AreTold (with_owner x o)
   told_more told = record {
-    files = λ file n is. let r = told.files file n is in
-        (number_stays o (with_owner x o) n one_owner r.0,
-        owner_stays o (with_owner x o) n one_owner r.0 ∙ r.1);
-    inlines = λ k n is. let r = told.inlines k n is in
-        (number_stays o (with_owner x o) k one_owner r.0, number_stays o (with_owner x o) n one_owner r.1,
-        owner_stays o (with_owner x o) n one_owner r.1 ∙ r.2
-        ∙ ap (λ (y : Owner). record y { file = inline_file }) (sym (owner_stays o (with_owner x o) k one_owner r.0)));
+    files = λ file n is. files_stay o (with_owner x o) one_owner file n (told.files file n is);
+    inlines = λ k n is. inlines_stay o (with_owner x o) one_owner k n (told.inlines k n is);
   }
 
 -- ---- classes that are listed

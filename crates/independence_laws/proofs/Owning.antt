@@ -64,6 +64,34 @@ same_here_on o p q r here there f g same = record {
   owner = same_owner_on o p q r here.owner there.owner f g same.owner;
 }
 
+-- ---- one owner more
+
+module _ (x : Owner) where
+  get_last : (xs : List Owner) → slice_get (xs ++ x ∷ []) (length xs) ≡ Some x
+  get_last [] = refl
+  get_last (y ∷ ys) = get_last ys
+
+  longer_by_one : (xs : List Owner) → length (xs ++ x ∷ []) ≡ length xs + 1
+  longer_by_one [] = refl
+  longer_by_one (y ∷ ys) = let rest = longer_by_one ys in omega (arith, rest)
+
+  module _ (o p : Owners) (main : p.main ≡ o.main) (others : p.others ≡ o.others ++ x ∷ []) where
+    pub one_goes_on : OwnersGoOn o p
+    one_goes_on = record { main = main; more = x ∷ []; others = others }
+
+    pub last_there : length o.others + 1 ≤ length p.others
+    last_there =
+        let is = longer_by_one o.others in
+        let same = ap (λ (xs : List Owner). length xs) others in
+        omega (arith, is, same)
+
+    pub owner_last : owner_at (length o.others + 1) p ≡ x
+    unfolding owner_at
+    owner_last =
+        let is : length o.others + 1 ≡ suc (length o.others) = omega arith in
+        rw is (ap (λ xs. unwrap_or (slice_get xs (length o.others)) p.main) others
+        ∙ ap (λ y. unwrap_or y p.main) (get_last o.others))
+
 -- ---- collectors
 
 pub same_collectors_on : (o p q r : Owners) (cs ds : List Collector) → OwnersGoOn o q → OwnersGoOn p r

@@ -1,6 +1,16 @@
 pub mod Going
+pub mod OfCalls
+pub mod OfChains
 pub mod OfClasses
+pub mod OfCollectors
+pub mod OfEvaluator
 pub mod OfForms
+pub mod OfFunctions
+pub mod OfLines
+pub mod OfOverrides
+pub mod OfResources
+pub mod OfTemplates
 pub mod OfWorld
+pub mod Opening
 pub mod Owning
 pub mod Telling

@@ -1,6 +1,6 @@
 -- Calls, lambdas, and the functions that take them.
 use Rattle.std.proofs.Common.{ℕ, ◌≤◌, Bool, true, false, List, [], ◌∷◌, length, Option, None, Some, Ok, Err}
-use Rattle.std.proofs.Common.{option_map}
+use Rattle.std.proofs.Common.{option_map, subst}
 use Rattle.std.specs.Prelude.{codes}
 use Rattle.std.specs.Str.{bytes_eq}
 use Rattle.hiera_merge.specs.declared.merge.Merge.{Merge}
@@ -23,7 +23,7 @@ use Rattle.expr_eval.specs.declared.functions.LambdaFunction.TheVariants as func
 use Rattle.scope_core.specs.Scopes as scopes
 use Rattle.scope_core.specs.declared.scope_kind.ScopeKind.TheVariants as kind
 use Rattle.eval_world.specs.Inner.{Inner}
-use Rattle.eval_world.specs.Outcomes.{Outcome, Step, go_on, ◌>>=◌, ◌>>◌, pure}
+use Rattle.eval_world.specs.Outcomes.{Step, answered, ◌>>=◌, ◌>>◌, pure}
 use Rattle.eval_world.specs.Worlds.{enter_lambda, leave, place_at}
 use Rattle.eval_world.specs.declared.here.Here.{Here}
 use Rattle.eval_world.specs.declared.world.World.{World}
@@ -40,15 +40,18 @@ use Rattle.eval_calls.specs.LookUps.{Request, request_of, or_next, first_found, 
 use Rattle.eval_calls.specs.LookUps.{fitting, of_type, lookup_by, lookup_rule}
 use Rattle.eval_calls.specs.Names.{is_computed, is_function, is_log}
 use Rattle.eval_calls.specs.Realizing.{references_asked, realize_from, realize_all, realized_by, realized}
-use Rattle.independence_laws.specs.Extends.{Extends}
-use Rattle.independence_laws.specs.Steps.{Same, SameInner, Two}
+use Rattle.expr_eval.specs.Testing.{is_of}
+use Rattle.eval_classes.specs.ParameterTypes.{accepted}
+use Rattle.res_core.specs.declared.log_line.LogLine.{LogLine}
+use Rattle.independence_laws.specs.Alike.{AreAlike, OwnersGoOn}
+use Rattle.independence_laws.specs.Steps.{Comes, Equal, Same, SameInner, Two}
 use Rattle.independence_laws.proofs.OfClasses.{included_same, type_same}
 use Rattle.independence_laws.proofs.OfCollectors.{realize_same}
 use Rattle.independence_laws.proofs.OfFunctions.{defined_same, lambda_refused_same}
-use Rattle.independence_laws.proofs.OfWorld.{assign_same, log_same, look_up_same, values_same}
+use Rattle.independence_laws.proofs.OfWorld.{answered_at_same, assign_same, fault_here, log_same, look_up_same, values_same}
 use Rattle.independence_laws.proofs.OfTemplates.{epp_same, inline_same}
-use Rattle.independence_laws.proofs.Going.{and_then, pure_same two, answer_same, fault_same, either, told, ends, not_less}
-use Rattle.independence_laws.proofs.Worlds.{extends_on, scope_entered}
+use Rattle.independence_laws.proofs.Going.{and_then, answer_same, either, place_same, pure_same, told}
+use Rattle.independence_laws.proofs.Opening.{in_scope, lambda_entered, left_same}
 
 -- ---- lambdas
 
@@ -56,7 +59,10 @@ module _ (inner : Inner) (same : SameInner inner) (two : Two) where
   typed_same : (kind : Option Expr) (d : Datum) (x : List ℕ) (line : ℕ) →
       Same two (λ own. typed inner kind d x line own)
   typed_same None d x line = pure_same two
-  typed_same (Some kind) d x line = and_then two (type_same inner same two kind d) (λ fits. answer_same _)
+  typed_same (Some kind) d x line = and_then two (type_same inner same two kind d) (λ fits.
+      told two (λ own w. place_at w own line) (λ own at. answered (accepted fits x at))
+      (λ first second v w alike o p. place_same two first second v w alike o p line)
+      (λ at. answer_same two (accepted fits x at)))
 
   bind_same : (p : Param Expr) (d : Datum) (line : ℕ) → Same two (λ own. bind_rule inner p d line own)
   unfolding bind_rule
@@ -69,104 +75,110 @@ module _ (inner : Inner) (same : SameInner inner) (two : Two) where
   binds_same (p ∷ ps) [] line = pure_same two
   binds_same (p ∷ ps) (d ∷ ds) line = and_then two (bind_same p d line) (λ u. binds_same ps ds line)
 
--- ---- `lookup`
+module _ (two : Two) where
+  -- ---- `lookup`
 
-or_next_same : (o : Option Datum) (p : Step (Option Datum)) → Grows p → Same two (λ here. or_next o p)
-or_next_same None p f = f
-or_next_same (Some v) p f = pure_same two
+  or_next_same : (o : Option Datum) (p : Here → Step (Option Datum)) → Same two p → Same two (λ here. or_next o (p here))
+  or_next_same None p f = f
+  or_next_same (Some v) p f = pure_same two
 
-firsts_same : (scope : ℕ) (keys : List (List ℕ)) (merge : Option Merge) (at : Place) →
-    Same two (λ here. first_found scope keys merge at)
-unfolding first_found
-firsts_same scope [] merge at = pure_same two
-firsts_same scope (key ∷ keys) merge at =
-    and_then two (look_up_same scope key merge at) (λ found. or_next_same found _ (firsts_same scope keys merge at))
+  firsts_same : (scope : ℕ) (keys : List (List ℕ)) (merge : Option Merge) (at : Place) →
+      Same two (λ here. first_found scope keys merge at)
+  unfolding first_found
+  firsts_same scope [] merge at = pure_same two
+  firsts_same scope (key ∷ keys) merge at =
+      and_then two (look_up_same two scope key merge at) (λ found. or_next_same found (λ here. first_found scope keys merge at) (firsts_same scope keys merge at))
 
-default_same : (o : Option Datum) (keys : List (List ℕ)) (line : ℕ) →
-    Same two (λ here. default_or_fault o keys line here)
-default_same (Some v) keys line = pure_same two
-default_same None keys line = fault_here two line _
+  default_same : (o : Option Datum) (keys : List (List ℕ)) (line : ℕ) →
+      Same two (λ here. default_or_fault o keys line here)
+  default_same (Some v) keys line = pure_same two
+  default_same None keys line = fault_here two line _
 
-found_or_same : (o : Option Datum) (r : Request) (line : ℕ) → Same two (λ here. found_or o r line here)
-found_or_same (Some v) r line = pure_same two
-found_or_same None r line = default_same r.options.default r.keys line
+  found_or_same : (o : Option Datum) (r : Request) (line : ℕ) → Same two (λ here. found_or o r line here)
+  found_or_same (Some v) r line = pure_same two
+  found_or_same None r line = default_same r.options.default r.keys line
 
-fitting_same : (fits : Bool) (value : Datum) (line : ℕ) → Same two (λ here. fitting fits value line here)
-fitting_same true value line = pure_same two
-fitting_same false value line = fault_here two line _
+  fitting_same : (fits : Bool) (value : Datum) (line : ℕ) → Same two (λ here. fitting fits value line here)
+  fitting_same true value line = pure_same two
+  fitting_same false value line = fault_here two line _
 
-of_type_same : (kind : Option Datum) (value : Datum) (line : ℕ) → Same two (λ here. of_type kind value line here)
-of_type_same None value line = pure_same two
-of_type_same (Some wanted) value line = and_then two (answer_same _) (λ fits. fitting_same fits value line)
+  of_type_same : (kind : Option Datum) (value : Datum) (line : ℕ) → Same two (λ here. of_type kind value line here)
+  of_type_same None value line = pure_same two
+  of_type_same (Some wanted) value line = and_then two (told two (λ here w. place_at w here line) (λ here at. answered (is_of value wanted at))
+      (λ first second v w alike o p. place_same two first second v w alike o p line)
+      (λ at. answer_same two (is_of value wanted at))) (λ fits. fitting_same fits value line)
 
-found_same : (r : Request) (line : ℕ) → Same two (λ here. found_rule r line here)
-unfolding found_rule
-found_same r line = and_then
-    (told (λ w. first_found here.scope.number r.keys r.options.merge (place_at w line))
-    (λ w. firsts_same here.scope.number r.keys r.options.merge _))
-    (λ found. and_then two (found_or_same found r line) (λ value. of_type_same r.options.of_type value line))
+  first_there : (r : Request) (line : ℕ) (first second : List LogLine) (v w : World) → AreAlike first second v w
+      → OwnersGoOn two.first v.owners → OwnersGoOn two.second w.owners
+      → Comes Equal first second v w
+      (first_found two.left.scope.number r.keys r.options.merge (place_at v two.left line) v)
+      (first_found two.right.scope.number r.keys r.options.merge (place_at w two.right line) w)
+  first_there r line first second v w alike o p =
+      subst (λ s. Comes Equal first second v w
+      (first_found two.left.scope.number r.keys r.options.merge (place_at v two.left line) v)
+      (first_found s.number r.keys r.options.merge (place_at w two.right line) w)) two.same.scope
+      ((told two (λ here w. place_at w here line)
+      (λ here at. first_found two.left.scope.number r.keys r.options.merge at)
+      (λ first second v w alike o p. place_same two first second v w alike o p line)
+      (λ at. firsts_same two.left.scope.number r.keys r.options.merge at)).comes first second v w alike o p)
 
-lookup_by_same : (o : Option Request) (f : List ℕ) (line : ℕ) → Same two (λ here. lookup_by o f line here)
-lookup_by_same None f line = fault_here two line _
-lookup_by_same (Some r) f line = found_same r line
+  found_same : (r : Request) (line : ℕ) → Same two (λ here. found_rule r line here)
+  unfolding found_rule
+  found_same r line = and_then two
+      (record { comes = λ first second v w alike o p.
+          first_there r line first second v w alike o p })
+      (λ found. and_then two (found_or_same found r line) (λ value. of_type_same r.options.of_type value line))
 
-lookup_same : (f : List ℕ) (arguments : List Datum) (line : ℕ) →
-    Same two (λ here. lookup_rule f arguments line here)
-unfolding lookup_rule
-lookup_same f arguments line = lookup_by_same (request_of arguments) f line
+  lookup_by_same : (o : Option Request) (f : List ℕ) (line : ℕ) → Same two (λ here. lookup_by o f line here)
+  lookup_by_same None f line = fault_here two line _
+  lookup_by_same (Some r) f line = found_same r line
 
--- ---- `realize`
+  lookup_same : (f : List ℕ) (arguments : List Datum) (line : ℕ) →
+      Same two (λ here. lookup_rule f arguments line here)
+  unfolding lookup_rule
+  lookup_same f arguments line = lookup_by_same (request_of arguments) f line
 
-each_realized_same : (rs : List Reference) (line : ℕ) → Same two (λ here. realize_from rs line here)
-unfolding realize_from
-each_realized_same [] line = pure_same two
-each_realized_same (r ∷ rs) line =
-    and_then two (realize_same r line) (λ u. each_realized_same rs line)
+  -- ---- `realize`
 
-realized_by_same : (o : Option (List Reference)) (f : List ℕ) (line : ℕ) →
-    Same two (λ here. realized_by o f line here)
-unfolding realize_all
-realized_by_same None f line = fault_here two line _
-realized_by_same (Some rs) f line = and_then two (each_realized_same rs line) (λ u. pure_same two)
+  each_realized_same : (rs : List Reference) (line : ℕ) → Same two (λ here. realize_from rs line here)
+  unfolding realize_from
+  each_realized_same [] line = pure_same two
+  each_realized_same (r ∷ rs) line =
+      and_then two (realize_same two r line) (λ u. each_realized_same rs line)
 
-realized_same : (f : List ℕ) (arguments : List Datum) (line : ℕ) →
-    Same two (λ here. realized f arguments line here)
-unfolding realized
-realized_same f arguments line = realized_by_same (references_asked arguments) f line
+  realized_by_same : (o : Option (List Reference)) (f : List ℕ) (line : ℕ) →
+      Same two (λ here. realized_by o f line here)
+  unfolding realize_all
+  realized_by_same None f line = fault_here two line _
+  realized_by_same (Some rs) f line = and_then two (each_realized_same rs line) (λ u. pure_same two)
 
-data_same : (f : List ℕ) (arguments : List Datum) (line : ℕ) → Same two (λ here. data_rule f arguments line here)
-unfolding data_rule
-data_same f arguments line =
-    either two (bytes_eq f (codes "lookup")) (lookup_same f arguments line) (realized_same f arguments line)
+  realized_same : (f : List ℕ) (arguments : List Datum) (line : ℕ) →
+      Same two (λ here. realized f arguments line here)
+  unfolding realized
+  realized_same f arguments line = realized_by_same (references_asked arguments) f line
+
+  data_same : (f : List ℕ) (arguments : List Datum) (line : ℕ) → Same two (λ here. data_rule f arguments line here)
+  unfolding data_rule
+  data_same f arguments line =
+      either two (bytes_eq f (codes "lookup")) (lookup_same f arguments line) (realized_same f arguments line)
 
 -- ---- a call of a lambda
 
--- where the body of a lambda is evaluated, and the world then
-abbrev own_of : Here → World → Here
-own_of w = record { scope = record { number = length w.scopes.scopes }; owner = here.owner; typed = false }
-
-abbrev entered_by : Here → World → World
-entered_by w = record w { scopes = scopes.entered kind.Lambda here.scope.number w.scopes }
+module _ (inner : Inner) (same : SameInner inner) where
+  lambda_body_same : (l : Opened) (arguments : List Datum) (line : ℕ) (t : Two)
+      → Same t (λ own. bind_from inner l.params arguments line own
+      >> (inner.block l.block line own >>= (λ d. leave own >> pure d)))
+  lambda_body_same l arguments line t = and_then t (binds_same inner same t l.params arguments line) (λ u.
+      and_then t (same.block l.block line t) (λ d. and_then t (left_same t) (λ u. pure_same t)))
 
 module _ (inner : Inner) (same : SameInner inner) (two : Two) where
-  block_ends : (w v : World) (b : List Statement) (line : ℕ) (o : Outcome (Unit {0})) → Extends w v →
-      length w.scopes.scopes ≤ own.scope.number → Reaches v o →
-      Reaches w (go_on o (λ u. inner.block b line >>= (λ d. leave >> pure d)))
-  block_ends w v b line (Ok p) f past r =
-      ends w p.1 (inner.block b line p.1) (extends_on w v p.1 f r) past ((same.block b line two).reaches p.1)
-  block_ends w v b line (Err e) f past r = tt
-
-  -- A call ends no scope but its, which was not there before.
   lambda_same : (l : Opened) (arguments : List Datum) (line : ℕ) →
       Same two (λ here. lambda_rule inner l arguments line here)
-  unfolding lambda_rule enter_lambda
-  lambda_same l arguments line = record {
-    reaches = λ w.
-        block_ends w (entered_by w) (own_of w) l.block line
-        (bind_from inner l.params arguments line (own_of w) (entered_by w))
-        (scope_entered w kind.Lambda here.scope.number) (not_less (length w.scopes.scopes))
-        ((binds_same inner same two l.params arguments line (own_of w)).reaches (entered_by w));
-  }
+  unfolding lambda_rule
+  lambda_same l arguments line = in_scope two (λ here. enter_lambda here)
+      (λ own. bind_from inner l.params arguments line own
+      >> (inner.block l.block line own >>= (λ d. leave own >> pure d)))
+      (lambda_entered two) (lambda_body_same inner same l arguments line)
 
   -- ---- functions that take a lambda
 
@@ -175,13 +187,13 @@ module _ (inner : Inner) (same : SameInner inner) (two : Two) where
   unfolding turns_from
   turns_same f l done [] line = pure_same two
   turns_same f l done (t ∷ ts) line = and_then two (lambda_same l t line)
-      (λ d. either two (decides f d) pure_same two (turns_same f l _ ts line))
+      (λ d. either two (decides f d) (pure_same two) (turns_same f l _ ts line))
 
   over_same : (f : Iteration) (l : Opened) (d : Datum) (line : ℕ) →
       Same two (λ here. over_rule inner f l d line here)
   unfolding over_rule
   over_same f l d line =
-      and_then two (answer_same _) (λ ts. and_then two (turns_same f l [] ts line) (λ ds. pure_same two))
+      and_then two (answered_at_same two _ line) (λ ts. and_then two (turns_same f l [] ts line) (λ ds. pure_same two))
 
   iterate_same : (f : Iteration) (l : Opened) (arguments : List Datum) (line : ℕ) →
       Same two (λ here. iterate_rule inner f l arguments line here)
@@ -205,12 +217,12 @@ module _ (inner : Inner) (same : SameInner inner) (two : Two) where
   reduce_same : (l : Opened) (arguments : List Datum) (line : ℕ) →
       Same two (λ here. reduce_rule inner l arguments line here)
   unfolding reduce_rule
-  reduce_same l arguments line = and_then two (answer_same _) (λ ds. reduced_same l ds line)
+  reduce_same l arguments line = and_then two (answered_at_same two _ line) (λ ds. reduced_same l ds line)
 
   with_same : (l : Opened) (arguments : List Datum) (line : ℕ) →
       Same two (λ here. with_rule inner l arguments line here)
   unfolding with_rule
-  with_same l arguments line = and_then two (answer_same _) (λ t. lambda_same l t line)
+  with_same l arguments line = and_then two (answered_at_same two _ line) (λ t. lambda_same l t line)
 
   lambda_function_same : (f : LambdaFunction) (l : Opened) (arguments : List Datum) (line : ℕ) →
       Same two (λ here. lambda_function_rule inner f l arguments line here)
@@ -223,7 +235,7 @@ module _ (inner : Inner) (same : SameInner inner) (two : Two) where
 
   log_rule_same : (f : List ℕ) (arguments : List Datum) → Same two (λ here. log_rule f arguments)
   unfolding log_rule
-  log_rule_same f arguments = and_then two (log_same f _) (λ u. pure_same two)
+  log_rule_same f arguments = and_then two (log_same two f _) (λ u. pure_same two)
 
   template_or_data_same : (f : List ℕ) (arguments : List Datum) (line : ℕ) →
       Same two (λ here. template_or_data inner f arguments line here)
@@ -231,7 +243,7 @@ module _ (inner : Inner) (same : SameInner inner) (two : Two) where
   template_or_data_same f arguments line =
       either two (bytes_eq f (codes "epp")) (epp_same inner same two f arguments line)
       (either two (bytes_eq f (codes "inline_epp")) (inline_same inner same two f arguments line)
-      (data_same f arguments line))
+      (data_same two f arguments line))
 
   site_by_same : (i : Option Including) (f : List ℕ) (arguments : List Datum) (line : ℕ) →
       Same two (λ here. site_by inner i f arguments line here)
@@ -258,7 +270,7 @@ module _ (inner : Inner) (same : SameInner inner) (two : Two) where
       Same two (λ here. other_rule inner f arguments line here)
   unfolding other_rule
   other_same f arguments line =
-      either two (is_computed f) (answer_same _) (defined_same inner same two f arguments line)
+      either two (is_computed f) (answered_at_same two _ line) (defined_same inner same two f arguments line)
 
   plain_same : (f : List ℕ) (arguments : List Datum) (line : ℕ) →
       Same two (λ here. plain_rule inner f arguments line here)
@@ -270,7 +282,7 @@ module _ (inner : Inner) (same : SameInner inner) (two : Two) where
 
   stray_same : (f : List ℕ) (line : ℕ) → Same two (λ here. stray_lambda_rule f line here)
   unfolding stray_lambda_rule
-  stray_same f line = either two (is_function f) (fault_here two line _) (lambda_refused_same f line)
+  stray_same f line = either two (is_function f) (fault_here two line _) (lambda_refused_same two f line)
 
   with_lambda_by_same : (o : Option LambdaFunction) (f : List ℕ) (l : Opened) (arguments : List Datum) (line : ℕ)
       → Same two (λ here. with_lambda_by inner o f l arguments line here)

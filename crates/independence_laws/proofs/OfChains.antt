@@ -17,33 +17,59 @@ use Rattle.eval_resources.specs.Relating.{operands_rule}
 use Rattle.eval_resources.specs.Resources.{form_of}
 use Rattle.eval_world.specs.Inner.{Inner}
 use Rattle.eval_world.specs.declared.here.Here.{Here}
-use Rattle.independence_laws.specs.Steps.{Same, SameInner, Two}
-use Rattle.independence_laws.proofs.OfClasses.{one_line}
+use Rattle.std.proofs.Common.{◌≡◌, ◌-◌, suc, length, Ok, refl, ap}
+use Rattle.res_book.specs.Relations.{with_line}
+use Rattle.res_book.specs.declared.collector.Collector.{Collector}
+use Rattle.res_core.specs.declared.operand.Operand.TheVariants as operand
+use Rattle.class_eval.specs.Chains.{last_collector, relation_by}
+use Rattle.eval_world.specs.Outcomes.{pure}
+use Rattle.eval_world.specs.Owners.{Owners}
+use Rattle.eval_world.specs.Worlds.{place_at}
+use Rattle.independence_laws.specs.Alike.{AreSameCollectors}
+use Rattle.independence_laws.specs.Steps.{Comes, Equal, Same, SameInner, Two}
+use Rattle.independence_laws.proofs.Going.{and_then, place_same, pure_same, told}
+use Rattle.independence_laws.proofs.OfClasses.{put_line}
 use Rattle.independence_laws.proofs.OfCollectors.{collector_same}
-use Rattle.independence_laws.proofs.OfOverrides.{override_same, defaults_same}
+use Rattle.independence_laws.proofs.OfOverrides.{defaults_same, override_same}
 use Rattle.independence_laws.proofs.OfResources.{all_bodies_same, declare_bodies_same}
-use Rattle.independence_laws.proofs.Going.{and_then, pure_same two, fault_same}
-use Rattle.independence_laws.proofs.Worlds.{relations_same, same_world}
+use Rattle.independence_laws.proofs.OfWorld.{fault_here}
 
-put_same : (a : Arrow) (left right : List Operand) (line : ℕ) →
-    Same two (λ here. put_relation a left right line here)
-put_same a left right line = record {
-  reaches = λ w. relations_same w _ (one_line _ w.relations);
-}
+module _ (two : Two) where
+  put_relation_same : (a : Arrow) (left right : List Operand) (line : ℕ) →
+      Same two (λ here. put_relation a left right line here)
+  put_relation_same a left right line = told two (λ here w. place_at w here line)
+      (λ here at w. Ok (tt, record w { relations = with_line (relation_by a left right at) w.relations }))
+      (λ first second v w alike f g. place_same two first second v w alike f g line)
+      (λ at. put_line two (relation_by a left right at))
 
-relate_same : (left : Option (List Operand)) (a : Arrow) (right : Option (List Operand)) (line : ℕ) →
-    Same two (λ here. relate_by left a right line here)
-relate_same None a right line = fault_here two line _
-relate_same (Some left) a None line = fault_here two line _
-relate_same (Some left) a (Some right) line =
-    and_then two (put_same a left right line) (λ u. pure_same two {a = right})
+  relate_same : (left : Option (List Operand)) (a : Arrow) (right : Option (List Operand)) (line : ℕ) →
+      Same two (λ here. relate_by left a right line here)
+  relate_same None a right line = fault_here two line _
+  relate_same (Some left) a None line = fault_here two line _
+  relate_same (Some left) a (Some right) line =
+      and_then two (put_relation_same a left right line) (λ u. pure_same two {a = right})
 
-relates_same : (left : Option (List Operand)) (ends : List End) (line : ℕ) →
-    Same two (λ here. relate_from left ends line here)
-unfolding relate_from
-relates_same left [] line = pure_same two
-relates_same left (e ∷ es) line =
-    and_then two (relate_same left e.arrow e.operands line) (λ right. relates_same (Some right) es line)
+  relates_same : (left : Option (List Operand)) (ends : List End) (line : ℕ) →
+      Same two (λ here. relate_from left ends line here)
+  unfolding relate_from
+  relates_same left [] line = pure_same two
+  relates_same left (e ∷ es) line =
+      and_then two (relate_same left e.arrow e.operands line) (λ right. relates_same (Some right) es line)
+
+module _ (two : Two) where
+  same_lengths : (o p : Owners) (cs ds : List Collector) → AreSameCollectors o p cs ds → length cs ≡ length ds
+  unfolding AreSameCollectors
+  same_lengths o p [] [] all = refl
+  same_lengths o p [] (d ∷ ds) all = absurd all
+  same_lengths o p (c ∷ cs) [] all = absurd all
+  same_lengths o p (c ∷ cs) (d ∷ ds) all = ap suc (same_lengths o p cs ds all.1)
+
+  -- the collector that was registered last
+  last_same : Same two (λ here w. Ok (Some (last_collector w), w))
+  last_same = told two (λ here w. length w.relations.collectors) (λ here n. pure (Some (operand.All (n - 1) ∷ [])))
+      (λ first second v w alike f g.
+      same_lengths v.owners w.owners v.relations.collectors w.relations.collectors alike.relations.collectors)
+      (λ n. pure_same two)
 
 module _ (inner : Inner) (same : SameInner inner) (two : Two) where
   operands_same : (r : Resource Expr) → Same two (λ here. operands_rule inner r here)
@@ -54,9 +80,7 @@ module _ (inner : Inner) (same : SameInner inner) (two : Two) where
   related_by_same : (o : OperandLayer) (line : ℕ) → Same two (λ here. related_by inner o line here)
   related_by_same (Operand-F.Expr e) line = and_then two (same.value e two) (λ v. pure_same two)
   related_by_same (Operand-F.Resource r) line = and_then two (operands_same r) (λ declared. pure_same two)
-  related_by_same (Operand-F.Collector c) line = and_then two (collector_same inner same two c) (λ u. record {
-    reaches = same_world;
-  })
+  related_by_same (Operand-F.Collector c) line = and_then two (collector_same inner same two c) (λ u. last_same two)
   related_by_same (Operand-F.Override o) line = and_then two (override_same inner same two o) (λ u. pure_same two)
   related_by_same (Operand-F.Defaults o) line = and_then two (defaults_same inner same two o) (λ u. pure_same two)
 
@@ -75,4 +99,4 @@ module _ (inner : Inner) (same : SameInner inner) (two : Two) where
       Same two (λ here. links_rule inner first ls line here)
   unfolding links_rule
   links_same first ls line = and_then two (related_same first line) (λ left.
-      and_then two (ends_same [] ls line) (λ ends. relates_same left ends line))
+      and_then two (ends_same [] ls line) (λ ends. relates_same two left ends line))

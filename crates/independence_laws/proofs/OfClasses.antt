@@ -1,7 +1,8 @@
 -- Classes: how one is declared with its parents, its parameters and its body.
 use Rattle.std.proofs.Common.{◌≡◌, ◌≤◌, ◌+◌, ℕ, zero, suc, Bool, true, false, List, [], ◌∷◌, ◌++◌, length, Option, None, Some}
 use Rattle.std.proofs.Common.{Result, Ok, Err, refl, ap, sym, subst, ◌∙◌, arith}
-use Rattle.std.specs.Prelude.{slice_get, unwrap_or}
+use Rattle.std.specs.Prelude.{option_map, slice_get, unwrap_or}
+use Rattle.override_rules.specs.Names.{attributes_of}
 use Rattle.pp_tree.specs.declared.definition.Class.{Class}
 use Rattle.pp_tree.specs.declared.expr.Expr.{Expr}
 use Rattle.pp_tree.specs.declared.param.Param.{Param}
@@ -35,8 +36,9 @@ use Rattle.eval_world.specs.declared.owner.Owner.{Owner}
 use Rattle.eval_world.specs.declared.world.World.{World}
 use Rattle.expr_eval.specs.Testing.{is_of}
 use Rattle.pp_tree.specs.Building.{line_of}
-use Rattle.eval_classes.specs.Bodies.{keep, body_rule, class_body, class_by, class_rule}
-use Rattle.eval_classes.specs.Definitions.{class_found, class_name, longest_way, module_of}
+use Rattle.eval_classes.specs.Bodies.{attributes_at, body_rule, class_body, class_by, class_rule, instance_body}
+use Rattle.eval_classes.specs.Bodies.{instance_by, instance_rule, keep}
+use Rattle.eval_classes.specs.Definitions.{class_found, class_name, define_found, longest_way, module_of}
 use Rattle.eval_classes.specs.Included.{before, contain_by, declared_once, include_from, include_names, include_rule, included}
 use Rattle.eval_classes.specs.Included.{included_by, names_asked, references, relate_rule, require_by, unless_there}
 use Rattle.eval_classes.specs.Listing.{chain_declared, chain_from, class_declared, class_item, class_names, class_owner}
@@ -318,7 +320,7 @@ module _ (two : Two) where
       refl refl (with_same_relations alike (with_containment x v.relations) (with_containment x w.relations)
       (one_containment x first second v w alike)) }
 
-  put_line : (x : RelationLine) → Same two (λ here w. Ok (tt, record w { relations = with_line x w.relations }))
+  pub put_line : (x : RelationLine) → Same two (λ here w. Ok (tt, record w { relations = with_line x w.relations }))
   put_line x = record { comes = λ first second v w alike f g. gives tt first second v w
       (record v { relations = with_line x v.relations }) (record w { relations = with_line x w.relations })
       refl refl (with_same_relations alike (with_line x v.relations) (with_line x w.relations)
@@ -549,3 +551,30 @@ module _ (inner : Inner) (same : SameInner inner) (two : Two) where
   unfolding class_rule
   class_same number line = told two (λ own w. item_at w.book number) (λ own item. class_by inner item number line own)
       (λ first second v w alike f g. ap (λ b. item_at b number) alike.book) (λ item. class_by_same item number line)
+
+  instance_body_is : (given : List Setting) (of : Reference) (at : Place) (number line : ℕ)
+      → Same two (λ own. instance_body inner given of at number line own)
+  unfolding instance_body
+  instance_body_is given of at number line = and_then two
+      (told two (λ own w. define_found w.environment of.kind at) (λ own r. answered r)
+      (λ first second v w alike f g. ap (λ m. define_found m of.kind at) alike.environment) (λ r. answer_same two r))
+      (λ d. and_then two
+      (told two (λ own w. module_of w.environment of.kind) (λ own home. names_rule of.title home line own)
+      (λ first second v w alike f g. ap (λ m. module_of m of.kind) alike.environment)
+      (λ home. names_same two of.title home line))
+      (λ u. body_same (set_in given) of at d.params d.block number line))
+
+  instance_by_same : (item : Option Declared) (number line : ℕ) → Same two (λ own. instance_by inner item number line own)
+  instance_by_same None number line = pure_same two
+  instance_by_same (Some item) number line = told two (λ own w. attributes_at w number)
+      (λ own given. instance_body inner given (reference_of item) item.at number line own)
+      (λ first second v w alike f g. ap (λ s. said s v.book) alike.overrides ∙ ap (λ b. said w.overrides b) alike.book)
+      (λ given. instance_body_is given (reference_of item) item.at number line) where
+    abbrev said : State → List Row → List Setting
+    said s b = unwrap_or (option_map (attributes_of s) (slice_get b number)) []
+
+  pub instance_same : (number line : ℕ) → Same two (λ own. instance_rule inner number line own)
+  unfolding instance_rule
+  instance_same number line = told two (λ own w. item_at w.book number)
+      (λ own item. instance_by inner item number line own)
+      (λ first second v w alike f g. ap (λ b. item_at b number) alike.book) (λ item. instance_by_same item number line)

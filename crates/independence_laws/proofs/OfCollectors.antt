@@ -23,53 +23,89 @@ use Rattle.eval_collectors.specs.Collectors.{register, asked, kind_by, kind_rule
 use Rattle.eval_collectors.specs.Collectors.{collector_rule, of_reference, register_reference, realize_rule}
 use Rattle.eval_collectors.specs.Queries.{Asks, compare_rule, test_by, test_rule, tests_from, all_of, conjunction_rule}
 use Rattle.eval_collectors.specs.Queries.{conjunctions_from, some_of, query_within, query_levels}
-use Rattle.independence_laws.specs.Extends.{RelationsGoOn}
-use Rattle.independence_laws.specs.Steps.{Same, SameInner, Two}
-use Rattle.independence_laws.proofs.Lists.{goes_on, stays}
+use Rattle.std.proofs.Common.{◌≡◌, refl, ap, sym, subst, ◌∙◌}
+use Rattle.pp_values.specs.declared.place.Place.{Place}
+use Rattle.eval_world.specs.Owners.{Owners}
+use Rattle.eval_world.specs.Worlds.{place_at}
+use Rattle.eval_world.specs.declared.world.World.{World}
+use Rattle.independence_laws.specs.Alike.{AreSameCollectors, IsSameCollector, IsSameOwner}
+use Rattle.independence_laws.specs.Steps.{Comes, Equal, Same, SameInner, Two}
+use Rattle.independence_laws.proofs.Going.{and_then, either, place_same, pure_same}
+use Rattle.independence_laws.proofs.OfClasses.{with_same_relations}
 use Rattle.independence_laws.proofs.OfLines.{lines_same}
-use Rattle.independence_laws.proofs.Going.{and_then, pure_same two, fault_same, either, told}
-use Rattle.independence_laws.proofs.Worlds.{relations_same}
+use Rattle.independence_laws.proofs.OfWorld.{fault_here, gives}
+use Rattle.independence_laws.proofs.Owning.{same_owner_on}
 
 -- ---- what is registered
 
-one_collector : (x : Collector) (r : Related) → RelationsGoOn r (with_collector x r)
-one_collector x r = record {
-  lines = stays r.lines;
-  containments = stays r.containments;
-  collectors = goes_on r.collectors (x ∷ []);
-  applied = λ c n is. is;
-}
+one_more_collector : (o p : Owners) (cs ds : List Collector) (c d : Collector) → AreSameCollectors o p cs ds
+    → IsSameCollector o p c d → AreSameCollectors o p (cs ++ c ∷ []) (ds ++ d ∷ [])
+unfolding AreSameCollectors
+one_more_collector o p [] [] c d all one = (one, tt)
+one_more_collector o p [] (y ∷ ds) c d all one = absurd all
+one_more_collector o p (x ∷ cs) [] c d all one = absurd all
+one_more_collector o p (x ∷ cs) (y ∷ ds) c d all one = (all.0, one_more_collector o p cs ds c d all.1 one)
 
-register_same : (x : Collector) → Same two (λ here. register x)
-unfolding register
-register_same x = record { reaches = λ w. relations_same w _ (one_collector x w.relations) }
+module _ (two : Two) where
+  -- the same collector is registered, whose owner is that of the code
+  registered : (make : Place → ℕ → Collector) (line : ℕ)
+      → ((at : Place) (n k : ℕ) → make at k ≡ record (make at n) { owner = k })
+      → ((at : Place) (n : ℕ) → (make at n).owner ≡ n)
+      → Same two (λ here w. register (make (place_at w here line) here.owner) w)
+  unfolding register
+  registered make line parts own = record {
+    comes = λ first second v w alike f g.
+        let n = two.left.owner in
+        let k = two.right.owner in
+        let c = make (place_at v two.left line) n in
+        let d = make (place_at w two.right line) k in
+        let same = same_owner_on two.first two.second v.owners w.owners n k f g two.same.owner in
+        let there : make (place_at v two.left line) k ≡ d
+        = ap (λ at. make at k) (place_same two first second v w alike f g line) in
+        gives tt first second v w (record v { relations = with_collector c v.relations })
+        (record w { relations = with_collector d w.relations }) refl refl
+        (with_same_relations alike (with_collector c v.relations) (with_collector d w.relations) (record {
+          lines = alike.relations.lines;
+          containments = alike.relations.containments;
+          applied = alike.relations.applied;
+          collectors = one_more_collector v.owners w.owners v.relations.collectors w.relations.collectors c d
+              alike.relations.collectors (record {
+                parts = sym there ∙ parts (place_at v two.left line) n k
+                    ∙ ap (λ j. record c { owner = j }) (sym (own (place_at w two.right line) k));
+                owner = subst (λ j. IsSameOwner v.owners w.owners j d.owner)
+                    (sym (own (place_at v two.left line) n))
+                    (subst (λ j. IsSameOwner v.owners w.owners n j) (sym (own (place_at w two.right line) k)) same);
+              });
+        }));
+  }
 
-register_kind_same : (kind : List ℕ) (query : Criterion) (lines : List Line) (exported : Bool) (line : ℕ)
-    →
-    Same two (λ here. register_kind kind query lines exported line here)
-unfolding register_kind
-register_kind_same kind query lines exported line =
-    told (λ w. register (of_kind kind query lines exported line w)) (λ w. register_same _)
+  register_kind_same : (kind : List ℕ) (query : Criterion) (lines : List Line) (exported : Bool) (line : ℕ)
+      → Same two (λ here. register_kind kind query lines exported line here)
+  unfolding register_kind
+  register_kind_same kind query lines exported line = registered
+      (λ at n. record { kind = kind; query = query; at = at; owner = n; exported = exported; lines = lines; realized = None })
+      line (λ at n k. refl) (λ at n. refl)
 
-kind_by_same : (kind : Option (List ℕ)) (line : ℕ) → Same two (λ here. kind_by kind line here)
-kind_by_same None line = fault_here two line _
-kind_by_same (Some kind) line = either two (bytes_eq kind (codes "class")) (fault_here two line _) pure_same two
+  kind_by_same : (kind : Option (List ℕ)) (line : ℕ) → Same two (λ here. kind_by kind line here)
+  kind_by_same None line = fault_here two line _
+  kind_by_same (Some kind) line = either two (bytes_eq kind (codes "class")) (fault_here two line _) (pure_same two)
 
-kind_same : (written : List ℕ) (line : ℕ) → Same two (λ here. kind_rule written line here)
-unfolding kind_rule
-kind_same written line = kind_by_same (kind_of (normal written)) line
+  kind_same : (written : List ℕ) (line : ℕ) → Same two (λ here. kind_rule written line here)
+  unfolding kind_rule
+  kind_same written line = kind_by_same (kind_of (normal written)) line
 
--- ---- the function
+  -- ---- the function
 
-register_reference_same : (r : Reference) (line : ℕ) → Same two (λ here. register_reference r line here)
-unfolding register_reference
-register_reference_same r line =
-    told (λ w. register (of_reference r line w)) (λ w. register_same _)
+  register_reference_same : (r : Reference) (line : ℕ) → Same two (λ here. register_reference r line here)
+  unfolding register_reference
+  register_reference_same r line = registered
+      (λ at n. record { kind = r.kind; query = all; at = at; owner = n; exported = false; lines = []; realized = Some r })
+      line (λ at n k. refl) (λ at n. refl)
 
-pub realize_same : (r : Reference) (line : ℕ) → Same two (λ here. realize_rule r line here)
-unfolding realize_rule
-realize_same r line =
-    either two (bytes_eq r.kind (codes "class")) (fault_here two line _) (register_reference_same r line)
+  pub realize_same : (r : Reference) (line : ℕ) → Same two (λ here. realize_rule r line here)
+  unfolding realize_rule
+  realize_same r line =
+      either two (bytes_eq r.kind (codes "class")) (fault_here two line _) (register_reference_same r line)
 
 module _ (inner : Inner) (same : SameInner inner) (two : Two) where
   -- ---- queries
@@ -127,5 +163,5 @@ module _ (inner : Inner) (same : SameInner inner) (two : Two) where
   unfolding collector_rule
   collector_same c = and_then two (asked_same (tree.out-Collector c).query (tree.out-Collector c).at) (λ query.
       and_then two (lines_same inner same two [] (tree.out-Collector c).attributes) (λ lines.
-      and_then two (kind_same (tree.out-Collector c).kind (tree.out-Collector c).at) (λ kind.
-      register_kind_same kind query lines (tree.out-Collector c).exported (tree.out-Collector c).at)))
+      and_then two (kind_same two (tree.out-Collector c).kind (tree.out-Collector c).at) (λ kind.
+      register_kind_same two kind query lines (tree.out-Collector c).exported (tree.out-Collector c).at)))

@@ -1,28 +1,28 @@
 -- Calls of functions that the site defines.
-use Rattle.std.proofs.Common.{ℕ, ◌≤◌, Bool, true, false, List, [], ◌∷◌, length, Option, None, Some, Ok, Err}
+use Rattle.std.proofs.Common.{ℕ, Bool, true, false, List, [], ◌∷◌, Option, None, Some, refl}
 use Rattle.pp_tree.specs.declared.expr.Expr.{Expr}
 use Rattle.pp_tree.specs.declared.param.Param.{Param}
 use Rattle.pp_tree.specs.declared.statement.Statement.{Statement}
 use Rattle.pp_values.specs.Datum.{Datum}
 use Rattle.pp_values.specs.declared.place.Place.{Place}
-use Rattle.scope_core.specs.Scopes as scopes
-use Rattle.scope_core.specs.declared.scope_kind.ScopeKind.TheVariants as kind
 use Rattle.eval_world.specs.Inner.{Inner}
-use Rattle.eval_world.specs.Outcomes.{Outcome, Step, go_on, ◌>>=◌, ◌>>◌, pure}
-use Rattle.eval_world.specs.Owners.{owner_in}
+use Rattle.eval_world.specs.Outcomes.{Step, answered, ◌>>=◌, ◌>>◌, pure}
 use Rattle.eval_world.specs.Worlds.{enter_function, leave, place_at}
 use Rattle.eval_world.specs.declared.here.Here.{Here}
 use Rattle.eval_world.specs.declared.world.World.{World}
-use Rattle.eval_classes.specs.Functions.{FunctionIn}
+use Rattle.eval_classes.specs.Functions.{FunctionIn, function_found}
+use Rattle.expr_eval.specs.Testing.{is_of}
+use Rattle.pp_tree.specs.Building.{line_of}
+use Rattle.pp_values.specs.Faults as faults
+use Rattle.pp_values.specs.declared.fault.What.TheVariants as what
 use Rattle.eval_calls.specs.Functions.{bind_rule, default_value, default_rule, defaults_from, bind_from, is_result}
 use Rattle.eval_calls.specs.Functions.{result_typed, run_function, taken_or_wrong, taken_by, function_rule, defined_by}
 use Rattle.eval_calls.specs.Functions.{defined_rule, lambda_refused_by, lambda_refused}
-use Rattle.independence_laws.specs.Extends.{Extends}
 use Rattle.independence_laws.specs.Steps.{Same, SameInner, Two}
 use Rattle.independence_laws.proofs.OfClasses.{typed_same}
-use Rattle.independence_laws.proofs.OfWorld.{assign_same}
-use Rattle.independence_laws.proofs.Going.{and_then, pure_same two, answer_same, fault_same, told, not_less}
-use Rattle.independence_laws.proofs.Worlds.{extends_on, owner_in_stays, scope_entered, left_again}
+use Rattle.independence_laws.proofs.OfWorld.{assign_same, by_environment, fault_here}
+use Rattle.independence_laws.proofs.Going.{and_then, answer_same, fault_same, place_same, pure_same, told}
+use Rattle.independence_laws.proofs.Opening.{function_entered, in_scope, left_same}
 
 -- ---- parameters, and what a function gives
 
@@ -53,76 +53,44 @@ module _ (inner : Inner) (same : SameInner inner) (two : Two) where
 
   is_result_same : (e : Expr) (d : Datum) → Same two (λ own. is_result inner e d own)
   unfolding is_result
-  is_result_same e d = and_then two (same.value e two) (λ of_kind. answer_same _)
+  is_result_same e d = and_then two (same.value e two) (λ of_kind.
+      told two (λ own w. place_at w own (line_of e)) (λ own at. answered (is_of d of_kind at))
+      (λ first second v w alike o p. place_same two first second v w alike o p (line_of e))
+      (λ at. answer_same two (is_of d of_kind at)))
 
   result_same : (o : Option Expr) (d : Datum) (written : List ℕ) (at : Place) →
       Same two (λ own. result_typed inner o d written at own)
   result_same None d written at = pure_same two
-  result_same (Some e) d written at = and_then two (is_result_same e d) (λ fits. answer_same _)
+  result_same (Some e) d written at = and_then two (is_result_same e d) (λ fits. answer_same two _)
 
 -- ---- the call
 
--- where the body of a function is evaluated, and the world then
-abbrev pub own_in : List ℕ → World → Here
-own_in file w = record {
-  scope = record { number = length w.scopes.scopes };
-  owner = (owner_in file w.owners).0;
-  typed = false;
-}
-
-abbrev owned_in : List ℕ → World → World
-owned_in file w = record w { owners = (owner_in file w.owners).1 }
-
-abbrev pub entered_in : List ℕ → World → World
-entered_in file w =
-    record w { scopes = scopes.entered kind.Lambda 0 w.scopes; owners = (owner_in file w.owners).1 }
-
-pub entered_extends : (file : List ℕ) (w : World) → Extends w (entered_in file w)
-entered_extends file w = extends_on w (owned_in file w) (entered_in file w) (owner_in_stays w file)
-    (scope_entered (owned_in file w) kind.Lambda 0)
-
--- What is given is tested, and then the scope ends that was not there before.
-tested : (w v : World) (d : Datum) (o : Outcome (Unit {0})) → Extends w v →
-    length w.scopes.scopes ≤ own.scope.number → Reaches v o → Reaches w (go_on o (λ u. leave >> pure d))
-tested w v d (Ok p) f past r = left_again w p.1 own.scope.number past (extends_on w v p.1 f r)
-tested w v d (Err e) f past r = tt
-
-given : (w v : World) (test : Datum → Step (Unit {0})) (o : Outcome Datum) →
-    ((d : Datum) → Same two (λ here. test d)) →
-    Extends w v → length w.scopes.scopes ≤ own.scope.number → Reaches v o →
-    Reaches w (go_on o (λ d. test d >> (leave >> pure d)))
-given w v test (Ok p) tests f past r =
-    tested w p.1 p.0 (test p.0 p.1) (extends_on w v p.1 f r) past ((tests p.0).reaches p.1)
-given w v test (Err e) tests f past r = tt
+module _ (inner : Inner) (same : SameInner inner) where
+  body_same : (f : FunctionIn) (written : List ℕ) (arguments : List Datum) (at : Place) (t : Two)
+      → Same t (λ own. bind_from inner f.0.params arguments at own
+      >> (inner.block f.0.block f.0.at own
+      >>= (λ d. result_typed inner f.0.return_type d written at own >> (leave own >> pure d))))
+  body_same f written arguments at t = and_then t (binds_same inner same t f.0.params arguments at) (λ u.
+      and_then t (same.block f.0.block f.0.at t) (λ d.
+      and_then t (result_same inner same t f.0.return_type d written at) (λ u.
+      and_then t (left_same t) (λ u. pure_same t))))
 
 module _ (inner : Inner) (same : SameInner inner) (two : Two) where
-  body_ends : (w v : World) (test : Datum → Step (Unit {0})) (b : List Statement) (line : ℕ)
-      (o : Outcome (Unit {0})) → ((d : Datum) → Same two (λ here. test d)) → Extends w v →
-      length w.scopes.scopes ≤ own.scope.number → Reaches v o →
-      Reaches w (go_on o (λ u. inner.block b line >>= (λ d. test d >> (leave >> pure d))))
-  body_ends w v test b line (Ok p) tests f past r =
-      given w p.1 test (inner.block b line p.1) tests (extends_on w v p.1 f r) past
-      ((same.block b line two).reaches p.1)
-  body_ends w v test b line (Err e) tests f past r = tt
-
-  -- A call ends no scope but its, which was not there before.
   run_function_same : (f : FunctionIn) (written : List ℕ) (arguments : List Datum) (at : Place) →
       Same two (λ here. run_function inner f written arguments at)
-  unfolding run_function enter_function
-  run_function_same f written arguments at = record {
-    reaches = λ w.
-        body_ends w (entered_in f.1 w) (own_in f.1 w)
-        (λ d. result_typed inner f.0.return_type d written at (own_in f.1 w)) f.0.block f.0.at
-        (bind_from inner f.0.params arguments at (own_in f.1 w) (entered_in f.1 w))
-        (λ d. result_same inner same two f.0.return_type d written at (own_in f.1 w))
-        (entered_extends f.1 w) (not_less (length w.scopes.scopes))
-        ((binds_same inner same two f.0.params arguments at (own_in f.1 w)).reaches (entered_in f.1 w));
-  }
+  unfolding run_function
+  run_function_same f written arguments at =
+      in_scope two (λ here. enter_function f.1)
+      (λ own. bind_from inner f.0.params arguments at own
+      >> (inner.block f.0.block f.0.at own
+      >>= (λ d. result_typed inner f.0.return_type d written at own >> (leave own >> pure d))))
+      (function_entered two f.1) (body_same inner same f written arguments at)
 
   taken_same : (b : Bool) (f : FunctionIn) (written : List ℕ) (arguments : List Datum) (at : Place) →
       Same two (λ here. taken_or_wrong b inner f written arguments at)
   taken_same true f written arguments at = run_function_same f written arguments at
-  taken_same false f written arguments at = fault_here two line _
+  taken_same false f written arguments at = fault_same two (λ here w. faults.fault at (what.WrongArguments written))
+      (λ first second v w alike o p. refl)
 
   function_same : (f : FunctionIn) (written : List ℕ) (arguments : List Datum) (at : Place) →
       Same two (λ here. function_rule inner f written arguments at)
@@ -132,22 +100,25 @@ module _ (inner : Inner) (same : SameInner inner) (two : Two) where
   defined_by_same : (o : Option FunctionIn) (f : List ℕ) (arguments : List Datum) (line : ℕ) →
       Same two (λ here. defined_by inner o f arguments line here)
   defined_by_same None f arguments line = fault_here two line _
-  defined_by_same (Some found) f arguments line = told
-      (λ w. function_rule inner found f arguments (place_at w line)) (λ w. function_same found f arguments _)
+  defined_by_same (Some found) f arguments line = told two (λ here w. place_at w here line)
+      (λ here at. function_rule inner found f arguments at)
+      (λ first second v w alike o p. place_same two first second v w alike o p line)
+      (λ at. function_same found f arguments at)
 
   pub defined_same : (f : List ℕ) (arguments : List Datum) (line : ℕ) →
       Same two (λ here. defined_rule inner f arguments line here)
   unfolding defined_rule
   defined_same f arguments line =
-      and_then two (answer_same _) (λ found. defined_by_same found f arguments line)
+      and_then two (by_environment two (λ m. function_found m f)) (λ found. defined_by_same found f arguments line)
 
 -- ---- a lambda for it
 
-refused_by_same : (o : Option FunctionIn) (f : List ℕ) (line : ℕ) →
-    Same two (λ here. lambda_refused_by o f line here)
-refused_by_same None f line = fault_here two line _
-refused_by_same (Some found) f line = fault_here two line _
+module _ (two : Two) where
+  refused_by_same : (o : Option FunctionIn) (f : List ℕ) (line : ℕ) →
+      Same two (λ here. lambda_refused_by o f line here)
+  refused_by_same None f line = fault_here two line _
+  refused_by_same (Some found) f line = fault_here two line _
 
-pub lambda_refused_same : (f : List ℕ) (line : ℕ) → Same two (λ here. lambda_refused f line here)
-unfolding lambda_refused
-lambda_refused_same f line = and_then two (answer_same _) (λ found. refused_by_same found f line)
+  pub lambda_refused_same : (f : List ℕ) (line : ℕ) → Same two (λ here. lambda_refused f line here)
+  unfolding lambda_refused
+  lambda_refused_same f line = and_then two (by_environment two (λ m. function_found m f)) (λ found. refused_by_same found f line)

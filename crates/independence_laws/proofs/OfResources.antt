@@ -20,26 +20,40 @@ use Rattle.res_core.specs.declared.body.Body.{Body}
 use Rattle.eval_resources.specs.Resources.{declared_rule, class_title_rule, title_rule, titles_rule, declare_bodies}
 use Rattle.eval_resources.specs.Resources.{form_of, resource_rule}
 use Rattle.eval_resources.specs.declared.named.Named.{Named}
-use Rattle.independence_laws.specs.Steps.{Same, SameInner, Two}
+use Rattle.std.proofs.Common.{ap, ◌∙◌}
+use Rattle.override_rules.specs.Names.{stands}
+use Rattle.pp_funcs.specs.Lists.{flat}
+use Rattle.eval_resources.specs.Bodies.{filled}
+use Rattle.eval_resources.specs.Checks.{class_tested, tested}
+use Rattle.eval_world.specs.Outcomes.{answered}
+use Rattle.eval_world.specs.declared.owner.Owner.{Owner}
+use Rattle.independence_laws.specs.Steps.{Comes, Equal, Same, SameInner, Two}
+use Rattle.independence_laws.proofs.Going.{and_then, answer_same, either, owner_same, pure_same, told}
 use Rattle.independence_laws.proofs.OfClasses.{class_declared_same}
-use Rattle.independence_laws.proofs.OfLines.{lines_same}
-use Rattle.independence_laws.proofs.OfWorld.{here_opened, put_same}
-use Rattle.independence_laws.proofs.Going.{and_then, pure_same two, answer_same, either}
-use Rattle.independence_laws.proofs.Worlds.{same_world}
+use Rattle.independence_laws.proofs.OfLines.{lines_same, placed_same}
+use Rattle.independence_laws.proofs.OfWorld.{by_environment, put_same}
 
--- ---- the declaration
+module _ (two : Two) where
+  -- ---- the declaration
 
-declare_same : (written : Form) (named : Named) (b : Body) → Same two (λ here. declare_rule written named b here)
-unfolding declare_rule
-declare_same written named b =
-    put_same (λ w. item_of (owner_at here.owner w.owners) w.book named b) (mode_of written) (here_opened here.owner)
+  declare_same : (written : Form) (named : Named) (b : Body) → Same two (λ here. declare_rule written named b here)
+  unfolding declare_rule
+  declare_same written named b = put_same two (λ here w. item_of (owner_at here.owner w.owners) w.book named b)
+      (mode_of written)
+      (λ first second v w alike f g.
+      ap (λ (o : Owner). item_of o v.book named b) (owner_same two first second v w alike f g)
+      ∙ ap (λ rows. item_of (owner_at two.right.owner w.owners) rows named b) alike.book)
 
-declared_same : (written : Form) (kind : List ℕ) (title : Datum) (b : Body) →
-    Same two (λ here. declared_rule written kind title b here)
-unfolding declared_rule
-declared_same written kind title b =
-    and_then two (answer_same _) (λ named. and_then two (declare_same written named b) (λ number.
-    answer_same (λ w. stands w.overrides w.book number)))
+  stands_same : (number : ℕ) → Same two (λ here w. answered (stands w.overrides w.book number) w)
+  stands_same number = told two (λ here w. stands w.overrides w.book number) (λ here r. answered r)
+      (λ first second v w alike f g. ap (λ s. stands s v.book number) alike.overrides
+      ∙ ap (λ rows. stands w.overrides rows number) alike.book) (λ r. answer_same two r)
+
+  declared_same : (written : Form) (kind : List ℕ) (title : Datum) (b : Body) →
+      Same two (λ here. declared_rule written kind title b here)
+  unfolding declared_rule
+  declared_same written kind title b = and_then two (by_environment two (λ m. tested m kind title b)) (λ named.
+      and_then two (declare_same written named b) (λ number. stands_same number))
 
 module _ (inner : Inner) (same : SameInner inner) (two : Two) where
   -- ---- bodies
@@ -66,7 +80,8 @@ module _ (inner : Inner) (same : SameInner inner) (two : Two) where
       Same two (λ here. body_rule inner defaults before b here)
   unfolding body_rule
   body_same defaults before b = and_then two (same.value b.title two) (λ title.
-      and_then two (lines_same inner same two [] b.attributes) (λ own. record { reaches = same_world }))
+      and_then two (lines_same inner same two [] b.attributes) (λ own.
+      placed_same two (λ place. record { titles = flat title; lines = filled own before defaults; at = place }) b.at))
 
   body_more_same : (is : Bool) (defaults : List (List Line)) (before : ℕ) (done : List Body)
       (b : tree_body.Body Expr) → Same two (λ here. body_more inner is defaults before done b here)
@@ -91,14 +106,15 @@ module _ (inner : Inner) (same : SameInner inner) (two : Two) where
   class_title_same : (written : Form) (title : Datum) (b : Body) →
       Same two (λ here. class_title_rule inner written title b here)
   unfolding class_title_rule
-  class_title_same written title b = and_then two (answer_same _) (λ c.
-      class_declared_same inner same two c (set_from [] b.lines) b.at here.owner)
+  class_title_same written title b = and_then two
+      (by_environment two (λ m. class_tested m written title b))
+      (λ c. class_declared_same inner same two c (set_from [] b.lines) b.at)
 
   title_same : (written : Form) (kind : List ℕ) (title : Datum) (b : Body) →
       Same two (λ here. title_rule inner written kind title b here)
   unfolding title_rule
   title_same written kind title b = either two (bytes_eq kind (codes "class"))
-      (class_title_same written title b) (declared_same written kind title b)
+      (class_title_same written title b) (declared_same two written kind title b)
 
   titles_same : (written : Form) (kind : List ℕ) (ts : List Datum) (b : Body) →
       Same two (λ here. titles_rule inner written kind ts b here)

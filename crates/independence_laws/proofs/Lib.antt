@@ -1,4 +1,6 @@
 pub mod Going
+pub mod Later
+pub mod Leaving
 pub mod OfCalls
 pub mod OfChains
 pub mod OfClasses
@@ -13,4 +15,5 @@ pub mod OfTemplates
 pub mod OfWorld
 pub mod Opening
 pub mod Owning
+pub mod Sound
 pub mod Telling

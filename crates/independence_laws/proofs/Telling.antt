@@ -15,7 +15,7 @@ use Rattle.eval_world.specs.declared.owner.Owner.{Owner}
 use Rattle.independence_laws.specs.Alike.{AreTold, OwnersGoOn}
 use Rattle.independence_laws.proofs.Owning.{last_there, number_stays, one_goes_on, owner_last, owner_stays, owners_stay}
 
-tie : (o : Ordering) → is_eq o ≡ true → o ≡ Equal
+pub tie : (o : Ordering) → is_eq o ≡ true → o ≡ Equal
 tie Less e = absurd cc
 tie Equal e = refl
 tie Greater e = absurd cc
@@ -57,7 +57,7 @@ module _ {K : Type 0} (cmp : K → K → Ordering) (exact : (a b : K) → cmp a 
 
 -- ---- a file more, and a text more
 
-same_texts : (a b : List ℕ) → text_cmp a b ≡ Equal → a ≡ b
+pub same_texts : (a b : List ℕ) → text_cmp a b ≡ Equal → a ≡ b
 same_texts a b e = (bytes_eq-Decides a b).0 (sym (is_eq-slice_cmp a b) ∙ ap is_eq e)
 
 -- what was told stays, where one owner more stands behind the others

@@ -1,2 +1,3 @@
 pub mod Alike
+pub mod Computing
 pub mod Steps

@@ -1,5 +1,5 @@
 //! Which classes are declared together.
-ghost use Rattle.std.specs.Prelude.{◌≡◌, [], IfOk, Some};
+ghost use Rattle.std.specs.Prelude.{◌≡◌, [], IfOk, unwrap_or};
 ghost use Rattle.std.specs.Option.{option_copied};
 ghost use Rattle.eval_classes.specs.Definitions.{class_name as named, longest_way};
 ghost use Rattle.eval_classes.specs.Listing as spec;
@@ -17,7 +17,7 @@ use res_book::Book;
 use std::alloc::Global;
 
 /// A class, and its parents up to the last one, or to one that is declared already.
-#[tactic(auto, using(crate::proofs::Links::begins, crate::proofs::Links::no_parent, crate::proofs::Links::no_further))]
+#[tactic(auto, using(crate::proofs::Links::begins, crate::proofs::Links::no_further))]
 pub fn chain_of<'a>(
     alloc: Global,
     environment: &Environment<'a>,
@@ -31,26 +31,30 @@ pub fn chain_of<'a>(
     let mut last = class;
     let mut name = class_name(alloc, class)?;
     for _turn in 0..u64::MAX {
-        let Some(parent) = parent_of(alloc, environment, &name, last)? else {
-            return Ok(Chain {
-                last,
-                before,
-                parent: None,
-            });
-        };
+        let parent = parent_of(alloc, environment, &name, last)?;
         let Some(next) = next_class(alloc, environment, book, &parent)? else {
             return Ok(Chain {
                 last,
                 before,
-                parent: Some(parent),
+                parent,
             });
         };
         before.push(last)?;
         last = next;
-        name = parent;
+        name = or_name(parent, name);
     }
     // No memory holds so many classes.
     Err(Memory)
+}
+
+/// The name of the parent, which is there where its class is.
+fn or_name(parent: Option<Text>, name: Text) -> Text
+    ensures { result ≡ unwrap_or parent name }
+{
+    match parent {
+        Some(parent) => parent,
+        None => name,
+    }
 }
 
 /// The class of this name, where the site has one that is not declared yet.
@@ -58,13 +62,26 @@ fn next_class<'a>(
     alloc: Global,
     environment: &Environment<'a>,
     book: &Book,
-    name: &Text,
+    name: &Option<Text>,
 ) -> Result<Option<&'a Class>, Memory>
     ensures { IfOk result (λ o. option_copied o
-        ≡ spec.unless_declared book.now (spec.class_at environment.now (Some name.now))) }
+        ≡ spec.unless_declared book.now (spec.class_at environment.now name.now)) }
 {
-    let class = class_in(find(alloc, environment, name)?);
+    let class = class_at(alloc, environment, name)?;
     unless_declared(alloc, book, class)
+}
+
+fn class_at<'a>(
+    alloc: Global,
+    environment: &Environment<'a>,
+    name: &Option<Text>,
+) -> Result<Option<&'a Class>, Memory>
+    ensures { IfOk result (λ o. option_copied o ≡ spec.class_at environment.now name.now) }
+{
+    match name {
+        Some(name) => Ok(class_in(find(alloc, environment, name)?)),
+        None => Ok(None),
+    }
 }
 
 fn unless_declared<'a>(

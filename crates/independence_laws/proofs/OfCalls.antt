@@ -125,8 +125,10 @@ module _ (two : Two) where
   found_same : (r : Request) (line : ℕ) → Same two (λ here. found_rule r line here)
   unfolding found_rule
   found_same r line = and_then two
-      (record { comes = λ first second v w alike o p.
-          first_there r line first second v w alike o p })
+      (record {
+        comes = λ first second v w alike o p.
+            first_there r line first second v w alike o p;
+      })
       (λ found. and_then two (found_or_same found r line) (λ value. of_type_same r.options.of_type value line))
 
   lookup_by_same : (o : Option Request) (f : List ℕ) (line : ℕ) → Same two (λ here. lookup_by o f line here)

@@ -19,6 +19,7 @@ use Rattle.eval_world.specs.Worlds.{place_at}
 use Rattle.independence_laws.specs.Steps.{Comes, Equal, Same, SameInner, Two}
 use Rattle.independence_laws.proofs.Going.{and_then, place_same, pure_same, told}
 use Rattle.independence_laws.proofs.OfWorld.{fault_here}
+
 module _ (two : Two) where
   pub placed_same : {A : Type 0} (said : Place → A) (line : ℕ) → Same two (λ here w. pure (said (place_at w here line)) w)
   placed_same said line = told two (λ here w. place_at w here line) (λ here at. pure (said at))

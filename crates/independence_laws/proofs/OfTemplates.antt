@@ -52,15 +52,19 @@ module _ (two : Two) where
   pub begin_same : Same two (λ own. begin)
   begin_same = told two (λ own w. w.rendered) (λ own t w. Ok (t, with_rendered [] w))
       (λ first second v w alike f g. alike.rendered)
-      (λ t. record { comes = λ first second v w alike f g. gives t first second v w (with_rendered [] v)
-          (with_rendered [] w) refl refl (with_same_text alike [] [] refl) })
+      (λ t. record {
+        comes = λ first second v w alike f g. gives t first second v w (with_rendered [] v)
+            (with_rendered [] w) refl refl (with_same_text alike [] [] refl);
+      })
 
   -- what was emitted before is back
   pub finish_same : (before : List ℕ) → Same two (λ own. finish before)
   finish_same before = told two (λ own w. w.rendered) (λ own t w. Ok (datum.text t, with_rendered before w))
       (λ first second v w alike f g. alike.rendered)
-      (λ t. record { comes = λ first second v w alike f g. gives (datum.text t) first second v w (with_rendered before v)
-          (with_rendered before w) refl refl (with_same_text alike before before refl) })
+      (λ t. record {
+        comes = λ first second v w alike f g. gives (datum.text t) first second v w (with_rendered before v)
+            (with_rendered before w) refl refl (with_same_text alike before before refl);
+      })
 
 module _ (inner : Inner) (same : SameInner inner) (two : Two) where
   -- ---- parameters

@@ -24,8 +24,8 @@ main_found true file n e is =
       omega arith,
       ap (λ f. record main_owner { file = f }) (sym (same_texts file MAIN_MANIFEST.now (tie (text_cmp file MAIN_MANIFEST.now) e))),
     ) where
-  the_number : Some 0 ≡ Some n → zero ≡ n
-  the_number same = cc
+      the_number : Some 0 ≡ Some n → zero ≡ n
+      the_number same = cc
 
 told_alone : AreTold main_alone
 told_alone = record {

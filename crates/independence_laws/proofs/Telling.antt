@@ -39,7 +39,7 @@ module _ {K : Type 0} (cmp : K → K → Ordering) (exact : (a b : K) → cmp a 
       → (lookup (is_at (cmp q)) (insert_entry cmp es k v) ≡ Some n → Found q n es) → Found q n (x ∷ es)
   unfolding Found
   there_by true q n x es e is rest = inr (rw e is)
-  there_by false q n x es e is rest = elim (rest is) [ | inl found ↦ inl found | inr found ↦ inr (rw e found) ]
+  there_by false q n x es e is rest = elim (rest is) [ inl found ↦ inl found | inr found ↦ inr (rw e found) ]
 
   step_by : (o : Ordering) (q : K) (n : ℕ) (x : K × ℕ) (es : List (K × ℕ)) → cmp k x.0 ≡ o
       → lookup (is_at (cmp q)) (match_ordering o ((k, v) ∷ x ∷ es) ((x.0, v) ∷ es) (x ∷ insert_entry cmp es k v)) ≡ Some n
@@ -75,7 +75,7 @@ module _ (o p : Owners) (goes : OwnersGoOn o p) where
     number_stays o p k goes is.0,
     number_stays o p n goes is.1,
     owner_stays o p n goes is.1 ∙ is.2
-    ∙ ap (λ (m : Owner). record m { file = inline_file }) (sym (owner_stays o p k goes is.0)),
+        ∙ ap (λ (m : Owner). record m { file = inline_file }) (sym (owner_stays o p k goes is.0)),
   )
 
 -- what one finds by the file, or by the code that renders a text
@@ -147,13 +147,14 @@ module _ (o : Owners) (told : AreTold o) where
         × (owner_at n (with_inline number o) ≡ inline_owner k (with_inline number o))
     text_found k n (inl is) = subst (λ j. (k ≤ length (with_inline number o).others)
         × (j ≤ length (with_inline number o).others)
-        × (owner_at j (with_inline number o) ≡ inline_owner k (with_inline number o))) is.1
-        (subst (λ j. j ≤ length (with_inline number o).others) (sym is.0)
-        (number_stays o (with_inline number o) number text_goes below),
-        text_there,
-        text_last ∙ ap (λ (m : Owner). record m { file = inline_file })
-        (sym (owner_stays o (with_inline number o) number text_goes below)
-        ∙ ap (λ j. owner_at j (with_inline number o)) (sym is.0)))
+        × (owner_at j (with_inline number o) ≡ inline_owner k (with_inline number o))) is.1 (
+          subst (λ j. j ≤ length (with_inline number o).others) (sym is.0)
+              (number_stays o (with_inline number o) number text_goes below),
+          text_there,
+          text_last ∙ ap (λ (m : Owner). record m { file = inline_file })
+              (sym (owner_stays o (with_inline number o) number text_goes below)
+              ∙ ap (λ j. owner_at j (with_inline number o)) (sym is.0)),
+        )
     text_found k n (inr is) = inlines_stay o (with_inline number o) text_goes k n (told.inlines k n is)
 
     text_told : AreTold (with_inline number o)

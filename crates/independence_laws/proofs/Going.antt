@@ -70,7 +70,7 @@ module _ {A : Type 0} (two : Two) where
   pub fault_same : (say : Here → World → Fault)
       → ((first second : List LogLine) (v w : World) → AreAlike first second v w → OwnersGoOn two.first v.owners
       → OwnersGoOn two.second w.owners → say two.left v ≡ say two.right w)
-      → Same two (λ here w. Err (say here w))
+      → Same {A = A} two (λ here w. Err (say here w))
   fault_same say same = record { comes = λ first second v w alike f g. same first second v w alike f g }
 
   -- ---- a choice
@@ -95,13 +95,13 @@ bind_like like like_next next other first second v w (Err h) (Err i) come rest =
 
 module _ {A B : Type 0} (two : Two) where
   -- one step, and then the next one with what it gave
-  pub and_then_like : (like : Likeness A) (like_next : Likeness B) {p : Here → Step A} {next : Here → A → Step B}
+  pub and_then_like : (like : Likeness A) (like_next : Likeness B) {p : Here → Step A} (next : Here → A → Step B)
       → IsAlike like two p
       → ((first second : List LogLine) (a b : A) (x y : World) → AreAlike first second x y
       → OwnersGoOn two.first x.owners → OwnersGoOn two.second y.owners → like x.owners y.owners a b
       → Comes like_next first second x y (next two.left a x) (next two.right b y))
       → IsAlike like_next two (λ here. p here >>= next here)
-  and_then_like like like_next {p = p} {next = next} f rest = record {
+  and_then_like like like_next {p = p} next f rest = record {
     comes = λ first second v w alike o q.
         bind_like like like_next (next two.left) (next two.right) first second v w (p two.left v) (p two.right w)
         (f.comes first second v w alike o q)
@@ -111,7 +111,7 @@ module _ {A B : Type 0} (two : Two) where
   -- the same where the first one gives what is equal
   pub and_then_to : (like_next : Likeness B) {p : Here → Step A} {next : Here → A → Step B} → Same two p
       → ((a : A) → IsAlike like_next two (λ here. next here a)) → IsAlike like_next two (λ here. p here >>= next here)
-  and_then_to like_next {p = p} {next = next} f rest = and_then_like Equal like_next {p = p} {next = next} f
+  and_then_to like_next {p = p} {next = next} f rest = and_then_like Equal like_next {p = p} next f
       (λ first second a b x y alike r s same.
       subst (λ c. Comes like_next first second x y (next two.left a x) (next two.right c y)) same
       ((rest a).comes first second x y alike r s))
@@ -122,6 +122,9 @@ module _ {A B : Type 0} (two : Two) where
 
 -- ---- what is known of the world and of the place
 
+abbrev said : ℕ → Owner → Place
+said line o = record { file = o.file; line = line }
+
 module _ (two : Two) (first second : List LogLine) (v w : World) (alike : AreAlike first second v w)
     (f : OwnersGoOn two.first v.owners) (g : OwnersGoOn two.second w.owners) where
   pub owner_same : owner_at two.left.owner v.owners ≡ owner_at two.right.owner w.owners
@@ -129,6 +132,4 @@ module _ (two : Two) (first second : List LogLine) (v w : World) (alike : AreAli
       (same_owner_on two.first two.second v.owners w.owners two.left.owner two.right.owner f g two.same.owner).owner
 
   pub place_same : (line : ℕ) → place_at v two.left line ≡ place_at w two.right line
-  place_same line = ap (λ (o : Owner). place line o) owner_same where
-    abbrev place : ℕ → Owner → Place
-    place n o = record { file = o.file; line = n }
+  place_same line = ap (λ (o : Owner). said line o) owner_same

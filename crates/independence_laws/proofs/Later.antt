@@ -6,7 +6,7 @@ use Rattle.eval_world.specs.declared.world.World.{World}
 use Rattle.class_eval.specs.Meaning.{within}
 use Rattle.independence_laws.specs.Alike.{IsSameHere}
 use Rattle.independence_laws.specs.Computing.{Computes, IsSound, behind}
-use Rattle.independence_laws.specs.Steps.{Comes, Equal}
+use Rattle.independence_laws.specs.Steps.{Comes, Equal, Two}
 use Rattle.independence_laws.proofs.Leaving.{leaves_alike}
 use Rattle.independence_laws.proofs.OfEvaluator.{within_same}
 use Rattle.independence_laws.proofs.Owning.{owners_stay}
@@ -16,5 +16,6 @@ pub block_later : (w u : World) → IsSound w → Computes w u → (levels : ℕ
     → Comes Equal w.log u.log w (behind w u) ((within levels).block b line here w)
     ((within levels).block b line here (behind w u))
 block_later w u sound is levels b line here same =
-    ((within_same levels).block b line (record { left = here; right = here; first = w.owners; second = w.owners; same = same }))
-    .comes w.log u.log w (behind w u) (leaves_alike w u sound is) (owners_stay w.owners) is.goes
+    let two : Two = record { left = here; right = here; first = w.owners; second = w.owners; same = same } in
+    ((within_same levels).block b line two).comes w.log u.log w (behind w u) (leaves_alike w u sound is)
+    (owners_stay w.owners) is.goes

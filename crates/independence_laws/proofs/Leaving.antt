@@ -1,7 +1,9 @@
 -- A call that only computes leaves a world that is alike.
 use Rattle.std.proofs.Common.{◌≡◌, ◌-◌, ◌+◌, ℕ, zero, suc, Bool, true, false, cond, ◌&&◌, ◌==◌, List, [], ◌∷◌, ◌++◌, length, take}
 use Rattle.std.proofs.Common.{Option, None, Some, refl, ap, sym, subst, ◌∙◌, slice_get, slice_set, arith}
+use Rattle.std.proofs.Math.Bool.{and-true}
 use Rattle.std.proofs.lemmas.List.{append-nil}
+use Rattle.std.specs.Cmp.Lexicographic.{bytes_decides}
 use Rattle.res_book.specs.Relations.{Related}
 use Rattle.scope_core.specs.Scopes as scopes
 use Rattle.scope_core.specs.Scopes.{Scope, Scopes, ended, is_last_ended, scope_of, scopes_after, without_ended}
@@ -37,7 +39,7 @@ ended_lambda : (o : Owner) (x : Scope) → o ≡ owner.Lambda → ended o x ≡ 
 ended_lambda o x is = subst (λ q. ended q x ≡ over) (sym is) refl
 
 same_number : (n : ℕ) → (n == n) ≡ true
-same_number n = omega arith
+same_number n = sym (and-true (n == n)) ∙ (bytes_decides (n ∷ []) (n ∷ [])).1 refl
 
 is_last : (ss : List Scope) → is_last_ended (length ss) (ss ++ over ∷ []) ≡ true
 is_last ss =
@@ -55,15 +57,16 @@ left_list ss x is =
     ∙ ap (λ y. without_ended (length ss) (slice_set (ss ++ x ∷ []) (length ss) y)) (ended_lambda x.owner x is)
     ∙ ap (λ l. without_ended (length ss) l) (set_at_end ss x over) ∙ goes ss
 
+abbrev said : List Scope → ℕ → List (List ℕ × ℕ) → Scopes
+said l n c = record { scopes = l; node = n; classes = c }
+
 -- all scopes are those that were there
 scopes_again : (s t : Scopes) (x : Scope) → x.owner ≡ owner.Lambda → t.scopes ≡ s.scopes ++ x ∷ [] → t.node ≡ s.node
     → t.classes ≡ s.classes → s ≡ scopes.left (length s.scopes) t
 scopes_again s t x is all node classes = sym (
     ap (λ l. said l t.node t.classes) (ap (λ l. without_ended (length s.scopes)
     (scopes_after (length s.scopes) (slice_get l (length s.scopes)) l)) all ∙ left_list s.scopes x is)
-    ∙ ap (λ n. said s.scopes n t.classes) node ∙ ap (λ c. said s.scopes s.node c) classes) where
-  abbrev said : List Scope → ℕ → List (List ℕ × ℕ) → Scopes
-  said l n c = record { scopes = l; node = n; classes = c }
+    ∙ ap (λ n. said s.scopes n t.classes) node ∙ ap (λ c. said s.scopes s.node c) classes)
 
 -- ---- the world
 

@@ -24,6 +24,7 @@ use Rattle.res_book.specs.declared.row.Row.{Row}
 use Rattle.res_core.specs.AttributeViews.{set_in}
 use Rattle.res_core.specs.declared.declared.Declared.{Declared}
 use Rattle.res_core.specs.declared.log_line.LogLine.{LogLine}
+use Rattle.scope_core.specs.Names.{value_of_class}
 use Rattle.scope_core.specs.Scopes.{Scopes, entered}
 use Rattle.scope_core.specs.declared.scope_kind.ScopeKind.TheVariants as kind
 use Rattle.eval_world.specs.Environment.{Environment}
@@ -111,6 +112,10 @@ AreSameListed o p [] (k ∷ ks) = ⊥
 AreSameListed o p (l ∷ ls) [] = ⊥
 AreSameListed o p (l ∷ ls) (k ∷ ks) = IsSameListed o p l k × AreSameListed o p ls ks
 
+none_listed : (o p : Owners) → AreSameListed o p [] []
+unfolding AreSameListed
+none_listed o p = tt
+
 listed_on : (o p q r : Owners) (l k : Listed) → OwnersGoOn o q → OwnersGoOn p r → IsSameListed o p l k
     → IsSameListed q r l k
 listed_on o p q r l k f g same = record {
@@ -129,7 +134,7 @@ all_listed_on o p q r (l ∷ ls) (k ∷ ks) f g same =
     (listed_on o p q r l k f g same.0, all_listed_on o p q r ls ks f g same.1)
 
 -- where the body of a class is evaluated that is listed
-listed_two : (o p : Owners) (l k : Listed) → IsSameListed o p l k → Two
+abbrev listed_two : (o p : Owners) (l k : Listed) → IsSameListed o p l k → Two
 listed_two o p l k same = record { left = l.here; right = k.here; first = o; second = p; same = same.here }
 
 module _ (two : Two) where
@@ -160,7 +165,9 @@ module _ (two : Two) where
 
   outer_same : (parent : Option (List ℕ)) (first second : List LogLine) (v w : World) → AreAlike first second v w
       → outer_scope parent v ≡ outer_scope parent w
-  outer_same parent first second v w alike = ap (λ s. outer_scope parent (record w { scopes = s })) alike.scopes
+  outer_same None first second v w alike = refl
+  outer_same (Some name) first second v w alike =
+      ap (λ (s : Scopes). unwrap_or (value_of_class name s.classes) 0) alike.scopes
 
   chain_scopes_same : (chain : Chain) → Same two (λ here. enter_chain chain)
   unfolding enter_chain
@@ -258,7 +265,8 @@ module _ (two : Two) where
       → IsAlike IsSameListed two (λ here. list_rule e given at here.owner)
   unfolding list_rule
   list_same e given at = and_then_to two IsSameListed (declare_same two e.0 given at) (λ number.
-      and_then_like two IsSameListed IsSameListed (own_same two e.0 e.1 number) (λ first second l k x y alike r s same.
+      and_then_like two IsSameListed IsSameListed
+      (λ here l. class_names (class_name e.0) l >> pure l) (own_same two e.0 e.1 number) (λ first second l k x y alike r s same.
       bind_like Equal IsSameListed (λ u. pure l) (λ u. pure k) first second x y (class_names (class_name e.0) l x)
       (class_names (class_name e.0) k y)
       (class_names_same x.owners y.owners l k same (class_name e.0) first second x y alike (owners_stay x.owners)
@@ -383,19 +391,15 @@ module _ (inner : Inner) (same : SameInner inner) where
         → Same two (λ here. chain_declared inner chain given at here.owner)
     unfolding chain_declared
     chain_same chain given at = and_then two (chain_scopes_same two chain) (λ es.
-        and_then_like two AreSameListed Equal
+        and_then_like two AreSameListed Equal (λ here ls. known_parent chain.parent at >> run_all inner ls)
         (record { comes = λ first second v w alike f g.
-            lists_same es given at two [] [] none first second v w alike f g })
+            lists_same es given at two [] [] (none_listed two.first two.second) first second v w alike f g })
         (λ first second ls ks x y alike r s all.
         bind_like Equal Equal (λ u. run_all inner ls) (λ u. run_all inner ks) first second x y
         (known_parent chain.parent at x) (known_parent chain.parent at y)
         ((known_same two chain.parent at).comes first second x y alike r s)
         (λ a b x2 y2 alike2 r2 s2 eq.
         runs_same x.owners y.owners ls ks all first second x2 y2 alike2 r2 s2)))
-    where
-      none : AreSameListed two.first two.second [] []
-      unfolding AreSameListed
-      none = tt
 
     chain_found_same : (c : Class) (first second : List LogLine) (v w : World) → AreAlike first second v w
         → chain_from (longest_way v.environment) [] (class_name c) c v.environment v.book
@@ -458,6 +462,9 @@ module _ (inner : Inner) (same : SameInner inner) where
     included_same f written arguments line = included_by_same f written (names_asked arguments) line
 
 -- ---- parameters and bodies
+
+abbrev said : ℕ → State → List Row → List Setting
+said number s b = unwrap_or (option_map (attributes_of s) (slice_get b number)) []
 
 module _ (two : Two) where
   data_by_same : (b : Bool) (of : Reference) (x : List ℕ) (at : Place) → Same two (λ own. data_by b of x at)
@@ -568,10 +575,9 @@ module _ (inner : Inner) (same : SameInner inner) (two : Two) where
   instance_by_same None number line = pure_same two
   instance_by_same (Some item) number line = told two (λ own w. attributes_at w number)
       (λ own given. instance_body inner given (reference_of item) item.at number line own)
-      (λ first second v w alike f g. ap (λ s. said s v.book) alike.overrides ∙ ap (λ b. said w.overrides b) alike.book)
-      (λ given. instance_body_is given (reference_of item) item.at number line) where
-    abbrev said : State → List Row → List Setting
-    said s b = unwrap_or (option_map (attributes_of s) (slice_get b number)) []
+      (λ first second v w alike f g. ap (λ s. said number s v.book) alike.overrides
+      ∙ ap (λ b. said number w.overrides b) alike.book)
+      (λ given. instance_body_is given (reference_of item) item.at number line)
 
   pub instance_same : (number line : ℕ) → Same two (λ own. instance_rule inner number line own)
   unfolding instance_rule

@@ -21,7 +21,7 @@ use Rattle.eval_resources.specs.Resources.{declared_rule, class_title_rule, titl
 use Rattle.eval_resources.specs.Resources.{form_of, resource_rule}
 use Rattle.eval_resources.specs.declared.named.Named.{Named}
 use Rattle.std.proofs.Common.{ap, ◌∙◌}
-use Rattle.override_rules.specs.Names.{stands}
+use Rattle.override_rules.specs.Meaning.{stands}
 use Rattle.pp_funcs.specs.Lists.{flat}
 use Rattle.eval_resources.specs.Bodies.{filled}
 use Rattle.eval_resources.specs.Checks.{class_tested, tested}

@@ -182,9 +182,8 @@ module _ (two : Two) where
   looked : (scope : ℕ) (key : List ℕ) (merge : Option Merge) (at : Place) (first second : List LogLine) (v w : World)
       → AreAlike first second v w → looked_up_in scope key merge at v ≡ looked_up_in scope key merge at w
   looked scope key merge at first second v w alike =
-      ap (λ m. said m v.scopes) alike.environment ∙ ap (λ s. said w.environment s) alike.scopes where
-    abbrev said : Environment → Scopes → Result (Option Datum) Fault
-    said m s = looked_up_in scope key merge at (record v { environment = m; scopes = s })
+      ap (λ m. looked_up_in scope key merge at (record v { environment = m })) alike.environment
+      ∙ ap (λ s. looked_up_in scope key merge at (record v { environment = w.environment; scopes = s })) alike.scopes
 
   pub look_up_same : (scope : ℕ) (key : List ℕ) (merge : Option Merge) (at : Place)
       → Same two (λ here. look_up scope key merge at)

@@ -20,7 +20,7 @@ use Rattle.independence_laws.proofs.Telling.{IsFound, in_file, in_text}
 -- what is evaluated where a step has led
 pub in_scope : {B : Type 0} (two : Two) (enter : Here → Step Here) (body : Here → Step B) → IsAlike IsSameHere two enter
     → ((t : Two) → Same t body) → Same two (λ here. enter here >>= body)
-in_scope two enter body entered same = and_then_like two IsSameHere Equal {p = enter} {next = λ here own. body own} entered
+in_scope two enter body entered same = and_then_like two IsSameHere Equal {p = enter} (λ here own. body own) entered
     (λ first second a b x y alike r s there.
     (same (record { left = a; right = b; first = x.owners; second = y.owners; same = there })).comes first second x y alike
     (owners_stay x.owners) (owners_stay y.owners))

@@ -29,8 +29,7 @@ Equal o p a b = a ≡ b
 
 -- From two worlds: the same fault, or the same value and worlds that are alike, where all owners have kept their
 -- numbers.
-pub record Come {A : Type 0} (like : Likeness A) (first second : List LogLine) (v w : World) (p q : A × World) : Type 0
-where
+pub record Come {A : Type 0} (like : Likeness A) (first second : List LogLine) (v w : World) (p q : A × World) : Type 0 where
   pub value : like p.1.owners q.1.owners p.0 q.0
   pub worlds : AreAlike first second p.1 q.1
   pub left : OwnersGoOn v.owners p.1.owners

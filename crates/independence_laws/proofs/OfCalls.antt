@@ -14,9 +14,10 @@ use Rattle.pp_tree.specs.declared.statement.Words.{Words}
 use Rattle.pp_values.specs.Datum.{Datum}
 use Rattle.pp_values.specs.declared.place.Place.{Place}
 use Rattle.pp_values.specs.declared.reference.Reference.{Reference}
-use Rattle.expr_eval.specs.Gathering.{decides}
+use Rattle.expr_eval.specs.Gathering.{decides, gathered}
 use Rattle.expr_eval.specs.Names.{lambda_function}
-use Rattle.expr_eval.specs.Turns.{Turn}
+use Rattle.expr_eval.specs.Turns.{Turn, reduced_over, turn_of_with, turns_of}
+use Rattle.pp_funcs.specs.Functions.{applied}
 use Rattle.expr_eval.specs.declared.functions.Iteration.{Iteration}
 use Rattle.expr_eval.specs.declared.functions.LambdaFunction.{LambdaFunction}
 use Rattle.expr_eval.specs.declared.functions.LambdaFunction.TheVariants as function
@@ -35,7 +36,7 @@ use Rattle.eval_calls.specs.Calls.{stray_lambda_rule, with_lambda_by, with_lambd
 use Rattle.eval_calls.specs.Calls.{invoked_on, method_rule, words_rule}
 use Rattle.eval_calls.specs.Iterating.{turns_from, over_rule, iterate_rule, reduce_from, reduced, reduce_rule}
 use Rattle.eval_calls.specs.Iterating.{with_rule, lambda_function_rule}
-use Rattle.eval_calls.specs.Lambdas.{Opened, opened, typed, bind_rule, bind_from, lambda_rule}
+use Rattle.eval_calls.specs.Lambdas.{Opened, opened, param_count, typed, bind_rule, bind_from, lambda_rule}
 use Rattle.eval_calls.specs.LookUps.{Request, request_of, or_next, first_found, default_or_fault, found_or, found_rule}
 use Rattle.eval_calls.specs.LookUps.{fitting, of_type, lookup_by, lookup_rule}
 use Rattle.eval_calls.specs.Names.{is_computed, is_function, is_log}
@@ -171,7 +172,7 @@ module _ (inner : Inner) (same : SameInner inner) where
       → Same t (λ own. bind_from inner l.params arguments line own
       >> (inner.block l.block line own >>= (λ d. leave own >> pure d)))
   lambda_body_same l arguments line t = and_then t (binds_same inner same t l.params arguments line) (λ u.
-      and_then t (same.block l.block line t) (λ d. and_then t (left_same t) (λ u. pure_same t)))
+      and_then t (same.block l.block line t) (λ d. and_then t (left_same t) (λ u. pure_same t {a = d})))
 
 module _ (inner : Inner) (same : SameInner inner) (two : Two) where
   lambda_same : (l : Opened) (arguments : List Datum) (line : ℕ) →
@@ -195,7 +196,8 @@ module _ (inner : Inner) (same : SameInner inner) (two : Two) where
       Same two (λ here. over_rule inner f l d line here)
   unfolding over_rule
   over_same f l d line =
-      and_then two (answered_at_same two _ line) (λ ts. and_then two (turns_same f l [] ts line) (λ ds. pure_same two))
+      and_then two (answered_at_same two (turns_of f d (param_count l)) line) (λ ts.
+      and_then two (turns_same f l [] ts line) (λ ds. pure_same two {a = gathered f d ds}))
 
   iterate_same : (f : Iteration) (l : Opened) (arguments : List Datum) (line : ℕ) →
       Same two (λ here. iterate_rule inner f l arguments line here)
@@ -219,12 +221,12 @@ module _ (inner : Inner) (same : SameInner inner) (two : Two) where
   reduce_same : (l : Opened) (arguments : List Datum) (line : ℕ) →
       Same two (λ here. reduce_rule inner l arguments line here)
   unfolding reduce_rule
-  reduce_same l arguments line = and_then two (answered_at_same two _ line) (λ ds. reduced_same l ds line)
+  reduce_same l arguments line = and_then two (answered_at_same two (reduced_over arguments (param_count l)) line) (λ ds. reduced_same l ds line)
 
   with_same : (l : Opened) (arguments : List Datum) (line : ℕ) →
       Same two (λ here. with_rule inner l arguments line here)
   unfolding with_rule
-  with_same l arguments line = and_then two (answered_at_same two _ line) (λ t. lambda_same l t line)
+  with_same l arguments line = and_then two (answered_at_same two (turn_of_with arguments (param_count l)) line) (λ t. lambda_same l t line)
 
   lambda_function_same : (f : LambdaFunction) (l : Opened) (arguments : List Datum) (line : ℕ) →
       Same two (λ here. lambda_function_rule inner f l arguments line here)
@@ -272,7 +274,7 @@ module _ (inner : Inner) (same : SameInner inner) (two : Two) where
       Same two (λ here. other_rule inner f arguments line here)
   unfolding other_rule
   other_same f arguments line =
-      either two (is_computed f) (answered_at_same two _ line) (defined_same inner same two f arguments line)
+      either two (is_computed f) (answered_at_same two (applied f arguments) line) (defined_same inner same two f arguments line)
 
   plain_same : (f : List ℕ) (arguments : List Datum) (line : ℕ) →
       Same two (λ here. plain_rule inner f arguments line here)

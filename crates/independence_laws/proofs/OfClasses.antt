@@ -322,13 +322,13 @@ module _ (two : Two) where
     collectors = alike.relations.collectors;
   }
 
-  put_containment : (x : Containment) → Same two (λ here w. Ok (tt, record w { relations = with_containment x w.relations }))
+  put_containment : (x : Containment) → Same {A = Unit {0}} two (λ here w. Ok (tt, record w { relations = with_containment x w.relations }))
   put_containment x = record { comes = λ first second v w alike f g. gives tt first second v w
       (record v { relations = with_containment x v.relations }) (record w { relations = with_containment x w.relations })
       refl refl (with_same_relations alike (with_containment x v.relations) (with_containment x w.relations)
       (one_containment x first second v w alike)) }
 
-  pub put_line : (x : RelationLine) → Same two (λ here w. Ok (tt, record w { relations = with_line x w.relations }))
+  pub put_line : (x : RelationLine) → Same {A = Unit {0}} two (λ here w. Ok (tt, record w { relations = with_line x w.relations }))
   put_line x = record { comes = λ first second v w alike f g. gives tt first second v w
       (record v { relations = with_line x v.relations }) (record w { relations = with_line x w.relations })
       refl refl (with_same_relations alike (with_line x v.relations) (with_line x w.relations)

@@ -15,15 +15,16 @@ use Rattle.pp_values.specs.Kinds.{kind_of}
 use Rattle.pp_values.specs.declared.reference.Reference.{Reference}
 use Rattle.res_book.specs.Relations.{Related, with_collector}
 use Rattle.res_book.specs.declared.collector.Collector.{Collector}
-use Rattle.res_core.specs.Criteria.{Criterion}
+use Rattle.res_core.specs.Criteria.{all, Criterion}
 use Rattle.res_core.specs.Lines.{Line}
+use Rattle.std.proofs.Common.{◌++◌}
 use Rattle.eval_world.specs.Inner.{Inner}
 use Rattle.eval_world.specs.declared.here.Here.{Here}
 use Rattle.eval_collectors.specs.Collectors.{register, asked, kind_by, kind_rule, of_kind, register_kind}
 use Rattle.eval_collectors.specs.Collectors.{collector_rule, of_reference, register_reference, realize_rule}
 use Rattle.eval_collectors.specs.Queries.{Asks, compare_rule, test_by, test_rule, tests_from, all_of, conjunction_rule}
 use Rattle.eval_collectors.specs.Queries.{conjunctions_from, some_of, query_within, query_levels}
-use Rattle.std.proofs.Common.{◌≡◌, refl, ap, sym, subst, ◌∙◌}
+use Rattle.std.proofs.Common.{◌≡◌, false, refl, ap, sym, subst, ◌∙◌}
 use Rattle.pp_values.specs.declared.place.Place.{Place}
 use Rattle.eval_world.specs.Owners.{Owners}
 use Rattle.eval_world.specs.Worlds.{place_at}
@@ -41,10 +42,10 @@ use Rattle.independence_laws.proofs.Owning.{same_owner_on}
 one_more_collector : (o p : Owners) (cs ds : List Collector) (c d : Collector) → AreSameCollectors o p cs ds
     → IsSameCollector o p c d → AreSameCollectors o p (cs ++ c ∷ []) (ds ++ d ∷ [])
 unfolding AreSameCollectors
-one_more_collector o p [] [] c d all one = (one, tt)
-one_more_collector o p [] (y ∷ ds) c d all one = absurd all
-one_more_collector o p (x ∷ cs) [] c d all one = absurd all
-one_more_collector o p (x ∷ cs) (y ∷ ds) c d all one = (all.0, one_more_collector o p cs ds c d all.1 one)
+one_more_collector o p [] [] c d same one = (one, tt)
+one_more_collector o p [] (y ∷ ds) c d same one = absurd same
+one_more_collector o p (x ∷ cs) [] c d same one = absurd same
+one_more_collector o p (x ∷ cs) (y ∷ ds) c d same one = (same.0, one_more_collector o p cs ds c d same.1 one)
 
 module _ (two : Two) where
   -- the same collector is registered, whose owner is that of the code

@@ -2,6 +2,8 @@
 use Rattle.std.proofs.Common.{ℕ, Bool, true, false, List, [], ◌∷◌, Option, None, Some}
 use Rattle.std.specs.Prelude.{not}
 use Rattle.expr_eval.specs.Truth.{is_true}
+use Rattle.expr_eval.specs.Combining as steps
+use Rattle.expr_eval.specs.Testing.{is_of}
 use Rattle.pp_ops.specs.declared.op.Op.{Op}
 use Rattle.pp_tree.specs.declared.conditions.Case.{Case, out-Case}
 use Rattle.pp_tree.specs.declared.conditions.CaseOption.{CaseOption}
@@ -41,7 +43,7 @@ use Rattle.independence_laws.proofs.Going.{and_then, pure_same, either}
 module _ (two : Two) where
   pub combined_same : (o : Op) (left right : Datum) (line : ℕ) → Same two (λ here. combined o left right line here)
   unfolding combined
-  combined_same o left right line = answered_at_same two _ line
+  combined_same o left right line = answered_at_same two (steps.combined o left right) line
 
   -- ---- types
 
@@ -120,7 +122,7 @@ module _ (inner : Inner) (same : SameInner inner) (two : Two) where
       Same two (λ here. match_rule inner wanted left e line here)
   unfolding match_rule
   match_same wanted left e line =
-      and_then two (same.value e two) (λ right. and_then two (answered_at_same two _ line) (λ is_one. pure_same two))
+      and_then two (same.value e two) (λ right. and_then two (answered_at_same two (is_of left right) line) (λ is_one. pure_same two))
 
   both_same : (o : Op) (left : Datum) (e : Expr) (line : ℕ) → Same two (λ here. both_rule inner o left e line here)
   unfolding both_rule
@@ -184,13 +186,13 @@ module _ (inner : Inner) (same : SameInner inner) (two : Two) where
 
   takes_same : (control : Datum) (e : Expr) → Same two (λ here. takes_rule inner control e here)
   unfolding takes_rule
-  takes_same control e = either two (is_default e) pure_same two (and_then two (same.value e two) (λ option. pure_same two))
+  takes_same control e = either two (is_default e) (pure_same two) (and_then two (same.value e two) (λ option. pure_same two))
 
   any_takes_same : (control : Datum) (es : List Expr) → Same two (λ here. any_takes inner control es here)
   unfolding any_takes
   any_takes_same control [] = pure_same two
   any_takes_same control (e ∷ es) =
-      and_then two (takes_same control e) (λ takes. either two takes pure_same two (any_takes_same control es))
+      and_then two (takes_same control e) (λ takes. either two takes (pure_same two) (any_takes_same control es))
 
   default_same : (o : Option CaseOption) (line : ℕ) → Same two (λ here. default_rule inner o line here)
   unfolding default_rule
@@ -213,7 +215,7 @@ module _ (inner : Inner) (same : SameInner inner) (two : Two) where
 
   key_same : (control : Datum) (e : Expr) → Same two (λ here. key_rule inner control e here)
   unfolding key_rule
-  key_same control e = either two (is_default e) pure_same two (and_then two (same.value e two) (λ option. pure_same two))
+  key_same control e = either two (is_default e) (pure_same two) (and_then two (same.value e two) (λ option. pure_same two))
 
   unselected_same : (o : Option (tree.Pair Expr)) (line : ℕ) →
       Same two (λ here. unselected_rule inner o line here)

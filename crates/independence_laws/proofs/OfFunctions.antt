@@ -73,7 +73,7 @@ module _ (inner : Inner) (same : SameInner inner) where
   body_same f written arguments at t = and_then t (binds_same inner same t f.0.params arguments at) (λ u.
       and_then t (same.block f.0.block f.0.at t) (λ d.
       and_then t (result_same inner same t f.0.return_type d written at) (λ u.
-      and_then t (left_same t) (λ u. pure_same t))))
+      and_then t (left_same t) (λ u. pure_same t {a = d}))))
 
 module _ (inner : Inner) (same : SameInner inner) (two : Two) where
   run_function_same : (f : FunctionIn) (written : List ℕ) (arguments : List Datum) (at : Place) →

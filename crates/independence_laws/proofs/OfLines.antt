@@ -8,6 +8,7 @@ use Rattle.pp_tree.specs.declared.resource.Splat.{Splat}
 use Rattle.pp_values.specs.Datum as datum
 use Rattle.pp_values.specs.Datum.{Datum}
 use Rattle.res_core.specs.Lines.{Line}
+use Rattle.std.proofs.Common.{◌++◌}
 use Rattle.eval_world.specs.Inner.{Inner}
 use Rattle.eval_world.specs.declared.here.Here.{Here}
 use Rattle.attribute_lines.specs.Reading.{setting_rule, splat_by, splat_rule, attribute_rule, lines_from}

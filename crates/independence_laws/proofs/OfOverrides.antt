@@ -12,6 +12,7 @@ use Rattle.pp_values.specs.declared.fault.Fault.{Fault}
 use Rattle.pp_values.specs.declared.place.Place.{Place}
 use Rattle.pp_values.specs.declared.reference.Reference.{Reference}
 use Rattle.res_core.specs.Lines.{Line}
+use Rattle.pp_tree.specs.declared.resource.Defaults.{Defaults}
 use Rattle.eval_world.specs.Inner.{Inner}
 use Rattle.eval_world.specs.Owners.{owner_at}
 use Rattle.eval_world.specs.declared.here.Here.{Here}
@@ -103,7 +104,7 @@ module _ (inner : Inner) (same : SameInner inner) (two : Two) where
       and_then two (lines_same inner same two [] attributes) (λ lines. defaults_put_same two kind lines)
 
   kind_same : (kind : Option (List ℕ)) (d : Defaults Expr) → Same two (λ here. kind_put inner kind d here)
-  kind_same None d = fault_here two line _
+  kind_same None d = fault_here two d.at _
   kind_same (Some kind) d = lines_put_same kind d.attributes
 
   pub defaults_same : (d : Defaults Expr) → Same two (λ here. defaults_rule inner d here)

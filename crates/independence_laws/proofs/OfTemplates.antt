@@ -120,7 +120,7 @@ module _ (inner : Inner) (same : SameInner inner) (two : Two) where
 
   rendered_in_same : (r : Rendering) → Same two (λ own. rendered_in inner r own)
   unfolding rendered_in
-  rendered_in_same r = and_then two (template_same r) (λ d. and_then two (left_same two) (λ u. pure_same two))
+  rendered_in_same r = and_then two (template_same r) (λ d. and_then two (left_same two) (λ u. pure_same two {a = d}))
 
 module _ (inner : Inner) (same : SameInner inner) (two : Two) where
   -- ---- the functions

@@ -24,4 +24,4 @@ loop-turn-preserved c =
     subst (λ cs. Linked m book (turn + 1) (class_name class.now) class.now cs _ next)
     (sym (ap (stack_of class_seen) c.in_ok-push.ensures.items ∙ put_on class_seen before last))
     (subst (λ n. Linked m book (turn + 1) (class_name class.now) class.now (last.now ∷ stack_of class_seen before) n next)
-    (sym c.or_name.ensures) one)
+    (sym c.or_name-name.ensures) one)

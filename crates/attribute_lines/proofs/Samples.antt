@@ -91,7 +91,6 @@ sample = record {
   target = λ r here. pure d.undef;
   class = λ n at here. pure d.undef;
   instance = λ n at here. pure d.undef;
-  template = λ r here. pure d.undef;
 }
 
 -- ---- attributes

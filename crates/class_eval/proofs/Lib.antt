@@ -3,7 +3,6 @@ mod Examples
 mod Lending
 mod Levels
 mod NodeLines
-mod Pairs
 mod Single
 mod TemplateExamples
 pub mod Runs

@@ -24,8 +24,7 @@ use Rattle.pp_values.specs.declared.place.TheConstants.{MAIN_MANIFEST}
 use Rattle.res_book.specs.Rows.{number_of}
 use Rattle.scope_core.specs.declared.scope_kind.ScopeKind.TheVariants as kind
 use Rattle.class_eval.specs.Meaning.{within}
-use Rattle.class_eval.specs.Statements.{statements_from}
-use Rattle.class_eval.specs.Templates.{rendered_rule}
+use Rattle.class_eval.specs.Statements.{emitted_rule, statements_from}
 use Rattle.eval_classes.specs.Bodies.{run_rule}
 use Rattle.eval_classes.specs.Definitions.{class_found, class_name, param_names}
 use Rattle.eval_classes.specs.Entering.{enter_rule}
@@ -174,4 +173,4 @@ instance_at number depth = run_rule (at_depth depth) number
 
 -- A template without what it is given. Its statements stand at this depth.
 abbrev pub render_at : Template → Here → ℕ → Step Datum
-render_at t here depth = rendered_rule (at_depth depth) t.block here
+render_at t here depth = emitted_rule (at_depth depth) t.block here

@@ -1,5 +1,5 @@
 -- What the clauses of `site_main` rest on, and a reader has to believe: Chains, Evaluating, TopNames, Meaning,
--- Postfixes, Starting, Statements, Templates, TypeNames
+-- Postfixes, Starting, Statements, TypeNames
 -- What functions promise one another, what types keep, and what proofs read: EvaluatorCodes, Evaluators, LeafLaw,
 -- Single, Running
 pub mod Chains
@@ -13,6 +13,5 @@ pub mod Postfixes
 pub mod Single
 pub mod Starting
 pub mod Statements
-pub mod Templates
 pub mod TypeNames
 pub mod Running

@@ -11,7 +11,6 @@ use Rattle.pp_values.specs.Datum.{Datum}
 use Rattle.pp_values.specs.declared.fault.What.TheVariants as what
 use Rattle.class_eval.specs.Postfixes.{postfixed_rule}
 use Rattle.class_eval.specs.Statements.{block_rule}
-use Rattle.class_eval.specs.Templates.{template_rule}
 use Rattle.class_eval.specs.TypeNames.{type_named_rule}
 use Rattle.eval_calls.specs.Calls.{call_rule, words_rule}
 use Rattle.eval_classes.specs.Bodies.{class_rule, instance_rule}
@@ -71,7 +70,6 @@ line_of_goal (goal.Words x) = x.now.at
 line_of_goal (goal.Target r) = line_of_target r.now
 line_of_goal (goal.Class n line) = line
 line_of_goal (goal.Instance n line) = line
-line_of_goal (goal.Template r) = 1
 
 abbrev pub too_deep : {A : Type 0} → Here → ℕ → Step A
 too_deep here line = fault here line what.DepthLimit
@@ -85,7 +83,6 @@ deep = record {
   target = λ r here. too_deep here (line_of_target r);
   class = λ n line here. too_deep here line;
   instance = λ n line here. too_deep here line;
-  template = λ r here. too_deep here 1;
 }
 
 -- what each part means whose own parts mean this
@@ -97,7 +94,6 @@ one_more inner = record {
   target = target_rule inner;
   class = class_rule inner;
   instance = instance_rule inner;
-  template = template_rule inner;
 }
 
 -- what each part means where so many levels are left

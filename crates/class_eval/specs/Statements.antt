@@ -11,6 +11,7 @@ use Rattle.pp_values.specs.Datum as d
 use Rattle.pp_values.specs.Datum.{Datum}
 use Rattle.pp_values.specs.TextOf.{text_of}
 use Rattle.class_eval.specs.Chains.{links_rule}
+use Rattle.eval_calls.specs.Templates.{begin, finish}
 use Rattle.eval_collectors.specs.Collectors.{collector_rule}
 use Rattle.eval_overrides.specs.DefaultStatements.{defaults_rule}
 use Rattle.eval_overrides.specs.OverrideStatements.{override_rule}
@@ -80,3 +81,10 @@ statements_from inner last (s ∷ ss) here = do
 
 abbrev pub block_rule : Inner → List Statement → Here → Step Datum
 block_rule inner b here = statements_from inner d.undef b here
+
+-- The text that statements emit: what was emitted before is put apart meanwhile. Their value is nobody's.
+unfoldable pub emitted_rule : Inner → List Statement → Here → Step Datum
+emitted_rule inner b own = do
+  before ← begin
+  block_rule inner b own
+  finish before

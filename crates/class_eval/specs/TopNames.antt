@@ -1,11 +1,12 @@
 -- What top scope holds before evaluation.
-use Rattle.std.specs.Prelude.{ℕ, nat_lt, ◌==◌, Bool, false, ◌&&◌, ◌||◌, if◌then◌else◌, List, [], ◌∷◌, length, codes}
-use Rattle.std.specs.Char.{is_ascii_lowercase, is_ascii_alphanumeric}
-use Rattle.std.specs.List.{list_all, before_first, after_first, position_or_len}
+use Rattle.std.specs.Prelude.{ℕ, nat_lt, ◌==◌, Bool, if◌then◌else◌, List, [], ◌∷◌, length, codes}
+use Rattle.std.specs.List.{before_first, after_first, position_or_len}
 use Rattle.pp_values.specs.Datum as d
-use Rattle.pp_values.specs.Datum.{Datum, Pair, entries_of, pairs_of}
+use Rattle.pp_values.specs.Datum.{Datum, Pair, entries_of}
 use Rattle.scope_core.specs.Names.{Name}
 use Rattle.scope_core.specs.Scopes.{Scopes, is_set, with_name}
+use Rattle.eval_calls.specs.Templates.{pairs_within}
+use Rattle.eval_calls.specs.VariableNames.{is_variable}
 
 -- ---- the name of a node, cut at its first dot
 
@@ -46,17 +47,6 @@ trusted node = d.hash (entries_of (trusted_pairs node))
 abbrev pub with_new : Name → Datum → Scopes → Scopes
 with_new x v s = if is_set 0 x s then s else with_name 0 x v s
 
-abbrev pub begins_variable : ℕ → Bool
-begins_variable b = is_ascii_lowercase b || (b == 95)
-
-abbrev pub goes_on : ℕ → Bool
-goes_on b = is_ascii_alphanumeric b || (b == 95)
-
--- a variable's name of one segment
-abbrev pub is_variable : Name → Bool
-is_variable [] = false
-is_variable (b ∷ bs) = begins_variable b && list_all goes_on bs
-
 -- a fact whose name is that of a variable
 abbrev pub with_fact : Datum → Datum → Scopes → Scopes
 with_fact (d.text t) v s = if is_variable t then with_new t v s else s
@@ -65,10 +55,6 @@ with_fact _ v s = s
 unfoldable pub with_facts : List Pair → Scopes → Scopes
 with_facts [] s = s
 with_facts (p ∷ ps) s = with_facts ps (with_fact p.0 p.1 s)
-
-abbrev pub pairs_within : Datum → List Pair
-pairs_within (d.hash es) = pairs_of es
-pairs_within _ = []
 
 abbrev pub with_given : Name → Datum → Scopes → Scopes
 with_given node facts s =

@@ -18,7 +18,7 @@ use crate::knot::{AllForms, evaluate};
 use crate::nodes::{has_nodes, node_of};
 use crate::running::run;
 use crate::starting::start_world;
-use crate::templates::rendered;
+use crate::statements::emitted;
 use eval_classes::{BodyOwner, enter_body, run_instance};
 use eval_collecting::{import_match, imports, local_match, needed_tag, realized};
 use eval_world::{Environment, Evaluated, Forms, Goal, Here, World};
@@ -177,7 +177,7 @@ impl<'a> Evaluator<'a> {
             inner: evaluate,
             meaning: PhantomData,
         };
-        rendered(&forms, &mut self.world, &template.block, here)
+        emitted(&forms, &mut self.world, &template.block, here)
     }
 
     /// Has one collector take one local declaration, which is marked then, and to which the collector's block is applied

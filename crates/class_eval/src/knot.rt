@@ -8,7 +8,6 @@ ghost use Rattle.eval_world.specs.Outcomes.{Gives, same};
 
 use crate::postfixes::postfixed;
 use crate::statements::block;
-use crate::templates::template;
 use crate::type_names::type_named;
 use eval_calls::{call, words};
 use eval_classes::{class_body, instance_body};
@@ -87,7 +86,6 @@ pub fn line_of(goal: Goal<'_>) -> u32
         Goal::Target(target) => line_of_target(target),
         Goal::Class(_, line) => line,
         Goal::Instance(_, line) => line,
-        Goal::Template(_) => 1,
     }
 }
 
@@ -131,6 +129,5 @@ pub fn evaluate(
         Goal::Target(target) => target_of(&forms, world, target, here),
         Goal::Class(number, line) => class_body(&forms, world, number, line, here),
         Goal::Instance(number, line) => instance_body(&forms, world, number, line, here),
-        Goal::Template(rendering) => template(&forms, world, rendering, here),
     }
 }

@@ -11,7 +11,6 @@ mod postfixes;
 mod running;
 mod starting;
 mod statements;
-mod templates;
 mod top_names;
 mod type_names;
 

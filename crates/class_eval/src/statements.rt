@@ -6,6 +6,7 @@ ghost use Rattle.eval_world.specs.Nests.{Nests};
 ghost use Rattle.eval_world.specs.Outcomes.{Gives, nothing, same};
 ghost use Rattle.pp_tree.specs.declared.statement.Operand.{out-Operand};
 ghost use Rattle.pp_tree.specs.declared.statement.Statement.{out-Statement};
+ghost use Rattle.pp_values.specs.Datum.{text};
 
 use crate::chains::relate_chain;
 use eval_collectors::collector;
@@ -13,7 +14,7 @@ use eval_overrides::{defaults_of, override_of};
 use eval_resources::resource;
 use eval_world::{Evaluated, Forms, Goal, Here, Meaning, World};
 use pp_tree::{Block, Chain, Expr, Operand, Statement};
-use pp_values::{Stop, Value};
+use pp_values::{Stop, Text, Value};
 
 /// The value of a block: that of its last statement that gives one, and Undef where none does.
 #[inline(always)]
@@ -178,4 +179,21 @@ fn operand<F: Fn(&mut World<'_>, Goal<'_>, Here, u32) -> Result<Evaluated, Stop>
             Ok(None)
         }
     }
+}
+
+/// The text that statements emit. What was emitted before is put apart meanwhile.
+#[tactic(auto, unfolding(crate::specs::Statements::emitted_rule))]
+pub fn emitted<F: Fn(&mut World<'_>, Goal<'_>, Here, u32) -> Result<Evaluated, Stop>, M: Meaning>(
+    forms: &Forms<F, M>,
+    world: &mut World<'_>,
+    statements: &Block,
+    own: Here,
+) -> Result<Text, Stop>
+    requires { Nests (M.within forms.now.left) forms.now.left (F.pre forms.now.inner) (F.post forms.now.inner) }
+    ensures { Gives (λ t. text t) (spec.emitted_rule (M.within forms.now.left) statements.now own world.old) result
+        world.new }
+{
+    let before = world.begin_rendering();
+    drop(block(forms, world, statements, own)?);
+    Ok(world.end_rendering(before).into_text())
 }

@@ -1,12 +1,12 @@
 //! What top scope holds before evaluation.
 ghost use Rattle.std.specs.Prelude.{◌≡◌, [], if◌then◌else◌, IfOk, OnOk};
-ghost use Rattle.std.specs.List.{list_all};
 ghost use Rattle.pp_values.specs.Datum as d;
 ghost use Rattle.pp_values.specs.Keys.{with_pair};
 ghost use Rattle.pp_values.specs.Views.{view, pair_views};
 ghost use Rattle.scope_core.specs.Scopes.{assign};
 ghost use Rattle.class_eval.specs.TopNames as spec;
 
+use eval_calls::{is_variable, pairs_within};
 use pp_values::{Memory, Pairs, Place, Stop, Text, Value, copy};
 use scope_core::{ScopeId, Scopes};
 use std::alloc::Global;
@@ -71,16 +71,6 @@ fn put_new(
     }
 }
 
-#[tactic(auto, using(crate::proofs::Pairs::pairs_back))]
-pub fn pairs_within(facts: &Value) -> &[(Value, Value)]
-    ensures { pair_views result.now ≡ spec.pairs_within (view facts.now) }
-{
-    match facts {
-        Value::Hash(pairs) => pairs.as_slice(),
-        _ => &[],
-    }
-}
-
 #[tactic(auto, unfolding(crate::specs::TopNames::with_facts))]
 fn put_facts(
     alloc: Global,
@@ -113,34 +103,6 @@ fn put_fact(
         }
         _ => Ok(()),
     }
-}
-
-/// Whether a name is that of a variable of one segment.
-pub fn is_variable(name: &[u8]) -> bool
-    ensures { result ≡ spec.is_variable name.now }
-{
-    match name {
-        [] => false,
-        [first, more @ ..] => begins_variable(*first) && all_go_on(more),
-    }
-}
-
-fn all_go_on(bytes: &[u8]) -> bool
-    ensures { result ≡ list_all spec.goes_on bytes.now }
-{
-    bytes.iter().all(|byte| goes_on(*byte))
-}
-
-fn begins_variable(byte: u8) -> bool
-    ensures { result ≡ spec.begins_variable byte }
-{
-    byte.is_ascii_lowercase() || byte == b'_'
-}
-
-fn goes_on(byte: u8) -> bool
-    ensures { result ≡ spec.goes_on byte }
-{
-    byte.is_ascii_alphanumeric() || byte == b'_'
 }
 
 /// What is known of a node without its word, by its name.

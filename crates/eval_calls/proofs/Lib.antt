@@ -1,10 +1,12 @@
 mod Binding
 mod Examples
 mod FunctionExamples
+mod GivenExamples
 mod LambdaExamples
 mod LookUpExamples
 mod Members
 mod OneVariable
+mod Pairs
 mod RealizeExamples
 mod Samples
 mod TemplateExamples

@@ -72,7 +72,6 @@ inner given block = record {
   target = λ r here. pure d.undef;
   class = λ n line here. pure d.undef;
   instance = λ n line here. pure d.undef;
-  template = λ r here. pure d.undef;
 }
 
 -- blocks: `notice $x` with the value of `$x`, `$y` alone, and one that fails

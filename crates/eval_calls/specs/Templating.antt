@@ -10,9 +10,10 @@ use Rattle.eval_world.specs.Environment.{text_at}
 use Rattle.eval_world.specs.Inner.{Inner}
 use Rattle.eval_world.specs.Outcomes.{Step, ◌>>=◌, ◌>>◌, pure}
 use Rattle.eval_world.specs.Owners.{inline_file}
-use Rattle.eval_world.specs.Renderings.{Rendering}
 use Rattle.eval_world.specs.Worlds.{enter_function, enter_inline, leave, place_at, wrong}
 use Rattle.eval_world.specs.declared.here.Here.{Here}
+use Rattle.eval_calls.specs.Renderings.{Rendering}
+use Rattle.eval_calls.specs.Templates.{template_rule}
 use Rattle.eval_calls.specs.declared.asked.Asked as held
 
 -- ---- the arguments: a text, and a hash behind it where there is one
@@ -60,10 +61,10 @@ template_path name =
 abbrev pub rendering : List ℕ → List ℕ → Option Datum → List ℕ → Place → Rendering
 rendering file text given f at = record { file = file; text = text; given = given; function = f; at = at }
 
--- The template is rendered in a scope of its own, one level deeper than the call, and the scope ends with the call.
+-- The template is rendered in a scope of its own, which ends with the call.
 unfoldable pub rendered_in : Inner → Rendering → Here → Step Datum
 rendered_in inner r own = do
-  d ← inner.template r own
+  d ← template_rule inner r own
   leave own
   pure d
 

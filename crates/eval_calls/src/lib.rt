@@ -10,10 +10,14 @@ mod looking_up;
 mod names;
 mod plain;
 mod realizing;
+mod rendering;
 mod request;
 mod requests;
+mod templates;
 mod templating;
 mod turn_queue;
+mod variable_names;
 
 pub use calls::{call, method, words};
-pub use functions::{bind_one, default_value};
+pub use templates::pairs_within;
+pub use variable_names::is_variable;

@@ -3,12 +3,14 @@ ghost use Rattle.std.specs.Prelude.{◌≡◌, ◌++◌, IfOk, Some, codes, opti
 ghost use Rattle.eval_calls.specs.Templating as spec;
 ghost use Rattle.eval_world.specs.Nests.{Nests};
 ghost use Rattle.eval_world.specs.Outcomes.{Gives, same};
-ghost use Rattle.eval_world.specs.Renderings.{rendering_seen};
+ghost use Rattle.eval_calls.specs.Renderings.{rendering_seen};
 ghost use Rattle.pp_values.specs.Views.{view, views};
 
 use crate::asked::Asked;
 use crate::names::wrong;
-use eval_world::{Evaluated, Forms, Goal, Here, INLINE_FILE, Meaning, Rendering, World};
+use crate::rendering::Rendering;
+use crate::templates::template;
+use eval_world::{Evaluated, Forms, Goal, Here, INLINE_FILE, Meaning, World};
 use pp_values::{Memory, Stop, Text, Value, Values};
 use std::alloc::Global;
 
@@ -171,7 +173,7 @@ fn rendered_in<F: Fn(&mut World<'_>, Goal<'_>, Here, u32) -> Result<Evaluated, S
     ensures { Gives same (spec.rendered_in (M.within forms.now.left) (rendering_seen rendering.now) own world.old) result
         world.new }
 {
-    let value = forms.template(world, rendering, own)?;
+    let value = template(forms, world, rendering, own)?;
     world.leave(own);
     Ok(value)
 }

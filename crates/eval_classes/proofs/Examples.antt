@@ -92,7 +92,7 @@ faulty = refl
 abbrev family : Environment
 family = site_of (entry a (class a [] None 2) ∷ entry b (class b [] (Some (codes "::A")) 3) ∷ []) []
 
-parent : parent_of family (class b [] (Some (codes "::A")) 3) ≡ Some a
+parent : parent_of family b (class b [] (Some (codes "::A")) 3) ≡ Some a
 unfolding parent_of comes_to definition_of normal without_front_colons
 parent = refl
 

@@ -1,6 +1,9 @@
+pub mod Behind
 pub mod Declared
+pub mod Enough
 pub mod Links
 pub mod Places
+pub mod Passed
 pub mod PlainNames
 pub mod Rising
 pub mod Segments

@@ -108,7 +108,6 @@ sample = record {
   target = λ r here. pure d.undef;
   class = λ n line here. write_log (codes "class") (n ∷ line ∷ here.scope.number ∷ here.owner ∷ []) >> pure d.undef;
   instance = λ n line here. write_log (codes "instance") (n ∷ line ∷ here.scope.number ∷ here.owner ∷ []) >> pure d.undef;
-  template = λ r here. pure d.undef;
 }
 
 -- ---- the world: `Class[main]` is declared

@@ -1,76 +1,53 @@
--- The turns of a way over the parents of classes.
-use Rattle.std.proofs.Common.{◌≡◌, ℕ, zero, suc, ◌+◌, ◌-◌, ◌<◌, ◌≤◌, false, ◌||◌, List, Option, None, Some, refl, ap, ◌∙◌, subst, arith}
+-- The turns of a way over the parents of classes, so many of which were gone.
+use Rattle.std.proofs.Common.{◌≡◌, ℕ, zero, suc, ◌+◌, Bool, true, false, ◌||◌, List}
+use Rattle.std.proofs.Common.{Option, None, Some, refl, ap, sym, ◌∙◌, subst, arith}
 use Rattle.std.specs.Str.{bytes_eq}
 use Rattle.eval_world.specs.Environment.{Environment}
-use Rattle.eval_classes.specs.Definitions.{comes_to, parent_at}
+use Rattle.eval_classes.specs.Definitions.{comes_to, longest_way, parent_at}
+use Rattle.eval_classes.proofs.Behind.{IsBehind, came_back, none_at}
+use Rattle.eval_classes.proofs.Enough.{comes_alike}
 
 module _ (m : Environment) (name : List ℕ) where
-  pub further : (n turn : ℕ) (at : List ℕ) → turn < n → comes_to (n - turn) m name (Some at)
-      ≡ (bytes_eq at name || comes_to (n - (turn + 1)) m name (parent_at m at))
+  -- so many turns lead from the first of these to the second, and none of those that were passed has the name
+  pub Went : ℕ → Option (List ℕ) → Option (List ℕ) → Type 0
+  Went turn first at = (n : ℕ) → comes_to (turn + n) m name first ≡ comes_to n m name at
+
+  pub begins : (first : Option (List ℕ)) → Went 0 first first
+  unfolding Went
+  begins first n = let is : 0 + n ≡ n = omega arith in ap (λ k. comes_to k m name first) is
+
+  passes : (n : ℕ) (at : List ℕ) → bytes_eq at name ≡ false
+      → comes_to (suc n) m name (Some at) ≡ comes_to n m name (parent_at m at)
   unfolding comes_to
-  further n turn at below = let is : n - turn ≡ suc (n - (turn + 1)) = omega arith in rw is refl
+  passes n at other = rw other refl
 
-  none_at : (k : ℕ) → comes_to k m name None ≡ false
+  pub further : (turn : ℕ) (first : Option (List ℕ)) (at : List ℕ) → Went turn first (Some at) → bytes_eq at name ≡ false
+      → Went (turn + 1) first (parent_at m at)
+  unfolding Went
+  further turn first at went other n =
+      let is : turn + 1 + n ≡ turn + suc n = omega arith in
+      ap (λ k. comes_to k m name first) is ∙ went (suc n) ∙ passes n at other
+
+  -- what the whole way comes to, by what is left
+  whole : (turn : ℕ) (first at : Option (List ℕ)) → Went turn first at
+      → comes_to (longest_way m) m name first ≡ comes_to (longest_way m) m name at
+  unfolding Went
+  whole turn first at went =
+      sym (comes_alike m name first (turn + longest_way m) (omega arith)) ∙ went (longest_way m)
+
+  pub at_end : (turn : ℕ) (first : Option (List ℕ)) → Went turn first None → false ≡ comes_to (longest_way m) m name first
+  at_end turn first went = sym (whole turn first None went ∙ none_at m name (longest_way m))
+
+  met_here : (at : List ℕ) → bytes_eq at name ≡ true → comes_to (longest_way m) m name (Some at) ≡ true
   unfolding comes_to
-  none_at zero = refl
-  none_at (suc k) = refl
+  met_here at is = rw is refl
 
-  pub at_end : (n turn : ℕ) → comes_to (n - turn) m name None ≡ false
-  at_end n turn = none_at (n - turn)
-
-  pub too_long : (n turn : ℕ) (at : Option (List ℕ)) → n ≤ turn → comes_to (n - turn) m name at ≡ false
-  unfolding comes_to
-  too_long n turn at done = let is : n - turn ≡ zero = omega arith in rw is refl
-
-  -- ---- ways that come back
-
-  -- so many steps lead from the first of these to the second, and none of those that are passed has the name
-  Leads : ℕ → List ℕ → Option (List ℕ) → Type 0
-  Leads steps from at = (n : ℕ) → comes_to n m name (Some from) ≡ comes_to (n - steps) m name at
-
-  one_step : (at : List ℕ) → bytes_eq at name ≡ false → Leads 1 at (parent_at m at)
-  unfolding Leads comes_to
-  one_step at other zero = refl
-  one_step at other (suc n) = let is : suc n - 1 ≡ n = omega arith in rw (is, other) refl
-
-  step_on : (steps : ℕ) (from at : List ℕ) → Leads steps from (Some at) → bytes_eq at name ≡ false
-      → Leads (suc steps) from (parent_at m at)
-  unfolding Leads
-  step_on steps from at leads other n =
-      let is : n - steps - 1 ≡ n - suc steps = omega arith in
-      leads n ∙ one_step at other (n - steps) ∙ ap (λ k. comes_to k m name (parent_at m at)) is
-
-  goes_round : (most n steps : ℕ) (from : List ℕ) → n ≤ most → Leads (suc steps) from (Some from)
-      → comes_to n m name (Some from) ≡ false
-  unfolding Leads comes_to
-  goes_round zero n steps from small leads = let is : n ≡ zero = omega arith in rw is refl
-  goes_round (suc most) n steps from small leads =
-      leads n ∙ goes_round most (n - suc steps) steps from (omega arith) leads
-
-  -- one that was passed, and from which one step or more led here
-  pub IsBehind : Option (List ℕ) → Option (List ℕ) → Type 0
-  IsBehind None at = Unit {0}
-  IsBehind (Some from) at = (steps : ℕ) × Leads (suc steps) from at
-
-  pub none_marked : (at : Option (List ℕ)) → IsBehind None at
-  unfolding IsBehind
-  none_marked at = tt
-
-  pub marked : (at : List ℕ) → bytes_eq at name ≡ false → IsBehind (Some at) (parent_at m at)
-  unfolding IsBehind
-  marked at other = (0, one_step at other)
-
-  pub mark_stays : (mark : Option (List ℕ)) (at : List ℕ) → IsBehind mark (Some at) → bytes_eq at name ≡ false
-      → IsBehind mark (parent_at m at)
-  unfolding IsBehind Leads
-  mark_stays None at behind other = tt
-  mark_stays (Some from) at behind other = (suc behind.0, step_on (suc behind.0) from at behind.1 other)
-
-  came_back : (at : List ℕ) (n : ℕ) → IsBehind (Some at) (Some at) → comes_to n m name (Some at) ≡ false
-  unfolding IsBehind
-  came_back at n behind = goes_round n n behind.0 at (omega arith) behind.1
+  pub met : (turn : ℕ) (first : Option (List ℕ)) (at : List ℕ) → Went turn first (Some at) → bytes_eq at name ≡ true
+      → true ≡ comes_to (longest_way m) m name first
+  met turn first at went is = sym (whole turn first (Some at) went ∙ met_here at is)
 
   -- a way that has come back to one that it passed goes round for ever
-  pub round : (mark : Option (List ℕ)) (at : List ℕ) (n : ℕ) → IsBehind mark (Some at) → mark ≡ Some at
-      → comes_to n m name (Some at) ≡ false
-  round mark at n behind is = came_back at n (subst (λ o. IsBehind o (Some at)) is behind)
+  pub round : (mark : Option (List ℕ)) (turn : ℕ) (first : Option (List ℕ)) (at : List ℕ) → Went turn first (Some at)
+      → IsBehind m name mark (Some at) → mark ≡ Some at → false ≡ comes_to (longest_way m) m name first
+  round mark turn first at went behind is = sym (whole turn first (Some at) went
+      ∙ came_back m name at (longest_way m) (subst (λ o. IsBehind m name o (Some at)) is behind))

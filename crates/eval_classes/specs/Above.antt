@@ -16,7 +16,7 @@ class_in source =
 
 -- the parent of the class of a name
 abbrev pub parent_named : Environment → List ℕ → Option (List ℕ)
-parent_named m name = option_and_then (parent_of m) (class_told (definition_of m name))
+parent_named m name = option_and_then (parent_of m name) (class_told (definition_of m name))
 
 -- the sources of a class and of its parents, from it on, so many at most
 unfoldable pub sources_from : ℕ → Environment → Option (List ℕ) → List (List ℕ)
@@ -27,7 +27,7 @@ sources_from (suc left) m (Some name) = class_source name ∷ sources_from left 
 -- those above a class: the parent's, that of the parent's parent, and so on
 abbrev pub above_class : Environment → Option (List ℕ) → List (List ℕ)
 above_class m None = []
-above_class m (Some name) = sources_from longest_way m (parent_named m name)
+above_class m (Some name) = sources_from (longest_way m) m (parent_named m name)
 
 -- Those above the source of an owner: none but for a class. What stands outside of classes, defines and nodes has the
 -- source `class main`, so the parents of a class `main` of the site are above it too.

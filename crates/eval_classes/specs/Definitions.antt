@@ -1,5 +1,5 @@
 -- Where the definition of a class or of a define is found by its name.
-use Rattle.std.specs.Prelude.{ℕ, zero, suc, Bool, false, ◌||◌, if◌then◌else◌, List, [], ◌∷◌, ◌++◌}
+use Rattle.std.specs.Prelude.{ℕ, zero, suc, Bool, false, ◌||◌, if◌then◌else◌, List, [], ◌∷◌, ◌++◌, length}
 use Rattle.std.specs.Prelude.{Option, None, Some, option_map, option_and_then, is_some, Result, Ok, Err, codes, map}
 use Rattle.std.specs.BTreeMap.{is_at}
 use Rattle.std.specs.Map.{lookup}
@@ -14,6 +14,7 @@ use Rattle.pp_tree.specs.declared.expr.Expr.{Expr}
 use Rattle.pp_tree.specs.declared.file.File.{File}
 use Rattle.pp_tree.specs.declared.manifest_file.ManifestFile.{ManifestFile}
 use Rattle.pp_tree.specs.declared.param.Param.{Param}
+use Rattle.pp_tree.specs.declared.table.DefinitionName.{DefinitionName}
 use Rattle.pp_tree.specs.declared.table.DefinitionName.TheVariants.{Code}
 use Rattle.pp_values.specs.Faults.{fault}
 use Rattle.pp_values.specs.Rising.{text_cmp}
@@ -157,17 +158,30 @@ comes_to zero m name at = false
 comes_to (suc left) m name None = false
 comes_to (suc left) m name (Some at) = bytes_eq at name || comes_to left m name (parent_at m at)
 
--- as many as there may be declarations: a longer way could not be declared
-abbrev pub longest_way : ℕ
-longest_way = 65536
+-- the names under which a file has definitions; none where it has a fault
+abbrev pub names_read : Result File Fault → List DefinitionName
+names_read (Ok file) = map (λ e. e.0) file.definitions
+names_read (Err f) = []
 
--- a class that inherits from itself, in any number of steps
-abbrev pub inherits_itself : Environment → Class → Bool
-inherits_itself m c = comes_to longest_way m (class_name c) (written_parent c)
+abbrev pub names_within : List (List ℕ × ManifestFile) → List DefinitionName
+names_within [] = []
+names_within (f ∷ fs) = names_read f.1.read ++ names_within fs
+
+-- the names under which the site has definitions
+abbrev pub all_names : Environment → List DefinitionName
+all_names m = map (λ e. e.0) m.main.definitions ++ names_within m.files
+
+-- One more than there are definitions: no way has more classes on it, but one that comes back to a class.
+abbrev pub longest_way : Environment → ℕ
+longest_way m = suc (length (all_names m))
+
+-- a class of this name that inherits from itself, in any number of steps
+abbrev pub inherits_itself : Environment → List ℕ → Class → Bool
+inherits_itself m name c = comes_to (longest_way m) m name (written_parent c)
 
 -- .. counts as one without a parent
-unfoldable pub parent_of : Environment → Class → Option (List ℕ)
-parent_of m c = if inherits_itself m c then None else written_parent c
+unfoldable pub parent_of : Environment → List ℕ → Class → Option (List ℕ)
+parent_of m name c = if inherits_itself m name c then None else written_parent c
 
 -- ---- defines
 

@@ -78,18 +78,22 @@ abbrev pub class_at : Environment → Option (List ℕ) → Option Class
 class_at m None = None
 class_at m (Some name) = class_told (definition_of m name)
 
-abbrev pub next_class : Environment → List Row → Class → Option Class
-next_class m book c = unless_declared book (class_at m (parent_of m c))
-
+-- the parent of this name, which is a class of the site, or else none is left
 abbrev pub or_done : Option Class → Chain → (Class → Chain) → Chain
 or_done None done further = done
 or_done (Some c) done further = further c
 
--- a class behind those that are there, and then its parents
-unfoldable pub chain_from : ℕ → List Class → Class → Environment → List Row → Chain
-chain_from zero before c m book = chain_of c before (parent_of m c)
-chain_from (suc left) before c m book =
-    or_done (next_class m book c) (chain_of c before (parent_of m c)) (λ p. chain_from left (c ∷ before) p m book)
+abbrev pub parent_or_done : Option (List ℕ) → Environment → List Row → Chain → (List ℕ → Class → Chain) → Chain
+parent_or_done None m book done further = done
+parent_or_done (Some name) m book done further =
+    or_done (unless_declared book (class_at m (Some name))) done (further name)
+
+-- a class of this name behind those that are there, and then its parents
+unfoldable pub chain_from : ℕ → List Class → List ℕ → Class → Environment → List Row → Chain
+chain_from zero before name c m book = chain_of c before (parent_of m name c)
+chain_from (suc left) before name c m book =
+    parent_or_done (parent_of m name c) m book (chain_of c before (parent_of m name c))
+    (λ parent p. chain_from left (c ∷ before) parent p m book)
 
 -- ---- their scopes
 
@@ -189,4 +193,4 @@ chain_declared inner chain given at from = do
 
 unfoldable pub class_declared : Inner → Class → List Setting → Place → ℕ → Step (Unit {0})
 class_declared inner c given at from = λ w.
-    chain_declared inner (chain_from longest_way [] c w.environment w.book) given at from w
+    chain_declared inner (chain_from (longest_way w.environment) [] (class_name c) c w.environment w.book) given at from w

@@ -9,7 +9,6 @@ use crate::parents::{class_in, parent_of};
 use eval_world::{Environment, Owner};
 use override_rules::Right;
 use pp_values::{Memory, Text, Texts};
-use res_book::DECLARATION_LIMIT;
 use std::alloc::Global;
 
 /// What a line of an override may do that stands in the code of this owner.
@@ -47,7 +46,7 @@ fn class_in_source(source: &str) -> Option<&str>
 }
 
 fn above_class(alloc: Global, environment: &Environment<'_>, name: &str) -> Result<Texts, Memory>
-    ensures { IfOk result (λ ts. ts ≡ spec.sources_from longest_way environment.now
+    ensures { IfOk result (λ ts. ts ≡ spec.sources_from (longest_way environment.now) environment.now
         (spec.parent_named environment.now name.now)) }
 {
     let name = Text::from_str(alloc, name)?;
@@ -56,24 +55,25 @@ fn above_class(alloc: Global, environment: &Environment<'_>, name: &str) -> Resu
 }
 
 /// The sources of this class and of its parents.
-#[tactic(auto, unfolding(crate::specs::Above::sources_from), using(crate::proofs::Upward::one_more, crate::proofs::Upward::at_end, crate::proofs::Upward::too_long))]
+#[tactic(auto, unfolding(crate::specs::Above::sources_from), using(crate::proofs::Upward::begins, crate::proofs::Upward::one_more, crate::proofs::Upward::at_end))]
 fn sources_from(
     alloc: Global,
     environment: &Environment<'_>,
     first: Option<Text>,
 ) -> Result<Texts, Memory>
-    ensures { IfOk result (λ ts. ts ≡ spec.sources_from longest_way environment.now first) }
+    ensures { IfOk result (λ ts. ts ≡ spec.sources_from (longest_way environment.now) environment.now first) }
 {
     let mut at = first;
     let mut sources = Texts::new(alloc);
-    for _turn in 0..DECLARATION_LIMIT {
+    for _turn in 0..u64::MAX {
         let Some(name) = at else {
             return Ok(sources);
         };
         sources.push(class_source(alloc, &name)?)?;
         at = parent_named(alloc, environment, &name)?;
     }
-    Ok(sources)
+    // No memory holds so many classes.
+    Err(Memory)
 }
 
 /// The parent of the class of a name.
@@ -85,7 +85,7 @@ fn parent_named(
     ensures { IfOk result (λ p. p ≡ spec.parent_named environment.now name.now) }
 {
     match class_in(find(alloc, environment, name)?) {
-        Some(class) => parent_of(alloc, environment, class),
+        Some(class) => parent_of(alloc, environment, name, class),
         None => Ok(None),
     }
 }

@@ -5,23 +5,24 @@ ghost use Rattle.eval_classes.specs.Definitions as spec;
 
 use crate::definitions::find;
 use crate::found::Found;
-use crate::names::{class_name, normal_name};
+use crate::names::normal_name;
 use eval_world::Environment;
 use pp_tree::{Class, Definition, Name};
 use pp_values::{Memory, Text};
-use res_book::DECLARATION_LIMIT;
 use std::alloc::Global;
 
-/// The parent of a class. One that inherits from itself, in any number of steps, counts as one without a parent.
+/// The parent of the class of a name. One that inherits from itself, in any number of steps, counts as one without a
+/// parent.
 #[tactic(auto, unfolding(crate::specs::Definitions::parent_of))]
 pub fn parent_of(
     alloc: Global,
     environment: &Environment<'_>,
+    name: &Text,
     class: &Class,
 ) -> Result<Option<Text>, Memory>
-    ensures { IfOk result (λ p. p ≡ spec.parent_of environment.now class.now) }
+    ensures { IfOk result (λ p. p ≡ spec.parent_of environment.now name.now class.now) }
 {
-    if inherits_itself(alloc, environment, class)? {
+    if inherits_itself(alloc, environment, name, class)? {
         return Ok(None);
     }
     written_parent(alloc, class)
@@ -30,30 +31,30 @@ pub fn parent_of(
 fn inherits_itself(
     alloc: Global,
     environment: &Environment<'_>,
+    name: &Text,
     class: &Class,
 ) -> Result<bool, Memory>
-    ensures { IfOk result (λ b. b ≡ spec.inherits_itself environment.now class.now) }
+    ensures { IfOk result (λ b. b ≡ spec.inherits_itself environment.now name.now class.now) }
 {
-    let name = class_name(alloc, class)?;
     let parent = written_parent(alloc, class)?;
-    comes_to(alloc, environment, &name, parent)
+    comes_to(alloc, environment, name, parent)
 }
 
 /// Whether one of these classes has this name: the first, its parent, and so on. One of those that were passed is
 /// marked, a later one after twice as many turns, and a way that comes back to the mark has gone round.
-#[tactic(auto, using(crate::proofs::Ways::further, crate::proofs::Ways::at_end, crate::proofs::Ways::too_long, crate::proofs::Ways::round, crate::proofs::Ways::none_marked, crate::proofs::Ways::marked, crate::proofs::Ways::mark_stays))]
+#[tactic(auto, using(crate::proofs::Ways::begins, crate::proofs::Ways::further, crate::proofs::Ways::at_end, crate::proofs::Ways::met, crate::proofs::Ways::round, crate::proofs::Behind::none_marked, crate::proofs::Behind::marked, crate::proofs::Behind::mark_stays))]
 fn comes_to(
     alloc: Global,
     environment: &Environment<'_>,
     name: &Text,
     first: Option<Text>,
 ) -> Result<bool, Memory>
-    ensures { IfOk result (λ b. b ≡ spec.comes_to spec.longest_way environment.now name.now first) }
+    ensures { IfOk result (λ b. b ≡ spec.comes_to (spec.longest_way environment.now) environment.now name.now first) }
 {
     let mut at = first;
     let mut mark = None;
     let mut next_mark = 0;
-    for turn in 0..DECLARATION_LIMIT {
+    for turn in 0..u64::MAX {
         let Some(here) = at else {
             return Ok(false);
         };
@@ -66,10 +67,11 @@ fn comes_to(
         at = parent_at(alloc, environment, &here)?;
         if turn >= next_mark {
             mark = Some(here);
-            next_mark = 2 * turn;
+            next_mark = turn.saturating_mul(2);
         }
     }
-    Ok(false)
+    // No memory holds so many classes.
+    Err(Memory)
 }
 
 fn is_marked(mark: &Option<Text>, name: &Text) -> bool

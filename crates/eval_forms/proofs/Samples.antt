@@ -132,7 +132,6 @@ sample = record {
   target = λ r here. pure d.undef;
   class = λ n line here. pure d.undef;
   instance = λ n line here. pure d.undef;
-  template = λ r here. pure d.undef;
 }
 
 -- ---- what the examples say of a form; each is evaluated at line 7

@@ -6,7 +6,6 @@ use Rattle.pp_tree.specs.declared.statement.Statement.{Statement}
 use Rattle.pp_tree.specs.declared.statement.Words.{Words}
 use Rattle.pp_values.specs.Datum.{Datum}
 use Rattle.eval_world.specs.Outcomes.{Step}
-use Rattle.eval_world.specs.Renderings.{Rendering, rendering_seen}
 use Rattle.eval_world.specs.declared.goal.Goal.{Goal}
 use Rattle.eval_world.specs.declared.goal.Goal.TheVariants as goal
 use Rattle.eval_world.specs.declared.here.Here.{Here}
@@ -20,7 +19,6 @@ pub record Inner : Type 0 where
   pub target : Reference Expr → Here → Step Datum
   pub class : ℕ → ℕ → Here → Step Datum
   pub instance : ℕ → ℕ → Here → Step Datum
-  pub template : Rendering → Here → Step Datum
 
 abbrev pub asked : Inner → Goal → Here → Step Datum
 asked inner (goal.Value e) here = inner.value e.now here
@@ -29,4 +27,3 @@ asked inner (goal.Words x) here = inner.words x.now here
 asked inner (goal.Target r) here = inner.target r.now here
 asked inner (goal.Class n line) here = inner.class n line here
 asked inner (goal.Instance n line) here = inner.instance n line here
-asked inner (goal.Template r) here = inner.template (rendering_seen r.now) here

@@ -1,14 +1,17 @@
-ghost use Rattle.std.specs.Prelude.{◌≡◌, IfSome};
+ghost use Rattle.std.specs.Prelude.{◌≡◌};
 ghost use Rattle.std.specs.FinMap.{find};
 ghost use Rattle.std.specs.Option.{option_copied};
 ghost use Rattle.epp_text.specs.Parsing.{template_of};
 ghost use Rattle.eval_world.specs.Environment.{text_at};
+ghost use Rattle.eval_world.specs.Reading.{Reads};
 ghost use Rattle.pp_values.specs.Rising.{text_cmp};
 
-use epp_text::Templates;
+use crate::read_template::ReadTemplate;
+use epp_text::{Templates, parse_epp};
 use hiera_config::SiteData;
-use pp_tree::{File, ManifestFile, Template};
-use pp_values::{Fault, Text};
+use pp_tree::{File, ManifestFile};
+use pp_values::{Stop, Text};
+use std::alloc::Global;
 use std::collections::BTreeMap;
 use std::marker::Model;
 
@@ -78,11 +81,21 @@ impl<'a> Environment<'a> {
         }
     }
 
-    /// What was read of the template of this text in the file at this path, if it is parsed already.
-    pub fn template_at(&self, path: &Text, text: &Text) -> Option<&'a Result<Template, Fault>>
-        ensures { IfSome result (λ r. r.now ≡ template_of path.now text.now) }
+    /// The template of this text in the file at this path: as it was parsed before, or else parsed here. Its fault is told
+    /// where it is used.
+    pub fn template(
+        &self,
+        alloc: Global,
+        path: &Text,
+        text: &Text,
+    ) -> Result<ReadTemplate<'a>, Stop>
+        ensures { Reads result (template_of path.now text.now) }
     {
-        self.templates.get(path, text)
+        match self.templates.get(path, text) {
+            Some(Ok(kept)) => Ok(ReadTemplate::Kept(kept)),
+            Some(Err(fault)) => Err(Stop::Fault(fault.copy(alloc)?)),
+            None => Ok(ReadTemplate::New(parse_epp(alloc, path, text)?)),
+        }
     }
 
     /// The data of the site.

@@ -9,13 +9,11 @@ ghost use Rattle.eval_world.specs.declared.world.World.{World};
 ghost use Rattle.eval_world.specs.Leaves.{known_in, number_in};
 ghost use Rattle.eval_world.specs.Nests.{Nests};
 ghost use Rattle.eval_world.specs.Outcomes.{Gives, same};
-ghost use Rattle.eval_world.specs.Renderings.{rendering_seen};
 
 use crate::evaluated::Evaluated;
 use crate::goal::Goal;
 use crate::here::Here;
 use crate::meaning::Meaning;
-use crate::rendering::Rendering;
 use crate::world::World;
 use pp_tree::{Block, Expr, Form, Reference, Words};
 use pp_values::{Memory, Stop, Text, Value};
@@ -151,20 +149,6 @@ impl<F: Fn(&mut World<'_>, Goal<'_>, Here, u32) -> Result<Evaluated, Stop>, M: M
         ensures { Gives same ((M.within self.now.left).instance number line here world.old) result world.new }
     {
         (self.inner)(world, Goal::Instance(number, line), here, self.left)
-    }
-
-    /// A template, which is rendered here: its value is its text.
-    pub fn template(
-        &self,
-        world: &mut World<'_>,
-        rendering: &Rendering<'_>,
-        here: Here,
-    ) -> Result<Evaluated, Stop>
-        requires { Nests (M.within self.now.left) self.now.left (F.pre self.now.inner) (F.post self.now.inner) }
-        ensures { Gives same ((M.within self.now.left).template (rendering_seen rendering.now) here world.old) result
-            world.new }
-    {
-        (self.inner)(world, Goal::Template(rendering), here, self.left)
     }
 }
 

@@ -1,4 +1,3 @@
-use crate::rendering::Rendering;
 use pp_tree::{Block, Expr, Reference, Words};
 
 /// What is evaluated one level further in. A block, a class body and an instance come with the line at which they are
@@ -17,6 +16,4 @@ pub enum Goal<'t> {
     Class(u32, u32),
     /// An instance of a define, by the number of its declaration.
     Instance(u32, u32),
-    /// A template, in the scope that it is rendered in. It is refused at its first line.
-    Template(&'t Rendering<'t>),
 }

@@ -13,8 +13,8 @@ mod here;
 mod meaning;
 mod owner;
 mod owners;
+mod read_template;
 mod rendered;
-mod rendering;
 mod shapes;
 mod world;
 
@@ -27,7 +27,7 @@ pub use here::Here;
 pub use meaning::Meaning;
 pub use owner::Owner;
 pub use owners::{INLINE_FILE, MAIN_SOURCE, Owners};
+pub use read_template::ReadTemplate;
 pub use rendered::Rendered;
-pub use rendering::Rendering;
 pub use shapes::{is_default, is_splat, only};
 pub use world::World;

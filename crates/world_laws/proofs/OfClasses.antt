@@ -204,7 +204,8 @@ module _ (inner : Inner) (g : GrowsInner inner) where
       Grows (class_declared inner c given at from)
   unfolding class_declared
   class_declared_grows c given at from =
-      told (λ w. chain_declared inner (chain_from longest_way [] c w.environment w.book) given at from)
+      told (λ w.
+      chain_declared inner (chain_from (longest_way w.environment) [] (class_name c) c w.environment w.book) given at from)
       (λ w. chain_grows _ given at from)
 
   -- ---- `include` and `contain`

@@ -25,7 +25,7 @@ use Rattle.pp_values.specs.declared.place.Place.{Place}
 use Rattle.scope_core.specs.declared.scope_kind.ScopeKind.TheVariants as kind
 use Rattle.eval_world.specs.Inner.{Inner}
 use Rattle.eval_world.specs.Outcomes.{Step}
-use Rattle.eval_world.specs.Worlds.{top}
+use Rattle.eval_world.specs.Worlds.{top, with_rendered}
 use Rattle.eval_world.specs.declared.here.Here.{Here}
 use Rattle.class_eval.specs.Evaluating.{at_depth, value_at, block_at, node_of, has_nodes, node_owner, node_rule, chosen}
 use Rattle.class_eval.specs.Evaluating.{nodes_by, nodes_rule, main_rule, class_number, class_given, class_within}
@@ -34,6 +34,7 @@ use Rattle.class_eval.specs.Meaning.{value_by, value_rule, deep, one_more, withi
 use Rattle.class_eval.specs.Postfixes.{PostfixLayer, postfix_by, postfix_rule, postfixes_from, postfixed_rule}
 use Rattle.class_eval.specs.Statements.{valued, unvalued, operand_by, operand_rule, chained_by, chain_rule}
 use Rattle.class_eval.specs.Statements.{statement_by, emitted_value, statement_rule, or_before, statements_from}
+use Rattle.class_eval.specs.Statements.{emitted_rule}
 use Rattle.class_eval.specs.TypeNames.{there_by, named_by, type_named_rule}
 use Rattle.world_laws.specs.Growing.{Grows, GrowsInner}
 use Rattle.world_laws.proofs.OfCalls.{call_grows, method_grows, words_grow}
@@ -46,7 +47,7 @@ use Rattle.world_laws.proofs.OfForms.{accessed_grows}
 use Rattle.world_laws.proofs.OfCollectors.{collector_grows}
 use Rattle.world_laws.proofs.OfOverrides.{override_grows, defaults_grow, target_grows}
 use Rattle.world_laws.proofs.OfResources.{resource_grows}
-use Rattle.world_laws.proofs.OfTemplates.{rendered_grows, template_grows}
+use Rattle.world_laws.proofs.OfTemplates.{back}
 use Rattle.world_laws.proofs.OfWorld.{emit_grows, read_grows}
 use Rattle.world_laws.proofs.Steps.{and_then, pure_grows, answer_grows, fault_grows}
 use Rattle.world_laws.proofs.Worlds.{same_world}
@@ -137,6 +138,14 @@ module _ (inner : Inner) (g : GrowsInner inner) where
   statements_grow last (s ∷ ss) here =
       and_then (statement_grows s here) (λ given. statements_grow (or_before given last) ss here)
 
+  -- the text that statements emit
+  pub text_emitted_grows : (b : List Statement) (own : Here) → Grows (emitted_rule inner b own)
+  unfolding emitted_rule
+  text_emitted_grows b own = record {
+    reaches = λ w. back w (statements_from inner datum.undef b own (with_rendered [] w))
+        ((statements_grow datum.undef b own).reaches (with_rendered [] w));
+  }
+
   -- ---- expressions
 
   value_by_grows : (f : FormLayer) (line : ℕ) (here : Here) → Grows (value_by inner f line here)
@@ -174,7 +183,6 @@ module _ (inner : Inner) (g : GrowsInner inner) where
     target = target_grows inner g;
     class = class_grows inner g;
     instance = instance_grows inner g;
-    template = template_grows inner g (λ b own. statements_grow datum.undef b own);
   }
 
   -- ---- a class that is declared from without
@@ -204,7 +212,6 @@ deep_grows = record {
   target = λ r here. fault_grows _;
   class = λ n line here. fault_grows _;
   instance = λ n line here. fault_grows _;
-  template = λ r here. fault_grows _;
 }
 
 pub within_grows : (levels : ℕ) → GrowsInner (within levels)
@@ -253,5 +260,4 @@ pub instance_at_grows : (number depth : ℕ) → Grows (instance_at number depth
 instance_at_grows number depth = run_grows (at_depth depth) (at_depth_grows depth) number
 
 pub render_at_grows : (t : Template) (here : Here) (depth : ℕ) → Grows (render_at t here depth)
-render_at_grows t here depth = rendered_grows (at_depth depth) t.block here
-    (statements_grow (at_depth depth) (at_depth_grows depth) datum.undef t.block here)
+render_at_grows t here depth = text_emitted_grows (at_depth depth) (at_depth_grows depth) t.block here

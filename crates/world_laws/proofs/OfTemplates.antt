@@ -13,17 +13,16 @@ use Rattle.eval_world.specs.Environment.{text_at}
 use Rattle.eval_world.specs.Inner.{Inner}
 use Rattle.eval_world.specs.Outcomes.{Outcome, go_on, ◌>>=◌, ◌>>◌}
 use Rattle.eval_world.specs.Owners.{inline_file, inline_in}
-use Rattle.eval_world.specs.Renderings.{Rendering}
+use Rattle.eval_calls.specs.Renderings.{Rendering}
 use Rattle.eval_world.specs.Worlds.{enter_function, enter_inline, place_at, with_rendered}
 use Rattle.eval_world.specs.declared.here.Here.{Here}
 use Rattle.eval_world.specs.declared.world.World.{World}
 use Rattle.eval_calls.specs.Templating.{Asked, asked_of, template_path, rendering, rendered_in, file_rule, file_by}
 use Rattle.eval_calls.specs.Templating.{named_by, epp_by, epp_rule, text_rule, inline_by, inline_rule}
-use Rattle.class_eval.specs.Statements.{block_rule}
-use Rattle.class_eval.specs.Templates.{pairs_given, given_for, are_taken, unless_undef, value_or_default, param_rule}
-use Rattle.class_eval.specs.Templates.{params_from, params_or_wrong, set_where, name_by, names_from, given_by, finish}
-use Rattle.class_eval.specs.Templates.{rendered_rule, template_rule, written_rule}
-use Rattle.class_eval.specs.TopNames.{is_variable}
+use Rattle.eval_calls.specs.Templates.{pairs_given, given_for, are_taken, unless_undef, value_or_default, param_rule}
+use Rattle.eval_calls.specs.Templates.{params_from, params_or_wrong, set_where, name_by, names_from, given_by, finish}
+use Rattle.eval_calls.specs.Templates.{rendered_rule, template_rule, written_rule}
+use Rattle.eval_calls.specs.VariableNames.{is_variable}
 use Rattle.world_laws.specs.Extends.{Extends}
 use Rattle.world_laws.specs.Growing.{Reaches, Grows, GrowsInner}
 use Rattle.world_laws.proofs.OfFunctions.{bind_grows, value_grows, own_in, entered_in, entered_extends}
@@ -49,17 +48,10 @@ names_grow (p ∷ ps) at own = and_then (name_grows p.0 p.1 at own) (λ u. names
 -- ---- the text
 
 -- what was emitted before is back
-back : (w : World) (o : Outcome Datum) → Reaches (with_rendered [] w) o → Reaches w (go_on o (λ d. finish w.rendered))
+pub back : (w : World) (o : Outcome Datum) → Reaches (with_rendered [] w) o → Reaches w (go_on o (λ d. finish w.rendered))
 back w (Ok p) r = extends_on w p.1 (with_rendered w.rendered p.1)
     (extends_on w (with_rendered [] w) p.1 (rendered_changes w []) r) (rendered_changes p.1 w.rendered)
 back w (Err e) r = tt
-
-pub rendered_grows : (inner : Inner) (b : List Statement) (own : Here) → Grows (block_rule inner b own) →
-    Grows (rendered_rule inner b own)
-unfolding rendered_rule
-rendered_grows inner b own f = record {
-  reaches = λ w. back w (block_rule inner b own (with_rendered [] w)) (f.reaches (with_rendered [] w));
-}
 
 -- ---- where a text that is handed over is rendered, and the world then
 
@@ -123,15 +115,18 @@ module _ (inner : Inner) (g : GrowsInner inner) where
   given_grows None gs r own = names_grow gs r.at own
   given_grows (Some ps) gs r own = params_or_wrong_grows (are_taken ps gs) ps gs r own
 
-  -- ---- a template whose statements grow
+  -- ---- a template
 
-  pub template_grows : ((b : List Statement) (own : Here) → Grows (block_rule inner b own)) →
-      (r : Rendering) (own : Here) →
-      Grows (template_rule inner r own)
+  rendered_grows : (b : List Statement) (own : Here) → Grows (rendered_rule inner b own)
+  unfolding rendered_rule
+  rendered_grows b own = record {
+    reaches = λ w. back w (inner.block b 1 own (with_rendered [] w)) ((g.block b 1 own).reaches (with_rendered [] w));
+  }
+
+  template_grows : (r : Rendering) (own : Here) → Grows (template_rule inner r own)
   unfolding template_rule written_rule
-  template_grows blocks r own = and_then (answer_grows _) (λ (t : Template).
-      and_then (given_grows t.params (pairs_given r.given) r own) (λ u.
-      rendered_grows inner t.block own (blocks t.block own)))
+  template_grows r own = and_then (answer_grows _) (λ (t : Template).
+      and_then (given_grows t.params (pairs_given r.given) r own) (λ u. rendered_grows t.block own))
 
   -- ---- the functions
 
@@ -139,7 +134,7 @@ module _ (inner : Inner) (g : GrowsInner inner) where
   scoped : (w v : World) (r : Rendering) (own : Here) → Extends w v → length w.scopes.scopes ≤ own.scope.number →
       Reaches w (rendered_in inner r own v)
   unfolding rendered_in
-  scoped w v r own f past = ends w v own (inner.template r own v) f past ((g.template r own).reaches v)
+  scoped w v r own f past = ends w v own (template_rule inner r own v) f past ((template_grows r own).reaches v)
 
   file_grows : (r : Rendering) → Grows (file_rule inner r)
   unfolding file_rule enter_function

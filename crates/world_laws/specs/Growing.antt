@@ -6,7 +6,6 @@ use Rattle.pp_tree.specs.declared.statement.Statement.{Statement}
 use Rattle.pp_tree.specs.declared.statement.Words.{Words}
 use Rattle.eval_world.specs.Inner.{Inner}
 use Rattle.eval_world.specs.Outcomes.{Outcome, Step}
-use Rattle.eval_world.specs.Renderings.{Rendering}
 use Rattle.eval_world.specs.declared.here.Here.{Here}
 use Rattle.eval_world.specs.declared.world.World.{World}
 use Rattle.world_laws.specs.Extends.{Extends}
@@ -28,4 +27,3 @@ pub record GrowsInner (inner : Inner) : Type 0 where
   pub target : (r : Reference Expr) (here : Here) → Grows (inner.target r here)
   pub class : (n line : ℕ) (here : Here) → Grows (inner.class n line here)
   pub instance : (n line : ℕ) (here : Here) → Grows (inner.instance n line here)
-  pub template : (r : Rendering) (here : Here) → Grows (inner.template r here)

@@ -31,7 +31,7 @@ pub fn all_is_placed()
 {}
 
 /// Whatever part of a manifest is evaluated, with whatever levels left: an expression, a block, a call without
-/// parentheses, the target of an override, the body of a class, an instance or a template. Where a world comes out, it
+/// parentheses, the target of an override, the body of a class or an instance. Where a world comes out, it
 /// extends the one before.
 pub fn parts_only_add()
     ensures { (levels : ℕ) → GrowsInner (within levels) }

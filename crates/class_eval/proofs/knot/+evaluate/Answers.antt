@@ -31,8 +31,3 @@ pub returns-in-Instance : goal.returns-in-Instance
 returns-in-Instance t c =
     rw (one_level c.args.left c.args.goal c.args.here c.args.world.now c.if-left-eq0.false, c.in-Instance.is)
     c.instance_body.ensures
-
-pub returns-in-Template : goal.returns-in-Template
-returns-in-Template t c =
-    rw (one_level c.args.left c.args.goal c.args.here c.args.world.now c.if-left-eq0.false, c.in-Template.is)
-    c.template.ensures

@@ -1,9 +1,10 @@
-use Rattle.std.proofs.Common.{◌≡◌, Some, ap, sym, ◌∙◌, ◌-◌, ◌+◌}
+use Rattle.std.proofs.Common.{◌≡◌, Some, ap, sym, subst, ◌∙◌, ◌+◌, ◌∷◌}
 use Rattle.std.specs.Option.{option_copied}
-use Rattle.eval_classes.specs.Definitions.{longest_way}
-use Rattle.eval_classes.specs.Listing.{chain_from, class_at, next_class, unless_declared}
+use Rattle.std.specs.Prelude.{unwrap_or}
+use Rattle.eval_classes.specs.Definitions.{class_name}
+use Rattle.eval_classes.specs.Listing.{class_at, unless_declared}
 use Rattle.eval_classes.specs.Stacks.{stack_of, class_seen}
-use Rattle.eval_classes.proofs.Links.{one_more}
+use Rattle.eval_classes.proofs.Links.{Linked, one_more}
 use Rattle.eval_classes.proofs.Stacks.{put_on}
 use Rattle.eval_classes.proofs.chains.chain_of.Goals as goal
 
@@ -13,12 +14,14 @@ loop-turn-preserved c =
     let book = c.args.book.now in
     let turn = c.loop-turn._turn in
     let last = c.loop-turn.last in
+    let name = c.loop-turn.name in
+    let class = c.args.class in
     let next = c.in-Some.next.now in
     let before = c.loop-turn.before.items in
-    let found : next_class m book last.now ≡ Some next
-    = ap (λ p. unless_declared book (class_at m p)) (sym c.in_ok-parent.ensures)
-    ∙ sym c.in_ok-next.ensures ∙ ap option_copied c.in-Some.is in
-    one_more m book longest_way turn (stack_of class_seen before) last.now next _ c.loop-turn-test.true
-    c.loop-turn.invariant found
-    ∙ ap (λ cs. chain_from (longest_way - (turn + 1)) cs next m book)
+    let found = sym c.in_ok-next.ensures ∙ ap option_copied c.in-Some.is in
+    let one = one_more m book turn (class_name class.now) class.now (stack_of class_seen before) name _ last.now next
+        c.loop-turn.invariant c.in_ok-parent.ensures found in
+    subst (λ cs. Linked m book (turn + 1) (class_name class.now) class.now cs _ next)
     (sym (ap (stack_of class_seen) c.in_ok-push.ensures.items ∙ put_on class_seen before last))
+    (subst (λ n. Linked m book (turn + 1) (class_name class.now) class.now (last.now ∷ stack_of class_seen before) n next)
+    (sym c.or_name-name.ensures) one)

@@ -58,12 +58,13 @@ module _ {A : Type 0} where
             holds k y (omega (arith, behind, more)) inside at),
       )
 
-module _ {S : Type 0} where
-  not_of : (base a : ℕ) (who : Option ℕ) → base ≤ a → IfSome who (λ author. author < base) → stands (a ∷ []) who ≡ 0
-  not_of base a None above earlier = refl
-  not_of base a (Some author) above earlier =
-      let apart = same_no author a (λ is. omega (arith, is, above, earlier)) in omega (arith, apart)
+-- an author below the base is none from the base on
+not_of : (base a : ℕ) (who : Option ℕ) → base ≤ a → IfSome who (λ author. author < base) → stands (a ∷ []) who ≡ 0
+not_of base a None above earlier = refl
+not_of base a (Some author) above earlier =
+    let apart = same_no author a (λ is. omega (arith, is, above, earlier)) in omega (arith, apart)
 
+module _ {S : Type 0} where
   -- no earlier entry is of an author from the base on
   early_at : (base a : ℕ) (h : List (Event S)) (k : ℕ) → base ≤ a → AreEarlier base h →
       wrote author_of (a ∷ []) (slice_get h k) ≡ 0

@@ -109,9 +109,9 @@ where
         (N.net net.old) (N.net net.new) r.ends.items r.stop r.history.entries) history.entries result }
     ensures err { OnErr result (N.net net.new ≡ N.net net.old) }
 {
+    let (shared, pass) = SharedSite::resume(alloc, language, history, MOST_ENTRIES)?;
     let visits = Vec::with_capacity(alloc, count as usize)?;
     let ends = Vec::with_capacity(alloc, count as usize)?;
-    let (shared, pass) = SharedSite::resume(alloc, language, history, MOST_ENTRIES)?;
     Ok(serve_shared(
         rt, alloc, shared, pass, net, port, count, gate, visits, ends,
     ))

@@ -1,14 +1,14 @@
 -- A door that opened again and again.
-use Rattle.std.proofs.Common.{◌≡◌, ℕ, zero, suc, ◌+◌, ◌-◌, ◌≤◌, List, [], ◌∷◌, ◌++◌, map, length, Option, Some, None, option_map, refl, sym, ap, ◌∙◌, subst, arith, append_assoc, append-nil}
+use Rattle.std.proofs.Common.{◌≡◌, ℕ, zero, suc, ◌+◌, ◌-◌, ◌≤◌, List, [], ◌∷◌, ◌++◌, map, length, Option, Some, None, refl, sym, ap, ◌∙◌, subst, arith, append_assoc, append-nil}
 use mathlib.Core.List.{IsPrefix}
 use Rattle.hist_lock.specs.Held.{LockId}
 use Rattle.hist_lock.proofs.Fronts.{prefix_trans}
 use Rattle.site_io.specs.Stream.{Stream, Rose}
-use Rattle.site_io.specs.Net.{Net, Lines, Gives, HasGiven, HasNoMore}
+use Rattle.site_io.specs.Net.{Net, Lines, Gives, HasNoMore}
 use Rattle.site_io.proofs.Streams.{Rose-after}
 use Rattle.site_core.specs.Events.{Event}
 use Rattle.shared_site.specs.Shows.{Terms}
-use Rattle.shared_site.specs.Known.{Known, held, cut, cut_off}
+use Rattle.shared_site.specs.Known.{Known, held}
 use Rattle.work_pool.specs.Supplied.{Supplied}
 use Rattle.site_service.specs.declared.service_stop.ServiceStop.{ServiceStop}
 use Rattle.site_service.specs.declared.service_stop.ServiceStop.TheVariants as stop

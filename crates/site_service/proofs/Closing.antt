@@ -1,17 +1,17 @@
 -- Connections that were served side by side were served under the history that is handed out at the end.
-use Rattle.std.proofs.Common.{◌≡◌, ℕ, zero, suc, ◌+◌, ◌≤◌, ◌<◌, List, [], ◌∷◌, ◌++◌, map, length, slice_get, Option, Some, None, IfSome, refl, sym, ap, ◌∙◌, subst, subst₂, arith, append_assoc, append-nil, length-append}
+use Rattle.std.proofs.Common.{◌≡◌, ℕ, zero, suc, ◌+◌, ◌≤◌, ◌<◌, List, [], ◌∷◌, ◌++◌, map, length, slice_get, Option, Some, None, IfSome, refl, sym, ap, ◌∙◌, subst, subst₂, arith, append_assoc, length-append}
 use Rattle.std.specs.List.{AllZip}
 use mathlib.Core.Logic.{dite}
 use native.Mathlib.Decide.{ℕ_discrete, dec_le}
 use mathlib.Core.List.{IsPrefix}
 use Rattle.std.proofs.lemmas.Option.{slice_get_past}
-use Rattle.list_sums.specs.Counts.{total, times, same, below}
+use Rattle.list_sums.specs.Counts.{total, times, same}
 use Rattle.list_sums.proofs.Marks.{same_no, same_yes, below_yes, below_no}
 use Rattle.hist_lock.specs.Held.{LockId}
-use Rattle.hist_lock.specs.Calls.{stands, count_author, wrote, has_author, AreCalls}
+use Rattle.hist_lock.specs.Calls.{stands, wrote, has_author, AreCalls}
 use Rattle.hist_lock.proofs.Fronts.{prefix_trans, prefix_length, at_front}
 use Rattle.site_io.specs.Stream.{Stream}
-use Rattle.site_io.specs.Net.{Net, Lines}
+use Rattle.site_io.specs.Net.{Net}
 use Rattle.site_core.specs.Asked.{Asked}
 use Rattle.site_core.specs.Each.{Each}
 use Rattle.site_core.specs.Meaning.{Meaning}

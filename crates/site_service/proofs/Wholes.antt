@@ -13,7 +13,7 @@ use Rattle.site_core.specs.Events.{Event, author_of}
 use Rattle.site_core.specs.Legal.{Legal}
 use Rattle.site_core.specs.Resuming.{base_of, past_author}
 use Rattle.site_core.specs.Fits.{Listed}
-use Rattle.shared_site.specs.Shows.{Terms, Shared, opened, resumed}
+use Rattle.shared_site.specs.Shows.{Shared, opened, resumed}
 use Rattle.shared_site.specs.Known.{Known, held, first_pass, AreTheOthers}
 use Rattle.work_pool.specs.Supplied.{HasRun}
 use Rattle.site_serve.specs.declared.conn_end.ConnEnd.{ConnEnd}
@@ -23,7 +23,7 @@ use Rattle.site_service.specs.declared.service_stop.ServiceStop.{ServiceStop}
 use Rattle.site_service.specs.declared.service_stop.ServiceStop.TheVariants as stop
 use Rattle.site_service.specs.Doors.{IsOpening, AreEarlier, Opens}
 use Rattle.site_service.specs.Visits.{HasVisited}
-use Rattle.site_service.specs.Served.{Taken, IsNewNet, IsWhy, HasThemBack, Tells, HasServedAll}
+use Rattle.site_service.specs.Served.{Taken, IsNewNet, IsWhy, Tells, HasServedAll}
 use Rattle.site_service.specs.Handing.{Out, HasJoined, is_out, AreOut, is_back, AreBack}
 use Rattle.site_service.proofs.Handing.{none_joined}
 use Rattle.site_service.proofs.Chains.{IsDoorAt, IsLast, IsWhyHere, Gone, IsChained, chained}

@@ -1,4 +1,4 @@
-use Rattle.std.proofs.Common.{◌≡◌, ◌+◌, ◌≤◌, refl, sym, subst, arith}
+use Rattle.std.proofs.Common.{refl, sym, subst, arith}
 use Rattle.site_serve.specs.Ends.{dialect}
 use Rattle.site_service.specs.Served.{HasServedAll}
 use Rattle.site_service.proofs.Wholes.{site_is, of_all, few, out, may_close, served}

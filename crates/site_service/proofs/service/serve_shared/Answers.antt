@@ -1,5 +1,5 @@
 use Rattle.site_serve.specs.Ends.{dialect}
-use Rattle.site_service.proofs.Wholes.{closes_opening, new_net, unserved, from_listening}
+use Rattle.site_service.proofs.Wholes.{closes_opening, unserved, from_listening}
 use Rattle.site_service.proofs.service.serve_shared.Goals as goal
 
 pub close-requires-clause-all : goal.close-requires-clause-all

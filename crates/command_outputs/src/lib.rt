@@ -32,6 +32,6 @@ pub use migrate::migrate_output;
 pub use node_catalog::compile_node;
 pub use node_stop::NodeStop;
 pub use output::Output;
-pub use resume::resume_output;
+pub use resume::{refuse_author, refuse_history, resume_output};
 pub use sequence::sequence_output;
 pub use settle::settle_output;

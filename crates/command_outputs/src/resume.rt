@@ -50,7 +50,7 @@ pub fn resume_output<G: Gate + Sync, R: Threads + Wait + Sync>(
             says_legal_exactly::<PuppetLanguage>();
             go_on(rt, alloc, history, requests, workers, gate)
         }
-        Verdict::Broken { .. } => not_legal(alloc, &verdict),
+        Verdict::Broken { .. } => refuse_history(alloc, &verdict),
     }
 }
 
@@ -76,20 +76,20 @@ fn go_on<G: Gate + Sync, R: Threads + Wait + Sync>(
             let text = run_text(alloc, requests, &came.history, &came.replies)?;
             Ok(output_of(&came.replies, text))
         }
-        Err(ResumeStop::Authors(author)) => too_great(alloc, author),
+        Err(ResumeStop::Authors(author)) => refuse_author(alloc, author),
         Err(ResumeStop::Memory) => Err(Memory),
     }
 }
 
 /// The line of the verdict on a history that is not legal.
-fn not_legal(alloc: Global, verdict: &Verdict) -> Result<Output, Memory>
+pub fn refuse_history(alloc: Global, verdict: &Verdict) -> Result<Output, Memory>
     ensures { IfOk result (λ output. output ≡ out.Fault (spec.verdict_line verdict.now)) }
 {
     Ok(Output::Fault(verdict_line(alloc, verdict)?))
 }
 
 /// That the greatest author leaves too few numbers for new ones.
-fn too_great(alloc: Global, author: u32) -> Result<Output, Memory>
+pub fn refuse_author(alloc: Global, author: u32) -> Result<Output, Memory>
     ensures { IfOk result (λ output. output ≡ out.Fault (authors_line author)) }
 {
     Ok(Output::Fault(authors_line(alloc, author)?))

@@ -46,6 +46,9 @@ no_journal_ends = refl
 third_line : line_behind (codes "a\nb\nc") ≡ 3
 third_line = refl
 
+from_old_service : reading_of (a.serve_on 8140 3) ≡ journal
+from_old_service = refl
+
 from_both : reading_of (a.resume 2) ≡ resuming
 from_both = refl
 

@@ -1,6 +1,7 @@
 mod Applied
 mod Decoding
 mod Examples
+mod GoneOn
 mod Journals
 mod Reading
 mod Rising

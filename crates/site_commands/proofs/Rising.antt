@@ -1,5 +1,5 @@
 -- Statuses of faults of the outside come where its counts rose.
-use Rattle.std.proofs.Common.{◌≡◌, ◌⊎◌, ℕ, Bool, true, false, List, ◌∙◌, subst, refl, inl, inr}
+use Rattle.std.proofs.Common.{◌≡◌, ◌⊎◌, ℕ, Bool, true, false, List, [], ◌∷◌, ◌∙◌, subst, refl, inl, inr}
 use Rattle.std.specs.Prelude.{Option, Result, Ok, Err, nat_lt}
 use Rattle.std.specs.List.{count_by}
 use Rattle.agent_docs.specs.ReportText.{has_changed, has_failed}
@@ -8,18 +8,22 @@ use Rattle.agent_machine.specs.declared.machine_doc.MachineDoc.{MachineDoc}
 use Rattle.command_outputs.specs.Nodes.{NodeRefusal, node_meaning}
 use Rattle.command_outputs.specs.declared.output.Output.{Output}
 use Rattle.command_outputs.specs.declared.output.Output.TheVariants as o
+use Rattle.compile_core.specs.Puppet.{puppet}
+use Rattle.history_audit.specs.Audits.{audited}
 use Rattle.res_core.specs.declared.catalog.Catalog.{Catalog}
 use Rattle.site_bundle.specs.declared.bundle_stop.BundleStop.TheVariants as b
+use Rattle.site_core.specs.Events.{opens}
 use Rattle.site_io.specs.Folders.{Folder}
 use Rattle.site_io.specs.Stream.{Stream, Rose}
 use Rattle.site_io.specs.declared.transfer.ReadStop.TheVariants as r
 use Rattle.site_words.specs.Asked as a
 use Rattle.site_words.specs.Asked.{Asked}
+use Rattle.site_commands.proofs.GoneOn.{on_net, on_sinks}
 use Rattle.site_commands.proofs.Served.{served_net, served_sinks}
 use Rattle.site_commands.specs.Applying.{ending_by, AppliesCatalog, AppliesMeant}
 use Rattle.site_commands.proofs.Decoding.{ending_of, ending-is}
 use Rattle.site_commands.specs.Endings.{Ends, HasEnded, HasStopped, HasWorked, Works}
-use Rattle.site_commands.specs.Inputs.{Reading, nothing, manifest, bundle, folder, journal, resuming, Input, site, reading_of, HasStoppedBy, stop_ending}
+use Rattle.site_commands.specs.Inputs.{Reading, nothing, manifest, bundle, folder, journal, resuming, Input, site, history, reading_of, HasStoppedBy, stop_ending}
 use Rattle.site_commands.specs.Work.{Delivers}
 use Rattle.site_commands.specs.World.{World}
 use Rattle.site_commands.specs.declared.ending.Ending.{Ending}
@@ -105,7 +109,9 @@ unfolding SinkRose
 works_rose (a.apply node dir by) (site said) before after did =
     meant_rose by node (node_meaning said.site node) said.machine before after did.0
 works_rose (a.serve port count dir) (site said) before after did =
-    served_sinks said.site count before.out after.out before.err after.err before.net after.net did.0
+    served_sinks 0 (opens said.site ∷ []) count before.out after.out before.err after.err before.net after.net did.0
+works_rose (a.serve_on port count) (history h) before after did =
+    on_sinks (audited puppet h) h count before.out after.out before.err after.err before.net after.net did.0
 works_rose asked input before after did = delivered_rose did.0.output before after did.0.written
 
 -- ---- the net
@@ -141,7 +147,9 @@ works_net : (asked : Asked) (input : Input) (before after : World) → Works e.N
     NetRose before after
 unfolding NetRose
 works_net (a.serve port count dir) (site said) before after did =
-    served_net said.site count before.out after.out before.err after.err before.net after.net did.0
+    served_net 0 (opens said.site ∷ []) count before.out after.out before.err after.err before.net after.net did.0
+works_net (a.serve_on port count) (history h) before after did =
+    on_net (audited puppet h) h count before.out after.out before.err after.err before.net after.net did.0
 works_net (a.apply node dir by) (site said) before after did =
     absurd (meant_no_net by node (node_meaning said.site node) said.machine _ _ _ _ _ _ did.0)
 works_net asked input before after did = absurd (delivered_no_net did.0.output _ _ _ _ did.0.written)

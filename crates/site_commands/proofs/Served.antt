@@ -23,7 +23,7 @@ use Rattle.site_words.specs.Asked as a
 use Rattle.site_commands.proofs.Worked.{IsOfWork, either_of_work, ends_worked}
 use Rattle.site_commands.specs.Endings.{Ends}
 use Rattle.site_commands.specs.Inputs.{folder, site, HasInput}
-use Rattle.site_commands.specs.Serving.{is_memory, stop_ending, service_ending, end_lines, EndsSaying, TellsService, TellsServed, Serves}
+use Rattle.site_commands.specs.Serving.{is_memory, stop_ending, service_ending, end_lines, EndsSaying, TellsService, TellsServed, Serves, ServesFrom}
 use Rattle.site_commands.specs.Settled.{IsFaultStatus}
 use Rattle.site_commands.specs.Status.{status_of}
 use Rattle.site_commands.specs.Work.{HasLogged}
@@ -81,12 +81,12 @@ served_tells ending history ends why journal lines out out' err err' first secon
 
 -- ---- what came of the service
 
-module _ (view : SiteView) (count : ℕ) (out out' err err' : Stream) (n n' : Net) where
+module _ (base : ℕ) (first : List (Event SiteView)) (count : ℕ) (out out' err err' : Stream) (n n' : Net) where
   -- connections were served, and told of
   pub serves_told : (ending : Ending) (history : List (Event SiteView)) (ends : List ConnEnd) (why : ServiceStop) →
-      HasServedAll puppet listed (dialect said_site catalog_text fault_text) MOST_ENTRIES (opens view ∷ []) count n n' ends
-      why history → TellsServed ending history ends why out out' err err' →
-      Serves ending view count out out' err err' n n'
+      HasServedAll puppet listed (dialect said_site catalog_text fault_text) MOST_ENTRIES base first count n n' ends why
+      history → TellsServed ending history ends why out out' err err' →
+      ServesFrom ending base first count out out' err err' n n'
   serves_told e.Memory history ends why served (inl did) =
       inl (did, inr (record { history = history; ends = ends; why = why; served = served }))
   serves_told e.Memory history ends why served (inr did) =
@@ -96,9 +96,9 @@ module _ (view : SiteView) (count : ℕ) (out out' err err' : Stream) (n n' : Ne
 
   -- memory was wanting before the listener was called
   pub serves_lacking : (ending : Ending) → ending ≡ e.Memory → Says (line (codes "memory")) err err' → out' ≡ out →
-      n' ≡ n → Serves ending view count out out' err err' n n'
+      n' ≡ n → ServesFrom ending base first count out out' err err' n n'
   serves_lacking ending is said same net =
-      subst (λ x. Serves x view count out out' err err' n n') (sym is) (inl ((said, same), inl net))
+      subst (λ x. ServesFrom x base first count out out' err err' n n') (sym is) (inl ((said, same), inl net))
 
 -- ---- how the run ended
 
@@ -108,10 +108,10 @@ by_service false s.Counted = tt
 by_service false s.Closed = tt
 by_service false s.NetFault = tt
 
-served_of_work : (ending : Ending) (view : SiteView) (count : ℕ) (out out' err err' : Stream) (n n' : Net) →
-    Serves ending view count out out' err err' n n' → IsOfWork ending
-served_of_work e.Memory view count out out' err err' n n' did = tt
-served_of_work ending view count out out' err err' n n' did =
+pub served_of_work : (ending : Ending) (base : ℕ) (first : List (Event SiteView)) (count : ℕ) (out out' err err' : Stream)
+    (n n' : Net) → ServesFrom ending base first count out out' err err' n n' → IsOfWork ending
+served_of_work e.Memory base first count out out' err err' n n' did = tt
+served_of_work ending base first count out out' err err' n n' did =
     either_of_work ending (service_ending did.served.ends did.served.why)
     (by_service (list_any is_memory did.served.ends) did.served.why)
     (tells_ending ending (service_ending did.served.ends did.served.why) (journal_text did.served.history)
@@ -124,7 +124,8 @@ pub ends_served : (ending : Ending) (port count : ℕ) (dir : List ℕ) (said : 
     Ends ending (a.serve port count dir) before after
 ends_served ending port count dir said before after read machine did =
     ends_worked ending (a.serve port count dir) before after
-    (served_of_work ending said.site count before.out after.out before.err after.err before.net after.net did)
+    (served_of_work ending 0 (opens said.site ∷ []) count before.out after.out before.err after.err before.net after.net
+    did)
     (record { input = site said; read = read; work = (did, machine) })
 
 -- ---- its status
@@ -137,10 +138,11 @@ status_by false s.Counted = inl refl
 status_by false s.Closed = inl refl
 status_by false s.NetFault = inr (inr (inr (inl refl)))
 
-pub served_status : (ending : Ending) (view : SiteView) (count : ℕ) (out out' err err' : Stream) (n n' : Net) →
-    Serves ending view count out out' err err' n n' → (status_of ending ≡ 0) ⊎ IsFaultStatus (status_of ending)
-served_status e.Memory view count out out' err err' n n' did = inr (inr (inr (inr (inr refl))))
-served_status ending view count out out' err err' n n' did =
+pub served_status : (ending : Ending) (base : ℕ) (first : List (Event SiteView)) (count : ℕ)
+    (out out' err err' : Stream) (n n' : Net) → ServesFrom ending base first count out out' err err' n n' →
+    (status_of ending ≡ 0) ⊎ IsFaultStatus (status_of ending)
+served_status e.Memory base first count out out' err err' n n' did = inr (inr (inr (inr (inr refl))))
+served_status ending base first count out out' err err' n n' did =
     elim (tells_ending ending (service_ending did.served.ends did.served.why) (journal_text did.served.history)
     (end_lines 1 did.served.ends) out out' err err' did.told) [
       | inl is ↦ subst (λ x. (status_of x ≡ 0) ⊎ IsFaultStatus (status_of x)) (sym is)
@@ -155,9 +157,10 @@ logged_later : (text : List ℕ) (before after : Stream) → HasLogged text befo
 logged_later [] before after same = omega (arith, ap (λ x. x.faults) same)
 logged_later (b ∷ bs) before after wrote = wrote.later
 
-pub served_sinks : (view : SiteView) (count : ℕ) (out out' err err' : Stream) (n n' : Net) →
-    Serves e.WriteFault view count out out' err err' n n' → Rose out.faults out'.faults ⊎ Rose err.faults err'.faults
-served_sinks view count out out' err err' n n' did =
+pub served_sinks : (base : ℕ) (first : List (Event SiteView)) (count : ℕ) (out out' err err' : Stream) (n n' : Net) →
+    ServesFrom e.WriteFault base first count out out' err err' n n' →
+    Rose out.faults out'.faults ⊎ Rose err.faults err'.faults
+served_sinks base first count out out' err err' n n' did =
     elim did.told [
       | inl wrote ↦ inl wrote.0.0
       | inr rest ↦ elim rest [
@@ -173,8 +176,8 @@ net_by false s.Counted is = cc
 net_by false s.Closed is = cc
 net_by false s.NetFault is = refl
 
-pub served_net : (view : SiteView) (count : ℕ) (out out' err err' : Stream) (n n' : Net) →
-    Serves e.NetFault view count out out' err err' n n' → Rose n.faults n'.faults
-served_net view count out out' err err' n n' did =
+pub served_net : (base : ℕ) (first : List (Event SiteView)) (count : ℕ) (out out' err err' : Stream) (n n' : Net) →
+    ServesFrom e.NetFault base first count out out' err err' n n' → Rose n.faults n'.faults
+served_net base first count out out' err err' n n' did =
     subst (λ w. IsWhy w count did.served.served.taken n n')
     (net_by (list_any is_memory did.served.ends) did.served.why did.told.0) did.served.served.why_is

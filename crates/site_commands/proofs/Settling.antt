@@ -1,5 +1,5 @@
 -- The status of each ending, as far as words and input decide it.
-use Rattle.std.proofs.Common.{◌≡◌, ◌⊎◌, ℕ, Bool, true, false, List, sym, ap, ◌∙◌, subst, refl, inl, inr}
+use Rattle.std.proofs.Common.{◌≡◌, ◌⊎◌, ℕ, Bool, true, false, List, [], ◌∷◌, sym, ap, ◌∙◌, subst, refl, inl, inr}
 use Rattle.std.specs.Prelude.{Option, Some, None, Result, Ok, Err, IfSome, nat_lt}
 use Rattle.std.specs.List.{count_by}
 use Rattle.agent_docs.specs.ReportText.{has_changed, has_failed}
@@ -11,11 +11,15 @@ use Rattle.command_outputs.specs.Nodes.{NodeRefusal, node_meaning}
 use Rattle.command_outputs.specs.Statuses.{output_status}
 use Rattle.command_outputs.specs.declared.output.Output.{Output}
 use Rattle.command_outputs.specs.declared.output.Output.TheVariants as o
+use Rattle.compile_core.specs.Puppet.{puppet}
+use Rattle.history_audit.specs.Audits.{audited}
 use Rattle.res_core.specs.declared.catalog.Catalog.{Catalog}
 use Rattle.site_bundle.specs.declared.bundle.Bundle.{Bundle}
+use Rattle.site_core.specs.Events.{opens}
 use Rattle.site_io.specs.Stream.{Stream}
 use Rattle.site_words.specs.Asked as a
 use Rattle.site_words.specs.Asked.{Asked}
+use Rattle.site_commands.proofs.GoneOn.{on_status}
 use Rattle.site_commands.proofs.Served.{served_status}
 use Rattle.site_commands.proofs.Told.{input-told, stop-told, IsRefusal}
 use Rattle.site_commands.proofs.Worked.{ending-delivers, ending-writes, output_ending}
@@ -165,7 +169,9 @@ unfolding IsMeant
 work_status ending (a.apply node dir by) (site said) before after did =
     apply_status ending by node said before.out after.out before.err after.err before.machine after.machine did.0
 work_status ending (a.serve port count dir) (site said) before after did =
-    served_status ending said.site count before.out after.out before.err after.err before.net after.net did.0
+    served_status ending 0 (opens said.site ∷ []) count before.out after.out before.err after.err before.net after.net did.0
+work_status ending (a.serve_on port count) (history h) before after did =
+    on_status (audited puppet h) h count before.out after.out before.err after.err before.net after.net ending did.0
 work_status ending asked input before after did =
     given_status ending asked input before.out after.out before.err after.err did.0
 
@@ -290,6 +296,7 @@ settles status a.refused before decided said faulty = faulty tt
 settles status (a.bad_word word) before decided said faulty = faulty tt
 settles status a.audit before decided said faulty = said tt (λ complaint. complaint)
 settles status a.migrate before decided said faulty = said tt (λ complaint. complaint)
+settles status (a.serve_on port count) before decided said faulty = said tt (λ complaint. complaint)
 settles status (a.resume workers) before decided said faulty = said tt (λ complaint. complaint)
 settles status asked before decided said faulty = decided (λ complaint. complaint)
 

@@ -33,6 +33,7 @@ complains (a.apply node dir workers) before after did = did
 complains (a.demo nodes) before after did = did
 complains (a.batch workers) before after did = did
 complains (a.serve port count dir) before after did = did
+complains (a.serve_on port count) before after did = did
 complains a.audit before after did = did
 complains a.migrate before after did = did
 complains (a.resume workers) before after did = did

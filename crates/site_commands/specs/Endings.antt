@@ -7,9 +7,9 @@ use Rattle.site_words.specs.Asked.{Asked}
 use Rattle.site_words.specs.declared.word_stop.WordStop.{WordStop}
 use Rattle.site_words.specs.declared.word_stop.WordStop.TheVariants as w
 use Rattle.site_commands.specs.Applying.{Applies}
-use Rattle.site_commands.specs.Inputs.{Input, site, reading_of, HasInput, HasStoppedBy, whole_of, stop_text}
+use Rattle.site_commands.specs.Inputs.{Input, site, history, reading_of, HasInput, HasStoppedBy, whole_of, stop_text}
 use Rattle.site_commands.specs.Inputs.{stop_ending}
-use Rattle.site_commands.specs.Serving.{Serves}
+use Rattle.site_commands.specs.Serving.{Serves, ServesOn}
 use Rattle.site_commands.specs.Status.{status_of}
 use Rattle.site_commands.specs.Work.{GivesOutput}
 use Rattle.site_commands.specs.World.{World, Says}
@@ -50,6 +50,7 @@ Complained ending w.Memory err err' = (ending ≡ e.Memory) × Says (line (codes
 abbrev pub IsShared : Asked → Type 0
 IsShared (a.batch workers) = Unit {0}
 IsShared (a.serve port count dir) = Unit {0}
+IsShared (a.serve_on port count) = Unit {0}
 IsShared (a.resume workers) = Unit {0}
 IsShared (a.settle rounds workers) = Unit {0}
 IsShared asked = ⊥
@@ -58,6 +59,7 @@ IsShared asked = ⊥
 abbrev pub IsPlain : Asked → Type 0
 IsPlain (a.batch workers) = ⊥
 IsPlain (a.serve port count dir) = ⊥
+IsPlain (a.serve_on port count) = ⊥
 IsPlain (a.resume workers) = ⊥
 IsPlain (a.settle rounds workers) = ⊥
 IsPlain a.refused = ⊥
@@ -83,6 +85,9 @@ Works ending (a.apply node dir workers) (site said) before after =
     × (after.net ≡ before.net)
 Works ending (a.serve port count dir) (site said) before after =
     Serves ending said.site count before.out after.out before.err after.err before.net after.net
+    × (after.machine ≡ before.machine)
+Works ending (a.serve_on port count) (history h) before after =
+    ServesOn ending h count before.out after.out before.err after.err before.net after.net
     × (after.machine ≡ before.machine)
 Works ending asked input before after =
     GivesOutput ending asked input before.out after.out before.err after.err

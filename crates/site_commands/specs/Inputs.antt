@@ -62,6 +62,7 @@ reading_of (a.apply node dir workers) = site_from dir
 reading_of (a.demo nodes) = nothing
 reading_of (a.batch workers) = bundle
 reading_of (a.serve port count dir) = folder dir
+reading_of (a.serve_on port count) = journal
 reading_of a.audit = journal
 reading_of a.migrate = journal
 reading_of (a.resume workers) = resuming
@@ -209,6 +210,7 @@ HasStoppedBy stop reading s s' f f' = ⊥
 -- the path that names the whole of what a command reads from the source
 abbrev pub whole_of : Asked → List ℕ
 whole_of (a.manifest node) = MAIN_MANIFEST.now
+whole_of (a.serve_on port count) = codes "journal"
 whole_of a.audit = codes "journal"
 whole_of a.migrate = codes "journal"
 whole_of (a.resume workers) = codes "journal"

@@ -1,14 +1,21 @@
 -- What becomes of a site that is served to connections.
-use Rattle.std.specs.Prelude.{◌≡◌, ◌⊎◌, ℕ, ◌+◌, Bool, true, false, if◌then◌else◌, List, [], ◌∷◌, ◌++◌, codes, decimal}
+use Rattle.std.specs.Prelude.{◌≡◌, ◌⊎◌, ℕ, ◌+◌, ◌≤◌, Bool, true, false, if◌then◌else◌, List, [], ◌∷◌, ◌++◌, codes, decimal}
 use Rattle.std.specs.Prelude.{Option, None, Some}
 use Rattle.std.specs.List.{list_any}
+use Rattle.command_outputs.specs.Journals.{verdict_line}
 use Rattle.command_outputs.specs.Lines.{line}
+use Rattle.command_outputs.specs.Resuming.{IsTooGreat, authors_line}
+use Rattle.command_outputs.specs.declared.output.Output.TheVariants as o
 use Rattle.compile_core.specs.Puppet.{puppet, listed, said_site}
+use Rattle.history_audit.specs.Audits.{audited}
+use Rattle.history_audit.specs.declared.verdict.Verdict.{Verdict}
+use Rattle.history_audit.specs.declared.verdict.Verdict.TheVariants as v
 use Rattle.http_wire.specs.declared.request.H.{H}
 use Rattle.http_wire.specs.declared.request.H.TheVariants as h
 use Rattle.site_bundle.specs.SiteView.{SiteView}
 use Rattle.site_core.specs.Events.{Event, opens}
-use Rattle.site_core.specs.declared.history.TheConstants.{MOST_ENTRIES}
+use Rattle.site_core.specs.Resuming.{base_of}
+use Rattle.site_core.specs.declared.history.TheConstants.{GREATEST_AUTHOR, MOST_ENTRIES}
 use Rattle.site_docs.specs.CatalogText.{catalog_text}
 use Rattle.site_docs.specs.FaultText.{fault_text}
 use Rattle.site_docs.specs.JournalText.{journal_text}
@@ -20,7 +27,7 @@ use Rattle.site_serve.specs.declared.conn_end.ConnEnd.TheVariants as c
 use Rattle.site_service.specs.Served.{HasServedAll}
 use Rattle.site_service.specs.declared.service_stop.ServiceStop.{ServiceStop}
 use Rattle.site_service.specs.declared.service_stop.ServiceStop.TheVariants as s
-use Rattle.site_commands.specs.Work.{SaysOnly, WritesOr, HasLogged}
+use Rattle.site_commands.specs.Work.{SaysOnly, WritesOr, HasLogged, Delivers}
 use Rattle.site_commands.specs.World.{Says, FailsToSay}
 use Rattle.site_commands.specs.declared.ending.Ending.{Ending}
 use Rattle.site_commands.specs.declared.ending.Ending.TheVariants as e
@@ -120,27 +127,72 @@ TellsServed ending history ends why out out' err err' =
 
 -- ---- a service
 
--- connections were served under one history that begins with this site
-pub record HasServed (site : SiteView) (count : ℕ) (before after : Net) : Type 0 where
+-- connections were served under one history that begins with these entries, by authors behind this one
+pub record HasServed (base : ℕ) (first : List (Event SiteView)) (count : ℕ) (before after : Net) : Type 0 where
   pub history : List (Event SiteView)
   pub ends : List ConnEnd
   pub why : ServiceStop
   pub served :
-      HasServedAll puppet listed (dialect said_site catalog_text fault_text) MOST_ENTRIES (opens site ∷ []) count before
-      after ends why history
+      HasServedAll puppet listed (dialect said_site catalog_text fault_text) MOST_ENTRIES base first count before after
+      ends why history
 
 -- and the journal of that history was told, and a line for each connection that was not closed
-pub record ToldService (ending : Ending) (site : SiteView) (count : ℕ) (out out' err err' : Stream)
-    (before after : Net) : Type 0 where
-  pub served : HasServed site count before after
+pub record ToldService (ending : Ending) (base : ℕ) (first : List (Event SiteView)) (count : ℕ)
+    (out out' err err' : Stream) (before after : Net) : Type 0 where
+  pub served : HasServed base first count before after
   pub told :
       TellsService ending (service_ending served.ends served.why) (journal_text served.history)
       (end_lines 1 served.ends)
       out out' err err'
 
 -- Memory may be wanting before the listener is called, or for what is told of the service.
+abbrev pub ServesFrom : Ending → ℕ → List (Event SiteView) → ℕ → Stream → Stream → Stream → Stream → Net → Net → Type 0
+ServesFrom e.Memory base first count out out' err err' before after =
+    (SaysOnly (line (codes "memory")) out out' err err' × ((after ≡ before) ⊎ HasServed base first count before after))
+    ⊎ ToldService e.Memory base first count out out' err err' before after
+ServesFrom ending base first count out out' err err' before after =
+    ToldService ending base first count out out' err err' before after
+
+-- a service that begins with a site: its connections are the authors from 1 on
 abbrev pub Serves : Ending → SiteView → ℕ → Stream → Stream → Stream → Stream → Net → Net → Type 0
-Serves e.Memory site count out out' err err' before after =
-    (SaysOnly (line (codes "memory")) out out' err err' × ((after ≡ before) ⊎ HasServed site count before after))
-    ⊎ ToldService e.Memory site count out out' err err' before after
-Serves ending site count out out' err err' before after = ToldService ending site count out out' err err' before after
+Serves ending site count out out' err err' before after =
+    ServesFrom ending 0 (opens site ∷ []) count out out' err err' before after
+
+-- ---- a service that goes on from a history
+
+-- the line that tells why a history is not gone on with: the verdict on it, where it is not legal, or its greatest
+-- author, where that is too great
+abbrev pub IsBarredBy : Verdict → List (Event SiteView) → List ℕ → Type 0
+IsBarredBy (v.Legal entries) h text = (author : ℕ) × (IsTooGreat author h × (text ≡ authors_line author))
+IsBarredBy (v.Broken entry part) h text = text ≡ verdict_line (v.Broken entry part)
+
+-- it is legal, and its greatest author is not too great
+abbrev pub MayGoOn : Verdict → List (Event SiteView) → Type 0
+MayGoOn (v.Legal entries) h = base_of h ≤ GREATEST_AUTHOR + 1
+MayGoOn (v.Broken entry part) h = ⊥
+
+-- the history was not gone on with, which was told, and the listener was not called; or connections were served behind
+-- all its entries, by authors behind all of its own
+abbrev pub ServesBy : Verdict → Ending → List (Event SiteView) → ℕ → Stream → Stream → Stream → Stream → Net → Net →
+    Type 0
+ServesBy verdict ending h count out out' err err' before after =
+    ((text : List ℕ) × (IsBarredBy verdict h text × (Delivers ending (o.Fault text) out out' err err' × (after ≡ before))))
+    ⊎ (MayGoOn verdict h × ServesFrom ending (base_of h) h count out out' err err' before after)
+
+-- memory may be wanting before the listener is called, too
+abbrev pub ServesOnBy : Verdict → Ending → List (Event SiteView) → ℕ → Stream → Stream → Stream → Stream → Net → Net →
+    Type 0
+ServesOnBy verdict e.Memory h count out out' err err' before after =
+    (SaysOnly (line (codes "memory")) out out' err err' × (after ≡ before))
+    ⊎ ServesBy verdict e.Memory h count out out' err err' before after
+ServesOnBy verdict ending h count out out' err err' before after =
+    ServesBy verdict ending h count out out' err err' before after
+
+-- a legal history
+abbrev pub ServesLegal : Ending → List (Event SiteView) → ℕ → Stream → Stream → Stream → Stream → Net → Net → Type 0
+ServesLegal ending h count out out' err err' before after =
+    ServesOnBy (v.Legal 0) ending h count out out' err err' before after
+
+abbrev pub ServesOn : Ending → List (Event SiteView) → ℕ → Stream → Stream → Stream → Stream → Net → Net → Type 0
+ServesOn ending h count out out' err err' before after =
+    ServesOnBy (audited puppet h) ending h count out out' err err' before after

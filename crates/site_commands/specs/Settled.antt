@@ -1,10 +1,15 @@
 -- Which status a run has, as far as words and input decide it.
-use Rattle.std.specs.Prelude.{◌≡◌, ◌⊎◌, ℕ, ◌<◌, if◌then◌else◌, nat_le, List, length, Option, None, Some, option_map}
+use Rattle.std.specs.Prelude.{◌≡◌, ◌⊎◌, ℕ, ◌+◌, ◌<◌, ◌≤◌, if◌then◌else◌, nat_le, List, length, Option, None, Some, option_map}
 use Rattle.std.specs.Prelude.{Result, Ok, Err, IfSome}
 use Rattle.command_outputs.specs.Nodes.{NodeRefusal, node_meaning}
 use Rattle.command_outputs.specs.Statuses.{manifest_status, check_status, compile_status, sequence_status}
 use Rattle.command_outputs.specs.Statuses.{lookup_status, demo_status, audit_status, migrate_status, IsBatchStatus}
 use Rattle.command_outputs.specs.Statuses.{IsResumeStatus, IsSettleStatus}
+use Rattle.command_outputs.specs.Resuming.{IsTooGreat}
+use Rattle.compile_core.specs.Puppet.{puppet}
+use Rattle.history_audit.specs.Audits.{audited}
+use Rattle.history_audit.specs.declared.verdict.Verdict.{Verdict}
+use Rattle.history_audit.specs.declared.verdict.Verdict.TheVariants as v
 use Rattle.pp_values.specs.declared.place.TheConstants.{MAIN_MANIFEST}
 use Rattle.res_core.specs.declared.catalog.Catalog.{Catalog}
 use Rattle.site_bundle.specs.Bundles.{bundle_of}
@@ -15,6 +20,8 @@ use Rattle.site_bundle.specs.Walks.{end_over}
 use Rattle.site_bundle.specs.declared.bundle.Bundle.{Bundle}
 use Rattle.site_bundle.specs.declared.limits.TheConstants.{MOST_BUNDLE_BYTES, MOST_FILE_BYTES}
 use Rattle.site_core.specs.Events.{Event}
+use Rattle.site_core.specs.Resuming.{base_of}
+use Rattle.site_core.specs.declared.history.TheConstants.{GREATEST_AUTHOR}
 use Rattle.site_words.specs.Asked as a
 use Rattle.site_words.specs.Asked.{Asked}
 use Rattle.site_commands.specs.Inputs.{Reading, nothing, manifest, bundle, folder, journal, resuming, Input, none}
@@ -52,6 +59,12 @@ abbrev pub IsApplyStatus : ℕ → Result Catalog NodeRefusal → Type 0
 IsApplyStatus status (Ok catalog) = IsReportStatus status
 IsApplyStatus status (Err refusal) = status ≡ 1
 
+-- of a service that goes on from a history: 1 where that is not legal or its greatest author too great
+abbrev pub IsServiceStatus : Verdict → ℕ → List (Event SiteView) → Type 0
+IsServiceStatus (v.Legal entries) status h =
+    ((author : ℕ) × (IsTooGreat author h × (status ≡ 1))) ⊎ ((base_of h ≤ GREATEST_AUTHOR + 1) × (status ≡ 0))
+IsServiceStatus (v.Broken entry part) status h = status ≡ 1
+
 abbrev pub IsWorkStatus : ℕ → Asked → Input → Type 0
 IsWorkStatus status (a.manifest node) (bytes input) = status ≡ manifest_status node input
 IsWorkStatus status (a.check dir) (site said) = status ≡ check_status said.site
@@ -62,6 +75,7 @@ IsWorkStatus status (a.apply node dir workers) (site said) = IsApplyStatus statu
 IsWorkStatus status (a.demo nodes) none = status ≡ demo_status nodes
 IsWorkStatus status (a.batch workers) (site said) = IsBatchStatus status
 IsWorkStatus status (a.serve port count dir) (site said) = status ≡ 0
+IsWorkStatus status (a.serve_on port count) (history h) = IsServiceStatus (audited puppet h) status h
 IsWorkStatus status a.audit (history h) = status ≡ audit_status h
 IsWorkStatus status a.migrate (history h) = status ≡ migrate_status h
 IsWorkStatus status (a.resume workers) (asking h asked) = IsResumeStatus status h
@@ -107,6 +121,8 @@ IsSettled status a.audit before =
     IfSome before.source.left (λ said. IsSaidStatus status a.audit said ⊎ IsFaultStatus status)
 IsSettled status a.migrate before =
     IfSome before.source.left (λ said. IsSaidStatus status a.migrate said ⊎ IsFaultStatus status)
+IsSettled status (a.serve_on port count) before =
+    IfSome before.source.left (λ said. IsSaidStatus status (a.serve_on port count) said ⊎ IsFaultStatus status)
 IsSettled status (a.resume workers) before =
     IfSome before.source.left (λ said. IsSaidStatus status (a.resume workers) said ⊎ IsFaultStatus status)
 IsSettled status asked before =

@@ -263,7 +263,11 @@ pub fn run_settle<S: Source, K: Sink, E: Sink, G: Gate + Sync, R: Threads + Wait
 }
 
 /// Writes the output, if there was memory for it.
-fn write_made<K: Sink, E: Sink>(made: Result<Output, Memory>, out: &mut K, err: &mut E) -> Ending
+pub fn write_made<K: Sink, E: Sink>(
+    made: Result<Output, Memory>,
+    out: &mut K,
+    err: &mut E,
+) -> Ending
     ensures { WritesMade result made (K.stream out.old) (K.stream out.new) (E.stream err.old) (E.stream err.new) }
 {
     match made {

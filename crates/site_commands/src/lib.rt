@@ -8,6 +8,7 @@ mod delivering;
 mod end_lines;
 mod ending;
 mod giving_up;
+mod going_on;
 mod input;
 mod journal_input;
 mod journal_parts;

@@ -10,6 +10,7 @@ use crate::commands::{
     run_resume, run_sequence, run_settle,
 };
 use crate::ending::Ending;
+use crate::going_on::run_serve_on;
 use crate::serving::run_serve;
 use agent_machine::WideMachine;
 use site_io::{Gate, Listener, Sink, Source, Tree};
@@ -58,6 +59,7 @@ where
         Command::Migrate => run_migrate(alloc, source, out, err),
         Command::Batch { .. }
         | Command::Serve { .. }
+        | Command::ServeOn { .. }
         | Command::Resume { .. }
         | Command::Settle { .. } => unreachable!(),
     }
@@ -95,6 +97,9 @@ where
         Command::Batch { workers } => run_batch(rt, alloc, workers, source, out, err, gate),
         Command::Serve { port, count, dir } => {
             run_serve(rt, alloc, port, count, dir, out, err, net, tree, gate)
+        }
+        Command::ServeOn { port, count } => {
+            run_serve_on(rt, alloc, port, count, source, out, err, net, gate)
         }
         Command::Resume { workers } => run_resume(rt, alloc, workers, source, out, err, gate),
         Command::Settle { rounds, workers } => {

@@ -108,7 +108,7 @@ struct Told {
 }
 
 /// Writes what came of a service.
-fn tell_service<K: Sink, E: Sink>(
+pub fn tell_service<K: Sink, E: Sink>(
     alloc: Global,
     served: &Served<PuppetLanguage>,
     out: &mut K,

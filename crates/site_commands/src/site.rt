@@ -26,7 +26,7 @@ use std::thread::Threads;
 /// | 1 | the node has no catalog, the data have no value, or the site does not list the node | why |
 /// | 1 | `check` found a fault, or a reply of `sequence` or `batch` is a refusal | none |
 /// | 1 | `audit` found a history that is not legal, or a reply of `resume` is a refusal | none |
-/// | 1 | the history that `resume` reads is not legal, or its greatest author is too great | why |
+/// | 1 | the history that `resume` or `serve --resume` reads is not legal, or its greatest author is too great | why |
 /// | 1 | a round of `settle` had a compile that was refused, or met a full history | why |
 /// | 2, 4, 6 | `apply`: something changed, failed, both | the log |
 /// | 10 | the words are faulty | what `clap` says, or `bad word WORD` |
@@ -175,6 +175,7 @@ where
     match command {
         Command::Batch { .. }
         | Command::Serve { .. }
+        | Command::ServeOn { .. }
         | Command::Resume { .. }
         | Command::Settle { .. } => {
             shared_command(

@@ -1,5 +1,5 @@
 -- Which entries are whose, where passes of one author each made all entries that have an author.
-use Rattle.std.proofs.Common.{◌≡◌, ℕ, ◌+◌, ◌<◌, ◌≤◌, List, [], ◌∷◌, length, slice_get, Option, Some, None, refl, ap, arith}
+use Rattle.std.proofs.Common.{◌≡◌, ℕ, ◌≤◌, List, [], ◌∷◌, length, slice_get, Option, Some, None, refl, ap, arith}
 use mathlib.Core.Logic.{dite}
 use native.Mathlib.Decide.{dec_le}
 use mathlib.Core.List.{IsPrefix}
@@ -73,11 +73,18 @@ module _ {E : Type 0} (author : E → Option ℕ) where
     at_place h k [] within = tt
     at_place h k (x ∷ xs) within = (within.0 k, at_place h k xs within.1)
 
-    -- Each author's entries are exactly its pass's own, where the passes have an author each, no two the same one, own no
-    -- entry of another's, and together own each entry that has an author.
-    pub exactly_own : (xs : List A) (h : List E) → ((a : ℕ) → count_with number a xs ≤ 1) → OwnsWithin h xs →
-        ((k : ℕ) → has_author author (slice_get h k) ≤ total (λ x. times k (own x)) xs) →
-        (k : ℕ) → Each (λ x. times k (own x) ≡ wrote author (number x ∷ []) (slice_get h k)) xs
-    exactly_own xs h apart within all k =
+    -- An entry is owned exactly by its author's pass, where the passes have an author each, no two the same one, own no
+    -- entry of another's, and together own the entry if it has an author.
+    pub exactly_own : (xs : List A) (h : List E) → ((a : ℕ) → count_with number a xs ≤ 1) → OwnsWithin h xs → (k : ℕ) →
+        has_author author (slice_get h k) ≤ total (λ x. times k (own x)) xs →
+        Each (λ x. times k (own x) ≡ wrote author (number x ∷ []) (slice_get h k)) xs
+    exactly_own xs h apart within k all =
         squeezed (λ x. times k (own x)) (λ x. wrote author (number x ∷ []) (slice_get h k)) xs (at_place h k xs within)
-        (let few = few_wrote xs (slice_get h k) apart in omega (arith, few, all k))
+        (let few = few_wrote xs (slice_get h k) apart in omega (arith, few, all))
+
+    -- and so where none of them made it
+    pub none_own : (xs : List A) (h : List E) → OwnsWithin h xs → (k : ℕ) →
+        Each (λ x. wrote author (number x ∷ []) (slice_get h k) ≡ 0) xs →
+        Each (λ x. times k (own x) ≡ wrote author (number x ∷ []) (slice_get h k)) xs
+    none_own [] h within k none = tt
+    none_own (x ∷ xs) h within k none = let few = within.0 k in (omega (arith, few, none.0), none_own xs h within.1 k none.1)

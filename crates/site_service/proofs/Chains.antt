@@ -1,14 +1,14 @@
 -- A door that opened again and again.
-use Rattle.std.proofs.Common.{◌≡◌, ℕ, zero, suc, ◌+◌, ◌-◌, ◌≤◌, List, [], ◌∷◌, ◌++◌, map, length, Option, Some, None, option_map, refl, sym, ap, ◌∙◌, subst, arith, append_assoc, append-nil}
+use Rattle.std.proofs.Common.{◌≡◌, ℕ, zero, suc, ◌+◌, ◌-◌, ◌≤◌, List, [], ◌∷◌, ◌++◌, map, length, Option, Some, None, refl, sym, ap, ◌∙◌, subst, arith, append_assoc, append-nil}
 use mathlib.Core.List.{IsPrefix}
 use Rattle.hist_lock.specs.Held.{LockId}
 use Rattle.hist_lock.proofs.Fronts.{prefix_trans}
 use Rattle.site_io.specs.Stream.{Stream, Rose}
-use Rattle.site_io.specs.Net.{Net, Lines, Gives, HasGiven, HasNoMore}
+use Rattle.site_io.specs.Net.{Net, Lines, Gives, HasNoMore}
 use Rattle.site_io.proofs.Streams.{Rose-after}
 use Rattle.site_core.specs.Events.{Event}
 use Rattle.shared_site.specs.Shows.{Terms}
-use Rattle.shared_site.specs.Known.{Known, held, cut, cut_off}
+use Rattle.shared_site.specs.Known.{Known, held}
 use Rattle.work_pool.specs.Supplied.{Supplied}
 use Rattle.site_service.specs.declared.service_stop.ServiceStop.{ServiceStop}
 use Rattle.site_service.specs.declared.service_stop.ServiceStop.TheVariants as stop
@@ -50,18 +50,18 @@ why_on stop.Counted left less came n mid now is later here = omega (arith, is, h
 why_on stop.Closed left less came n mid now is later here = here
 why_on stop.NetFault left less came n mid now is later here = Rose-after n.faults mid.faults now.faults later here
 
-module _ {S : Type 0} (id : LockId) (terms : Terms) (low : terms.base ≡ 0) (first : List (Event S)) where
-  -- a new pass, of author c
+module _ {S : Type 0} (id : LockId) (terms : Terms) (first : List (Event S)) where
+  -- a new pass, of the author that stands c places behind the site's own
   pub record IsNewPass (c : ℕ) (q : Known S) : Type 0 where
     pub site : q.site ≡ id
     pub terms_are : q.terms ≡ terms
     pub own : q.own ≡ []
-    pub numbers : q.numbers ≡ c ∷ []
+    pub numbers : q.numbers ≡ (terms.base + c) ∷ []
     pub room : q.room ≡ 0
-    pub author : q.author ≡ c
+    pub author : q.author ≡ terms.base + c
     pub front : IsPrefix first q.front
 
-  -- a door's pass, from which author c is split next
+  -- a door's pass, from which that author is split next
   pub record IsDoorAt (c : ℕ) (p : Known S) : Type 0 where
     pub site : p.site ≡ id
     pub terms_are : p.terms ≡ terms
@@ -101,8 +101,8 @@ module _ {S : Type 0} (id : LockId) (terms : Terms) (low : terms.base ≡ 0) (fi
     seen : IsPrefix first now.front
     seen = prefix_trans first p.front now.front door.front opened.front
 
-    number : p.terms.base + (65536 - p.room) ≡ c
-    number = let base : p.terms.base ≡ 0 = ap (λ t. t.base) door.terms_are ∙ low in omega (arith, base, door.room)
+    number : p.terms.base + (65536 - p.room) ≡ terms.base + c
+    number = let base : p.terms.base ≡ terms.base = ap (λ t. t.base) door.terms_are in omega (arith, base, door.room)
 
     next_door : IsDoorAt (c + 1) now
     next_door = record {
@@ -125,7 +125,7 @@ module _ {S : Type 0} (id : LockId) (terms : Terms) (low : terms.base ≡ 0) (fi
       front = subst (λ l. IsPrefix first l) (sym (ap (λ x. x.front) opened.new_is)) seen;
     }
 
-  -- new passes, of the authors from c on
+  -- new passes, of the authors from that one on
   abbrev pub AreNew : ℕ → List (Known S × Stream) → Type 0
   AreNew c [] = Unit {0}
   AreNew c (v ∷ visits) = IsNewPass c v.0 × AreNew (c + 1) visits

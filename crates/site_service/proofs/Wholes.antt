@@ -1,5 +1,5 @@
 -- A door that was served, and what is made of its passes and connections.
-use Rattle.std.proofs.Common.{◌≡◌, ◌⊎◌, inl, inr, ℕ, ◌+◌, ◌≤◌, List, [], ◌∷◌, ◌++◌, map, length, Option, Some, None, option_map, refl, sym, ap, ◌∙◌, subst, arith}
+use Rattle.std.proofs.Common.{◌≡◌, ◌⊎◌, inl, inr, ℕ, ◌+◌, ◌≤◌, ◌<◌, List, [], ◌∷◌, ◌++◌, map, length, Option, Some, None, IfSome, option_map, refl, sym, ap, ◌∙◌, subst, arith}
 use Rattle.std.specs.List.{AllZip}
 use mathlib.Core.List.{IsPrefix}
 use Rattle.hist_lock.specs.Held.{LockId}
@@ -9,10 +9,11 @@ use Rattle.site_io.specs.Net.{Net, Lines, IsSameNet, HasBound, renewed, HasNoMor
 use Rattle.site_io.proofs.Streams.{Rose-after, Rose-before}
 use Rattle.site_core.specs.Each.{Each}
 use Rattle.site_core.specs.Meaning.{Meaning}
-use Rattle.site_core.specs.Events.{Event, opens}
+use Rattle.site_core.specs.Events.{Event, author_of}
 use Rattle.site_core.specs.Legal.{Legal}
+use Rattle.site_core.specs.Resuming.{base_of, past_author}
 use Rattle.site_core.specs.Fits.{Listed}
-use Rattle.shared_site.specs.Shows.{Terms, opened}
+use Rattle.shared_site.specs.Shows.{Shared, opened, resumed}
 use Rattle.shared_site.specs.Known.{Known, held, first_pass, AreTheOthers}
 use Rattle.work_pool.specs.Supplied.{HasRun}
 use Rattle.site_serve.specs.declared.conn_end.ConnEnd.{ConnEnd}
@@ -20,9 +21,9 @@ use Rattle.site_serve.specs.Ends.{Dialect}
 use Rattle.site_service.specs.declared.door.Door.{Door}
 use Rattle.site_service.specs.declared.service_stop.ServiceStop.{ServiceStop}
 use Rattle.site_service.specs.declared.service_stop.ServiceStop.TheVariants as stop
-use Rattle.site_service.specs.Doors.{IsOpening, Opens}
+use Rattle.site_service.specs.Doors.{IsOpening, AreEarlier, Opens}
 use Rattle.site_service.specs.Visits.{HasVisited}
-use Rattle.site_service.specs.Served.{Taken, IsNewNet, IsWhy, HasThemBack, Tells, HasServedAll}
+use Rattle.site_service.specs.Served.{Taken, IsNewNet, IsWhy, Tells, HasServedAll}
 use Rattle.site_service.specs.Handing.{Out, HasJoined, is_out, AreOut, is_back, AreBack}
 use Rattle.site_service.proofs.Handing.{none_joined}
 use Rattle.site_service.proofs.Chains.{IsDoorAt, IsLast, IsWhyHere, Gone, IsChained, chained}
@@ -62,8 +63,8 @@ module _ {L N G S C F X : Type 0} (meaning : Meaning S C F) (listed : Listed S) 
   module _ (count : ℕ) (p q : Door L N G S C F) (outs : List (Out S X))
       (run : HasRun Opened (Visits meaning listed d stream) count p outs q) (opening : IsOpening id p.pass)
       (left_is : p.left ≡ count) (stop_is : p.stop ≡ stop.Counted) where
-    first_door : IsDoorAt id p.pass.terms opening.base p.pass.front 1 p.pass
-    first_door = subst (IsDoorAt id p.pass.terms opening.base p.pass.front 1) (sym opening.pass_is) (record {
+    first_door : IsDoorAt id p.pass.terms p.pass.front 1 p.pass
+    first_door = subst (IsDoorAt id p.pass.terms p.pass.front 1) (sym opening.pass_is) (record {
       site = refl;
       terms_are = refl;
       own = refl;
@@ -72,9 +73,9 @@ module _ {L N G S C F X : Type 0} (meaning : Meaning S C F) (listed : Listed S) 
       one = refl;
     })
 
-    chain : IsChained id p.pass.terms opening.base p.pass.front (λ (x : Door L N G S C F). x.pass) (λ x. net_of x.net.now)
+    chain : IsChained id p.pass.terms p.pass.front (λ (x : Door L N G S C F). x.pass) (λ x. net_of x.net.now)
         (λ x. x.left) (λ x. x.stop) Opened (λ d v e given. given.1) 1 p run.jobs q
-    chain = chained id p.pass.terms opening.base p.pass.front (λ (x : Door L N G S C F). x.pass) (λ x. net_of x.net.now)
+    chain = chained id p.pass.terms p.pass.front (λ (x : Door L N G S C F). x.pass) (λ x. net_of x.net.now)
         (λ x. x.left) (λ x. x.stop) Opened (λ d v e given. given.1) count 1 p run.jobs q left_is stop_is first_door
         run.supplied
 
@@ -82,7 +83,7 @@ module _ {L N G S C F X : Type 0} (meaning : Meaning S C F) (listed : Listed S) 
     site_is = chain.last.site
 
     pub of_all : Each (λ (o : Out S X). o.pass.site ≡ id) outs
-    of_all = closing.of_site meaning listed d id p.pass.terms opening.base p.pass.front stream 1 run.jobs outs chain.new
+    of_all = closing.of_site meaning listed d id p.pass.terms p.pass.front stream 1 run.jobs outs chain.new
         run.kept
 
     pub few : length outs ≤ count
@@ -93,18 +94,18 @@ module _ {L N G S C F X : Type 0} (meaning : Meaning S C F) (listed : Listed S) 
         run.kept
 
     pub may_close : (r : Known S) → HasJoined q.pass outs r → (r.site ≡ id) × (r.room + held r ≡ 65536)
-    may_close r joined = closing.may_close meaning listed d id p.pass.terms opening.base p.pass.front stream run.jobs outs
+    may_close r joined = closing.may_close meaning listed d id p.pass.terms p.pass.front stream run.jobs outs
         q.pass r chain.new run.kept chain.last joined
 
     module _ (after : Net) (h : List (Event S)) where
       abbrev served_ones : List Taken
-      served_ones = taken_of meaning listed d id p.pass.terms opening.base p.pass.front stream h run.jobs outs
+      served_ones = taken_of meaning listed d id p.pass.terms p.pass.front stream h run.jobs outs
 
       why_all : (w : ServiceStop) → IsWhyHere w count (length run.jobs) (net_of p.net.now) (net_of q.net.now) →
           (net_of q.net.now).faults ≤ after.faults → AreBack stream (net_of q.net.now).told outs after.told →
           IsWhy w count served_ones (net_of p.net.now) after
       why_all stop.Counted why later back =
-          (taken_are meaning listed d id p.pass.terms opening.base p.pass.front stream h run.jobs outs run.kept).3 ∙ why
+          (taken_are meaning listed d id p.pass.terms p.pass.front stream h run.jobs outs run.kept).3 ∙ why
       why_all stop.Closed why later back = still (net_of q.net.now).told after.told why back
         where
           still : (mid now : Option Lines) → HasNoMore mid → AreBack stream mid outs now → HasNoMore now
@@ -117,7 +118,7 @@ module _ {L N G S C F X : Type 0} (meaning : Meaning S C F) (listed : Listed S) 
           AreBack stream mid outs now → Tells told served_ones now
       tells_all None mid now gone back = subst (λ m. AreBack stream m outs now) gone back
       tells_all (Some l) mid now gone back =
-          let are = taken_are meaning listed d id p.pass.terms opening.base p.pass.front stream h run.jobs outs run.kept in (
+          let are = taken_are meaning listed d id p.pass.terms p.pass.front stream h run.jobs outs run.kept in (
             record { waiting = gone.0; given = map (is_back stream) outs },
             subst (λ m. AreBack stream m outs now) gone.2 back,
             (gone.1 ∙ ap (λ ss. ss ++ gone.0) (sym are.0), inl (sym are.2)),
@@ -127,10 +128,10 @@ module _ {L N G S C F X : Type 0} (meaning : Meaning S C F) (listed : Listed S) 
           AreBack stream (net_of q.net.now).told outs after.told → (net_of q.net.now).faults ≤ after.faults →
           ends ≡ map (λ o. o.end) outs → Legal meaning h → IsPrefix r.front h → length h ≤ r.terms.limit →
           AreTheOthers r.terms.given r.own h →
-          HasServedAll meaning listed d p.pass.terms.limit p.pass.front count (net_of p.net.now) after ends q.stop h
+          HasServedAll meaning listed d p.pass.terms.limit p.pass.terms.base p.pass.front count (net_of p.net.now) after ends q.stop h
       served r ends new joined back later ends_are legal begins within others =
-          all_served meaning listed d id p.pass.terms opening.base p.pass.front stream h count (net_of p.net.now) after q.stop
-          run.jobs outs q.pass r ends opening.nobodys chain.new run.kept chain.last opening.given joined
+          all_served meaning listed d id p.pass.terms p.pass.front stream h count (net_of p.net.now) after q.stop
+          run.jobs outs q.pass r ends opening.earlier chain.new run.kept chain.last opening.given joined
           (omega (arith, chain.few, left_is)) ends_are
           (why_all q.stop (subst (λ n. IsWhyHere q.stop n (length run.jobs) (net_of p.net.now) (net_of q.net.now)) left_is
           chain.why_is) later back)
@@ -140,11 +141,25 @@ module _ {L N G S C F X : Type 0} (meaning : Meaning S C F) (listed : Listed S) 
 -- the first pass of a site that was opened
 pub opening_of : {S : Type 0} (id : LockId) (p : Known S) (site : S) (limit : ℕ) → p ≡ first_pass id (opened site limit) →
     IsOpening id p
-opening_of id p site limit is = subst (IsOpening id) (sym is) (record {
+opening_of id p site limit is = subst (IsOpening id) (sym is) (record { pass_is = refl; given = refl; earlier = (tt, tt) })
+
+-- every author of a history is below its base
+below_base : {S : Type 0} (base : ℕ) (h : List (Event S)) → base_of h ≤ base → AreEarlier base h
+below_base base [] le = tt
+below_base base (e ∷ h) le =
+    (below_past (author_of e) (omega (arith, le)), below_base base h (omega (arith, le)))
+  where
+    below_past : (who : Option ℕ) → past_author who ≤ base → IfSome who (λ author. author < base)
+    below_past None under = tt
+    below_past (Some author) under = omega (arith, under)
+
+-- the first pass of a site that goes on from a history
+pub resuming_of : {S : Type 0} (id : LockId) (p : Known S) (h : List (Event S)) (limit : ℕ) →
+    p ≡ first_pass id (resumed h limit) → IsOpening id p
+resuming_of id p h limit is = subst (IsOpening id) (sym is) (record {
   pass_is = refl;
-  base = refl;
   given = refl;
-  nobodys = (refl, tt);
+  earlier = below_base (base_of h) h (omega arith);
 })
 
 pub new_net : (n m : Net) → HasBound n m → IsNewNet m.told
@@ -174,11 +189,11 @@ module _ {S C F : Type 0} (meaning : Meaning S C F) (listed : Listed S) (d : Dia
   why_before stop.NetFault count taken n m after later why = Rose-after n.faults m.faults after.faults later why
 
   -- the same from before the listener began to listen
-  pub from_listening : (limit : ℕ) (first : List (Event S)) (count : ℕ) (n m after : Net) (ends : List ConnEnd)
+  pub from_listening : (limit base : ℕ) (first : List (Event S)) (count : ℕ) (n m after : Net) (ends : List ConnEnd)
       (why : ServiceStop) (h : List (Event S)) → HasBound n m →
-      HasServedAll meaning listed d limit first count m after ends why h →
-      HasServedAll meaning listed d limit first count n after ends why h
-  from_listening limit first count n m after ends why h bound all = record {
+      HasServedAll meaning listed d limit base first count m after ends why h →
+      HasServedAll meaning listed d limit base first count n after ends why h
+  from_listening limit base first count n m after ends why h bound all = record {
     legal = all.legal;
     few = all.few;
     taken = all.taken;
@@ -193,17 +208,18 @@ module _ {S C F : Type 0} (meaning : Meaning S C F) (listed : Listed S) (d : Dia
     authors = all.authors;
   }
 
-  -- and where the pass was that of a site just opened
-  pub from_opening : (id : LockId) (p : Known S) (site : S) (limit count : ℕ) (n after : Net) (ends : List ConnEnd)
-      (why : ServiceStop) (h : List (Event S)) → p ≡ first_pass id (opened site limit) →
-      HasServedAll meaning listed d p.terms.limit p.front count n after ends why h →
-      HasServedAll meaning listed d limit (opens site ∷ []) count n after ends why h
-  from_opening id p site limit count n after ends why h is all =
-      subst (λ (x : Known S). HasServedAll meaning listed d x.terms.limit x.front count n after ends why h) is all
+  -- and where the pass was the first one of this history
+  pub from_first : (id : LockId) (p : Known S) (s : Shared S) (count : ℕ) (n after : Net) (ends : List ConnEnd)
+      (why : ServiceStop) (h : List (Event S)) → p ≡ first_pass id s →
+      HasServedAll meaning listed d p.terms.limit p.terms.base p.front count n after ends why h →
+      HasServedAll meaning listed d s.terms.limit s.terms.base s.history count n after ends why h
+  from_first id p s count n after ends why h is all =
+      subst (λ (x : Known S). HasServedAll meaning listed d x.terms.limit x.terms.base x.front count n after ends why h) is
+      all
 
   last_opening : (id : LockId) (p : Known S) (opening : IsOpening id p) →
-      IsLast id p.terms opening.base p.front (1 + 0) p
-  last_opening id p opening = subst (IsLast id p.terms opening.base p.front (1 + 0)) (sym opening.pass_is) (record {
+      IsLast id p.terms p.front (1 + 0) p
+  last_opening id p opening = subst (IsLast id p.terms p.front (1 + 0)) (sym opening.pass_is) (record {
     site = refl;
     terms_are = refl;
     own = refl;
@@ -216,17 +232,16 @@ module _ {S C F : Type 0} (meaning : Meaning S C F) (listed : Listed S) (d : Dia
   told_unbound (Some l) now is = (l, is, (refl, inr (refl, refl)))
 
   -- where the listener could not listen, nothing was served
-  pub unserved : (id : LockId) (p : Known S) (site : S) (limit count : ℕ) (n m : Net) (ends : List ConnEnd)
-      (h : List (Event S)) → p ≡ first_pass id (opened site limit) → IsSameNet n m → Rose n.faults m.faults → ends ≡ [] →
-      Legal meaning h → IsPrefix p.front h → length h ≤ p.terms.limit → AreTheOthers p.terms.given p.own h →
-      HasServedAll meaning listed d limit (opens site ∷ []) count n m ends stop.NetFault h
-  unserved id p site limit count n m ends h is same rose none legal begins within others =
-      let opening = opening_of id p site limit is in
-      from_opening id p site limit count n m ends stop.NetFault h is
-      (all_served {X = Stream} meaning listed d id p.terms opening.base p.front (λ s. s) h count n m stop.NetFault [] [] p p ends
-      opening.nobodys tt tt (last_opening id p opening) opening.given (none_joined p) (omega arith) none rose
-      (told_unbound n.told m.told same.told) same.later legal begins within others)
+  pub unserved : (id : LockId) (p : Known S) (count : ℕ) (n m : Net) (ends : List ConnEnd) (h : List (Event S)) →
+      IsOpening id p → IsSameNet n m → Rose n.faults m.faults → ends ≡ [] → Legal meaning h → IsPrefix p.front h →
+      length h ≤ p.terms.limit → AreTheOthers p.terms.given p.own h →
+      HasServedAll meaning listed d p.terms.limit p.terms.base p.front count n m ends stop.NetFault h
+  unserved id p count n m ends h opening same rose none legal begins within others =
+      all_served {X = Stream} meaning listed d id p.terms p.front (λ s. s) h count n m stop.NetFault [] [] p p ends
+      opening.earlier tt tt (last_opening id p opening) opening.given (none_joined p) (omega arith) none rose
+      (told_unbound n.told m.told same.told) same.later legal begins within others
 
-pub closes_opening : {S : Type 0} (id : LockId) (p : Known S) (site : S) (limit : ℕ) →
-    p ≡ first_pass id (opened site limit) → (p.site ≡ id) × (p.room + held p ≡ 65536)
-closes_opening id p site limit is = (ap (λ x. x.site) is, ap (λ x. x.room + held x) is)
+pub closes_opening : {S : Type 0} (id : LockId) (p : Known S) → IsOpening id p →
+    (p.site ≡ id) × (p.room + held p ≡ 65536)
+closes_opening id p opening =
+    (ap (λ x. x.site) opening.pass_is, ap (λ x. x.room + held x) opening.pass_is)

@@ -1,5 +1,5 @@
 -- What one call of a door gives: a connection with a pass of its own, or none.
-use Rattle.std.specs.Prelude.{◌≡◌, ℕ, ◌+◌, ◌<◌, List, length, Option, Some, None}
+use Rattle.std.specs.Prelude.{◌≡◌, ℕ, ◌+◌, ◌<◌, List, length, Option, Some, None, IfSome}
 use mathlib.Core.List.{IsPrefix}
 use Rattle.hist_lock.specs.Held.{LockId}
 use Rattle.site_io.specs.Stream.{Stream, Rose}
@@ -11,16 +11,16 @@ use Rattle.site_service.specs.declared.service_stop.ServiceStop.{ServiceStop}
 use Rattle.site_service.specs.declared.service_stop.ServiceStop.TheVariants as stop
 
 module _ {S : Type 0} where
-  -- no entry of these has an author
-  abbrev pub AreNobodys : List (Event S) → Type 0
-  AreNobodys h = Each (λ e. author_of e ≡ None) h
+  -- each author of these entries is below this one
+  abbrev pub AreEarlier : ℕ → List (Event S) → Type 0
+  AreEarlier base h = Each (λ e. IfSome (author_of e) (λ author. author < base)) h
 
-  -- The first pass of a site that was just opened. Authors are split from it, and are numbered from 1 on.
+  -- The first pass of a site that was just opened, or that goes on from a history. Authors are split from it, and are
+  -- numbered behind its own, which no entry that it has seen reaches.
   pub record IsOpening (id : LockId) (p : Known S) : Type 0 where
     pub pass_is : p ≡ first_pass id (record { history = p.front; terms = p.terms })
-    pub base : p.terms.base ≡ 0
     pub given : p.terms.given ≡ length p.front
-    pub nobodys : AreNobodys p.front
+    pub earlier : AreEarlier p.terms.base p.front
 
   -- A connection came, for which q had been split from the door's pass p.
   pub record HasOpened (p : Known S) (n : Net) (left : ℕ) (q : Known S) (given : Stream) (p' : Known S) (n' : Net)

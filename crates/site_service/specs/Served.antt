@@ -45,9 +45,10 @@ IsWhy stop.Counted count taken before after = length taken ≡ count
 IsWhy stop.Closed count taken before after = HasNoMore after.told
 IsWhy stop.NetFault count taken before after = Rose before.faults after.faults
 
--- it is an entry of one of the authors 1 up to, and with, this one
-abbrev pub IsByOneOf : {S : Type 0} → ℕ → Event S → Type 0
-IsByOneOf last e = (author : ℕ) × (author_of e ≡ Some author) × (1 ≤ author) × (author ≤ last)
+-- it is an entry of one of so many authors behind this one
+abbrev pub IsByOneOf : {S : Type 0} → ℕ → ℕ → Event S → Type 0
+IsByOneOf base count e =
+    (author : ℕ) × (author_of e ≡ Some author) × (base + 1 ≤ author) × (author ≤ base + count)
 
 module _ {S C F : Type 0} (meaning : Meaning S C F) (listed : Listed S) (limit seen : ℕ) (h : List (Event S)) where
   -- The site was asked these by this author, who had seen so many entries at first, one after another, and replied so.
@@ -70,20 +71,20 @@ module _ {S C F : Type 0} (meaning : Meaning S C F) (listed : Listed S) (limit s
     AreServed author (t ∷ taken) = IsServed author t × AreServed (author + 1) taken
 
 -- Connections were taken, `count` of them unless the listener has no more or failed, and served side by side under one
--- history that begins with the entries `before`: connection c, counted from 1, for author c. Each was shut and handed
--- back. The history has no entries of others behind those before.
-pub record HasServedAll {S C F : Type 0} (meaning : Meaning S C F) (listed : Listed S) (d : Dialect S C F) (limit : ℕ)
-    (before : List (Event S)) (count : ℕ) (net after : Net) (ends : List ConnEnd) (why : ServiceStop)
+-- history that begins with the entries `before`: connection c, counted from 1, for author base + c. Each was shut and
+-- handed back. The history has no entries of others behind those before.
+pub record HasServedAll {S C F : Type 0} (meaning : Meaning S C F) (listed : Listed S) (d : Dialect S C F)
+    (limit base : ℕ) (before : List (Event S)) (count : ℕ) (net after : Net) (ends : List ConnEnd) (why : ServiceStop)
     (h : List (Event S)) : Type 0 where
   pub legal : Legal meaning h
   pub few : length h ≤ limit
   pub taken : List Taken
   pub counted : length taken ≤ count
   pub why_is : IsWhy why count taken net after
-  pub each : AreServed meaning listed limit (length before) h d 1 taken
+  pub each : AreServed meaning listed limit (length before) h d (base + 1) taken
   pub ends_are : ends ≡ map (λ t. t.end) taken
   pub told : Tells net.told taken after.told
   pub faults : net.faults ≤ after.faults
   pub others : List (Event S)
   pub begins : h ≡ before ++ others
-  pub authors : Each (IsByOneOf (length taken)) others
+  pub authors : Each (IsByOneOf base (length taken)) others

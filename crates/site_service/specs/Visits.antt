@@ -1,5 +1,4 @@
 -- What comes of one connection.
-use Rattle.std.specs.Prelude.{ℕ}
 use Rattle.hist_lock.specs.Calls.{AreCalls}
 use Rattle.site_io.specs.Stream.{Stream, HasShut}
 use Rattle.site_core.specs.Meaning.{Meaning}

@@ -6,5 +6,5 @@ mod service;
 mod service_stop;
 mod visit;
 
-pub use service::{MOST_CONNECTIONS, Served, serve};
+pub use service::{MOST_CONNECTIONS, Served, serve, serve_resumed};
 pub use service_stop::ServiceStop;

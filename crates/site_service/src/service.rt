@@ -1,8 +1,11 @@
 //! A site that is served to connections.
-ghost use Rattle.std.specs.Prelude.{◌≡◌, ◌≤◌, [], ◌∷◌, map, IfOk, OnErr, vec_len, vec_capacity};
+ghost use Rattle.std.specs.Prelude.{◌≡◌, ◌≤◌, ◌+◌, [], ◌∷◌, length, map, IfOk, OnErr, vec_len, vec_capacity};
+ghost use Rattle.site_core.specs.Legal.{Legal};
+ghost use Rattle.site_core.specs.Resuming.{base_of};
 ghost use Rattle.site_core.specs.declared.history.TheConstants.{MOST_ENTRIES};
 ghost use Rattle.site_core.specs.Each.{Each};
 ghost use Rattle.site_core.specs.Events.{opens};
+ghost use Rattle.shared_site.specs.Resumed.{ResumesWith};
 ghost use Rattle.work_pool.specs.Supplied.{HasRun};
 ghost use Rattle.site_service.specs.Doors.{IsOpening, Opens};
 ghost use Rattle.site_serve.specs.Ends.{dialect};
@@ -15,7 +18,7 @@ use crate::service_stop::ServiceStop;
 use crate::visit::Visited;
 use pp_values::Memory;
 use shared_site::{SharedSite, SitePass};
-use site_core::{History, Language, MOST_ENTRIES};
+use site_core::{History, Language, MOST_ENTRIES, ResumeStop};
 use site_io::{Bound, Gate, Listener};
 use site_serve::ConnEnd;
 use std::alloc::Global;
@@ -63,20 +66,92 @@ where
     N::Conn: Send + Drop,
     requires few { count ≤ MOST_CONNECTIONS }
     ensures ok { IfOk result (λ r. HasServedAll L.meaning L.listed
-        (dialect L.said_site L.catalog_form L.fault_form) MOST_ENTRIES (opens site ∷ []) count
+        (dialect L.said_site L.catalog_form L.fault_form) MOST_ENTRIES 0 (opens site ∷ []) count
         (N.net net.old) (N.net net.new) r.ends.items r.stop r.history.entries) }
     ensures err { OnErr result (N.net net.new ≡ N.net net.old) }
 {
     let visits = Vec::with_capacity(alloc, count as usize)?;
     let ends = Vec::with_capacity(alloc, count as usize)?;
     let (shared, pass) = SharedSite::open(alloc, language, site, MOST_ENTRIES)?;
+    Ok(serve_shared(
+        rt, alloc, shared, pass, net, port, count, gate, visits, ends,
+    ))
+}
+
+/// Goes on from a history, under the site that is in force behind its last entry, and serves it as `serve` does.
+/// Connection `c` is the author `c` places behind the one that follows the greatest of the history, or author `c` where
+/// no entry has one.
+pub fn serve_resumed<
+    L: Language + Drop + Sync,
+    N: Listener,
+    G: Gate + Sync,
+    R: Threads + Wait + Sync,
+>(
+    rt: &R,
+    alloc: Global,
+    language: L,
+    history: History<L::Site>,
+    net: &mut N,
+    port: u16,
+    count: u32,
+    gate: &G,
+) -> Result<Served<L>, ResumeStop>
+where
+    L::Site: Send + Sync,
+    L::Catalog: Send,
+    L::Fault: Send,
+    N::Conn: Send + Drop,
+    requires legal { Legal L.meaning history.entries }
+    requires within { length history.entries ≤ MOST_ENTRIES }
+    requires few { count ≤ MOST_CONNECTIONS }
+    ensures ok { ResumesWith (λ r. HasServedAll L.meaning L.listed
+        (dialect L.said_site L.catalog_form L.fault_form) MOST_ENTRIES (base_of history.entries) history.entries count
+        (N.net net.old) (N.net net.new) r.ends.items r.stop r.history.entries) history.entries result }
+    ensures err { OnErr result (N.net net.new ≡ N.net net.old) }
+{
+    let (shared, pass) = SharedSite::resume(alloc, language, history, MOST_ENTRIES)?;
+    let visits = Vec::with_capacity(alloc, count as usize)?;
+    let ends = Vec::with_capacity(alloc, count as usize)?;
+    Ok(serve_shared(
+        rt, alloc, shared, pass, net, port, count, gate, visits, ends,
+    ))
+}
+
+/// Listens at the port, and serves the site from its first pass on.
+fn serve_shared<L: Language + Drop + Sync, N: Listener, G: Gate + Sync, R: Threads + Wait + Sync>(
+    rt: &R,
+    alloc: Global,
+    shared: SharedSite<L>,
+    pass: SitePass<L>,
+    net: &mut N,
+    port: u16,
+    count: u32,
+    gate: &G,
+    visits: Visits<L, N>,
+    ends: Vec<ConnEnd>,
+) -> Served<L>
+where
+    L::Site: Send + Sync,
+    L::Catalog: Send,
+    L::Fault: Send,
+    N::Conn: Send + Drop,
+    requires opening { IsOpening shared pass }
+    requires few { count ≤ MOST_CONNECTIONS }
+    requires none { vec_len visits ≡ 0 }
+    requires room { count ≤ vec_capacity visits }
+    requires no_ends { ends.items ≡ [] }
+    requires ends_room { count ≤ vec_capacity ends }
+    ensures { HasServedAll L.meaning L.listed (dialect L.said_site L.catalog_form L.fault_form) pass.terms.limit
+        pass.terms.base pass.front
+        count (N.net net.old) (N.net net.new) result.ends.items result.stop result.history.entries }
+{
     match net.listen(port) {
-        Bound::Failed => Ok(Served {
+        Bound::Failed => Served {
             history: shared.close(pass),
             ends,
             stop: ServiceStop::NetFault,
-        }),
-        Bound::Listening => Ok(serve_all(rt, alloc, shared, pass, net, count, gate, visits, ends)),
+        },
+        Bound::Listening => serve_all(rt, alloc, shared, pass, net, count, gate, visits, ends),
     }
 }
 
@@ -105,7 +180,7 @@ where
     requires no_ends { ends.items ≡ [] }
     requires ends_room { count ≤ vec_capacity ends }
     ensures { HasServedAll L.meaning L.listed (dialect L.said_site L.catalog_form L.fault_form) pass.terms.limit
-        pass.front
+        pass.terms.base pass.front
         count (N.net net.old) (N.net net.new) result.ends.items result.stop result.history.entries }
 {
     let door = Door {

@@ -6,7 +6,7 @@ use Rattle.clap.specs.Faults.{fault_of}
 use Rattle.clap.specs.declared.error.kind.ErrorKind.TheVariants as kind
 use Rattle.clap.proofs.OnLiterals.{clap_on_literals}
 use Rattle.hiera_merge.specs.declared.merge.Merge.TheVariants as by
-use Rattle.site_words.specs.Asked.{asked_of, manifest, check, compile, sequence, lookup, apply, demo, batch, serve, audit, migrate, resume, settle, refused, bad_word}
+use Rattle.site_words.specs.Asked.{asked_of, manifest, check, compile, sequence, lookup, apply, demo, batch, serve, serve_on, audit, migrate, resume, settle, refused, bad_word}
 use Rattle.site_words.specs.CommandLine.{reading_line, bundle_line, served_line, journal_line, command_line}
 
 -- a line of one, two or more words
@@ -32,12 +32,13 @@ commands : (asked_of (two (codes "manifest") (codes "web-1.example_0")) ≡ mani
     × (asked_of (two (codes "demo") (codes "4096")) ≡ demo 4096)
     × (asked_of (one (codes "batch")) ≡ batch 1)
     × (asked_of (codes "serve" ∷ codes "8080" ∷ codes "3" ∷ codes "--dir" ∷ codes "d" ∷ []) ≡ serve 8080 3 (codes "d"))
+    × (asked_of (codes "serve" ∷ codes "8080" ∷ codes "3" ∷ codes "--resume" ∷ []) ≡ serve_on 8080 3)
     × (asked_of (one (codes "audit")) ≡ audit)
     × (asked_of (one (codes "migrate")) ≡ migrate)
     × (asked_of (one (codes "resume")) ≡ resume 1)
     × (asked_of (two (codes "settle") (codes "100")) ≡ settle 100 1)
 unfolding reading_line bundle_line served_line journal_line command_line clap_on_literals
-commands = (refl, refl, refl, refl, refl, refl, refl, refl, refl, refl, refl, refl, refl)
+commands = (refl, refl, refl, refl, refl, refl, refl, refl, refl, refl, refl, refl, refl, refl)
 
 -- options stand anywhere behind the command, as two words or as one
 options : (asked_of (lookup_with (codes "--merge" ∷ codes "deep" ∷ [])) ≡ lookup (codes "n") (codes "k") (Some by.Deep) None)
@@ -54,8 +55,9 @@ options : (asked_of (lookup_with (codes "--merge" ∷ codes "deep" ∷ [])) ≡ 
     ≡ apply (codes "n") (Some (codes "d")) (Some 64))
     × (asked_of (three (codes "resume") (codes "--workers") (codes "8")) ≡ resume 8)
     × (asked_of (three (codes "settle") (codes "--workers=2") (codes "1")) ≡ settle 1 2)
+    × (asked_of (codes "serve" ∷ codes "--resume" ∷ codes "8080" ∷ codes "3" ∷ []) ≡ serve_on 8080 3)
 unfolding reading_line bundle_line served_line journal_line command_line clap_on_literals
-options = (refl, refl, refl, refl, refl, refl, refl, refl, refl, refl, refl)
+options = (refl, refl, refl, refl, refl, refl, refl, refl, refl, refl, refl, refl)
 
 -- behind `--` every word is positional, and `-` is one everywhere
 positional_words : (asked_of (codes "lookup" ∷ codes "--" ∷ codes "n" ∷ codes "--merge" ∷ [])
@@ -84,7 +86,10 @@ refusals : (fault_of command_line [] ≡ kind.MissingSubcommand ∷ [])
     × (fault_of command_line (codes "check" ∷ codes "--dir" ∷ codes "a" ∷ codes "--dir=a" ∷ []) ≡ kind.ArgumentConflict ∷ [])
     × (asked_of (three (codes "check") (codes "--dir") (codes "-x")) ≡ refused)
     × (asked_of (two (codes "check") (codes "--dir")) ≡ refused)
-    × (fault_of command_line (three (codes "serve") (codes "80") (codes "1")) ≡ kind.MissingRequiredArgument ∷ [])
+    × (fault_of command_line (three (codes "serve") (codes "80") (codes "--resume")) ≡ kind.MissingRequiredArgument ∷ [])
+    × (fault_of command_line (codes "serve" ∷ codes "--resume" ∷ codes "80" ∷ codes "1" ∷ codes "--resume" ∷ [])
+    ≡ kind.ArgumentConflict ∷ [])
+    × (fault_of command_line (codes "serve" ∷ codes "80" ∷ codes "1" ∷ codes "--resume=j" ∷ []) ≡ kind.TooManyValues ∷ [])
     × (asked_of (three (codes "--dir") (codes "d") (codes "check")) ≡ refused)
     × (fault_of command_line (two (codes "sequence") (codes "--workers=2")) ≡ kind.UnknownArgument ∷ [])
     × (fault_of command_line (two (codes "audit") (codes "--workers=2")) ≡ kind.UnknownArgument ∷ [])
@@ -94,6 +99,8 @@ refusals : (fault_of command_line [] ≡ kind.MissingSubcommand ∷ [])
     × (fault_of command_line (three (codes "resume") (codes "--dir") (codes "d")) ≡ kind.UnknownArgument ∷ [])
 unfolding reading_line bundle_line served_line journal_line command_line clap_on_literals
 refusals = (
+  refl,
+  refl,
   refl,
   refl,
   refl,
@@ -135,6 +142,10 @@ bad_words : (asked_of (two (codes "manifest") (codes "Web")) ≡ bad_word (codes
     × (asked_of (two (codes "batch") (codes "--workers=+4")) ≡ bad_word (codes "+4"))
     × (asked_of (codes "serve" ∷ codes "65536" ∷ codes "0" ∷ codes "--dir=d" ∷ []) ≡ bad_word (codes "65536"))
     × (asked_of (codes "serve" ∷ codes "65535" ∷ codes "1025" ∷ codes "--dir=d" ∷ []) ≡ bad_word (codes "1025"))
+    × (asked_of (codes "serve" ∷ codes "80" ∷ codes "1" ∷ codes "--dir=d" ∷ codes "--resume" ∷ [])
+    ≡ bad_word (codes "--resume"))
+    × (asked_of (three (codes "serve") (codes "80") (codes "1")) ≡ bad_word (codes "--dir"))
+    × (asked_of (three (codes "serve") (codes "80") (codes "0")) ≡ bad_word (codes "0"))
     × (asked_of (three (codes "apply") (codes "n") (codes "--workers=0")) ≡ bad_word (codes "0"))
     × (asked_of (three (codes "apply") (codes "N") (codes "--workers=0")) ≡ bad_word (codes "N"))
     × (asked_of (two (codes "resume") (codes "--workers=65")) ≡ bad_word (codes "65"))
@@ -144,6 +155,9 @@ bad_words : (asked_of (two (codes "manifest") (codes "Web")) ≡ bad_word (codes
     × (asked_of (three (codes "settle") (codes "--workers=x") (codes "7")) ≡ bad_word (codes "x"))
 unfolding reading_line bundle_line served_line journal_line command_line clap_on_literals
 bad_words = (
+  refl,
+  refl,
+  refl,
   refl,
   refl,
   refl,

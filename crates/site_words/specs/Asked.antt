@@ -1,14 +1,15 @@
 -- What the words of a command line ask for.
-use Rattle.std.specs.Prelude.{ℕ, ◌≤◌, if◌then◌else◌, codes, List, [], ◌∷◌, Option, Some, None, Ok, Err, IfSome}
+use Rattle.std.specs.Prelude.{ℕ, ◌≤◌, Bool, true, false, if◌then◌else◌, codes, List, [], ◌∷◌, Option, Some, None, Result}
+use Rattle.std.specs.Prelude.{Ok, Err, IfSome}
 use Rattle.std.specs.Str.{bytes_eq}
 use Rattle.clap.specs.Words.{Kinds, Row, Text, fault_of, subcommand_of}
 use Rattle.hiera_merge.specs.declared.merge.Merge.{Merge}
 use Rattle.word_rules.specs.declared.limits.TheConstants.{MOST_CONNECTIONS, MOST_DEMO_NODES, MOST_PORT, MOST_ROUNDS}
 use Rattle.word_rules.specs.declared.limits.TheConstants.{MOST_WORKERS}
 use Rattle.site_words.specs.CommandLine.{command_line}
-use Rattle.site_words.specs.Said.{Said, ◌>>=◌, word_of, node_in, key_in, number_in, merge_in, workers_in}
-use Rattle.site_words.specs.Said.{given_workers_in, dir_in}
-use Rattle.site_words.specs.declared.ids.TheConstants.{NODES, ROUNDS, PORT, COUNT, DIR}
+use Rattle.site_words.specs.Said.{Said, ◌>>=◌, node_in, key_in, number_in, merge_in, workers_in}
+use Rattle.site_words.specs.Said.{given_workers_in, dir_in, flag_in}
+use Rattle.site_words.specs.declared.ids.TheConstants.{NODES, ROUNDS, PORT, COUNT, RESUME}
 
 pub data Asked : Type 0 where
   -- the catalog of this node under the manifest that comes in
@@ -29,6 +30,8 @@ pub data Asked : Type 0 where
   batch : ℕ → Asked
   -- on this port, so many connections, over the site of this folder
   serve : ℕ → ℕ → Text → Asked
+  -- on this port, so many connections, over the history of a journal
+  serve_on : ℕ → ℕ → Asked
   -- whether a journal is that of a legal history
   audit : Asked
   -- a journal, in the version that is written today
@@ -80,11 +83,19 @@ batch_in rows = do
   workers ← workers_in rows
   Ok (batch workers)
 
+-- over a folder or over a journal, and not over both: where both are named, or none, the option is told that is too
+-- much or is wanting
+abbrev pub served : ℕ → ℕ → Option Text → Bool → Said Asked
+served port count (Some dir) false = Ok (serve port count dir)
+served port count (Some dir) true = Err (codes "--resume")
+served port count None true = Ok (serve_on port count)
+served port count None false = Err (codes "--dir")
+
 abbrev pub serve_in : List Row → Said Asked
 serve_in rows = do
   port ← number_in PORT.now MOST_PORT rows
   count ← number_in COUNT.now MOST_CONNECTIONS rows
-  Ok (serve port count (word_of DIR.now rows))
+  served port count (dir_in rows) (flag_in RESUME.now rows)
 
 abbrev pub resume_in : List Row → Said Asked
 resume_in rows = do
@@ -139,6 +150,7 @@ IsWithin (apply node dir workers) = IfSome workers (λ n. (1 ≤ n) × (n ≤ MO
 IsWithin (demo nodes) = (1 ≤ nodes) × (nodes ≤ MOST_DEMO_NODES)
 IsWithin (batch workers) = (1 ≤ workers) × (workers ≤ MOST_WORKERS)
 IsWithin (serve port count dir) = (1 ≤ port) × (port ≤ MOST_PORT) × (1 ≤ count) × (count ≤ MOST_CONNECTIONS)
+IsWithin (serve_on port count) = (1 ≤ port) × (port ≤ MOST_PORT) × (1 ≤ count) × (count ≤ MOST_CONNECTIONS)
 IsWithin (resume workers) = (1 ≤ workers) × (workers ≤ MOST_WORKERS)
 IsWithin (settle rounds workers) = (1 ≤ rounds) × (rounds ≤ MOST_ROUNDS) × (1 ≤ workers) × (workers ≤ MOST_WORKERS)
 IsWithin asked = Unit {0}

@@ -1,9 +1,10 @@
 -- The command line as `clap` is told of it: each command with its positional words in order, and its options, which
--- have one value each and may stand once.
+-- may stand once and, but for a flag, have one value each.
 use Rattle.std.specs.Prelude.{Some, true, codes}
 use Rattle.clap.specs.Words.{App, Rule, Text, new_app, new_rule, with_rule, with_subcommand}
-use Rattle.clap.specs.declared.builder.action.ArgAction.TheVariants.{Set}
-use Rattle.site_words.specs.declared.ids.TheConstants.{NODE, KEY, NODES, ROUNDS, PORT, COUNT, MERGE, DIR, WORKERS}
+use Rattle.clap.specs.declared.builder.action.ArgAction.TheVariants.{Set, SetTrue}
+use Rattle.site_words.specs.declared.ids.TheConstants.{NODE, KEY, NODES, ROUNDS, PORT, COUNT, MERGE, DIR, RESUME}
+use Rattle.site_words.specs.declared.ids.TheConstants.{WORKERS}
 
 -- a positional word; it has to be there
 abbrev pub positional : Text → Rule
@@ -13,9 +14,9 @@ positional id = record (new_rule id) { required = true; action = Some Set }
 abbrev pub optional : Text → Rule
 optional id = record (new_rule id) { long = Some id; action = Some Set; value_names = 1 }
 
--- an option with a value; it has to be there
-abbrev pub needed : Text → Rule
-needed id = record (optional id) { required = true }
+-- an option with no value; it may be left out
+abbrev pub flag : Text → Rule
+flag id = record (new_rule id) { long = Some id; action = Some SetTrue }
 
 abbrev pub manifest_line : App
 manifest_line = with_rule (new_app (codes "manifest")) (positional NODE.now)
@@ -46,8 +47,8 @@ batch_line = with_rule (new_app (codes "batch")) (optional WORKERS.now)
 
 abbrev pub serve_line : App
 serve_line =
-    with_rule (with_rule (with_rule (new_app (codes "serve")) (positional PORT.now)) (positional COUNT.now))
-    (needed DIR.now)
+    with_rule (with_rule (with_rule (with_rule (new_app (codes "serve")) (positional PORT.now)) (positional COUNT.now))
+    (optional DIR.now)) (flag RESUME.now)
 
 abbrev pub audit_line : App
 audit_line = new_app (codes "audit")

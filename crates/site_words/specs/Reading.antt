@@ -30,6 +30,7 @@ asked_by (c.Apply node dir workers) = a.apply node.now (option_map (λ d. d.now)
 asked_by (c.Demo nodes) = a.demo nodes
 asked_by (c.Batch workers) = a.batch workers
 asked_by (c.Serve port count dir) = a.serve port count dir.now
+asked_by (c.ServeOn port count) = a.serve_on port count
 asked_by c.Audit = a.audit
 asked_by c.Migrate = a.migrate
 asked_by (c.Resume workers) = a.resume workers

@@ -1,5 +1,7 @@
 -- What a command's words say, or the word that breaks the rule of its place.
-use Rattle.std.specs.Prelude.{ℕ, if◌then◌else◌, List, [], ◌∷◌, Option, Some, None, Result, Ok, Err, unwrap_or}
+use Rattle.std.specs.Prelude.{ℕ, Bool, false, if◌then◌else◌, codes, List, [], ◌∷◌, Option, Some, None, Result, Ok, Err}
+use Rattle.std.specs.Prelude.{unwrap_or}
+use Rattle.std.specs.Str.{bytes_eq}
 use Rattle.clap.specs.Words.{Row, Text, first_of}
 use Rattle.hiera_merge.specs.Options.{merge_named}
 use Rattle.hiera_merge.specs.declared.merge.Merge.{Merge}
@@ -83,3 +85,11 @@ given_workers_in rows = given_workers_said (first_of WORKERS.now rows)
 -- the folder that is named; any text names one
 abbrev pub dir_in : List Row → Option Text
 dir_in rows = first_of DIR.now rows
+
+-- a flag that is there says so, by the value that `clap` gives it
+abbrev pub flag_said : Option Text → Bool
+flag_said None = false
+flag_said (Some word) = bytes_eq word (codes "true")
+
+abbrev pub flag_in : Text → List Row → Bool
+flag_in id rows = flag_said (first_of id rows)

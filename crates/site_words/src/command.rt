@@ -55,6 +55,12 @@ pub enum Command<'a> {
         dir: &'a str,
     },
 
+    /// A service on this port for so many connections, which goes on from the history of the journal that comes in.
+    ServeOn {
+        port: u16,
+        count: u32,
+    },
+
     /// Whether the journal that comes in is that of a legal history.
     Audit,
 

@@ -4,7 +4,7 @@ ghost use Rattle.clap.specs.Words.{app_of, new_app, rule_of};
 ghost use Rattle.clap.specs.declared.builder.command.Command.TheViews.{out-Command};
 ghost use Rattle.site_words.specs.CommandLine as spec;
 
-use crate::ids::{COUNT, DIR, KEY, MERGE, NODE, NODES, PORT, ROUNDS, WORKERS};
+use crate::ids::{COUNT, DIR, KEY, MERGE, NODE, NODES, PORT, RESUME, ROUNDS, WORKERS};
 use clap::{Arg, ArgAction, Command};
 use std::alloc::{AllocError, Global};
 
@@ -30,6 +30,10 @@ const WORKERS_VALUE: &str = "W";
 const MERGE_HELP: &str = "first, unique, hash or deep, in the place of lookup_options";
 
 const DIR_HELP: &str = "The site's folder, in the place of a bundle on standard input";
+
+const SERVED_DIR_HELP: &str = "The site's folder";
+
+const RESUME_HELP: &str = "Go on from a journal on standard input, in the place of --dir";
 
 const WORKERS_HELP: &str = "How many workers, 1 to 64";
 
@@ -199,7 +203,8 @@ fn serve_line<'a>(alloc: Global) -> Result<Command<'a>, AllocError>
     )
     .arg(positional(alloc, PORT, PORT_HELP))?
     .arg(positional(alloc, COUNT, COUNT_HELP))?
-    .arg(needed(alloc, DIR, DIR_VALUE, DIR_HELP))
+    .arg(optional(alloc, DIR, DIR_VALUE, SERVED_DIR_HELP))?
+    .arg(flag(alloc, RESUME, RESUME_HELP))
 }
 
 fn audit_line<'a>(alloc: Global) -> Result<Command<'a>, AllocError>
@@ -283,9 +288,12 @@ fn optional<'a>(alloc: Global, id: &'a str, value: &'a str, help: &'a str) -> Ar
         .help(help)
 }
 
-fn needed<'a>(alloc: Global, id: &'a str, value: &'a str, help: &'a str) -> Arg<'a>
-    ensures rule { rule_of result ≡ spec.needed id.entry.now }
+fn flag<'a>(alloc: Global, id: &'a str, help: &'a str) -> Arg<'a>
+    ensures rule { rule_of result ≡ spec.flag id.entry.now }
     ensures local { result.global ≡ false }
 {
-    optional(alloc, id, value, help).required(true)
+    Arg::new(alloc, id)
+        .long(id)
+        .action(ArgAction::SetTrue)
+        .help(help)
 }

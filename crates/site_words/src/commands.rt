@@ -1,14 +1,15 @@
 //! Each command with what its words say.
-ghost use Rattle.std.specs.Prelude.{◌≡◌, IfOk};
+ghost use Rattle.std.specs.Prelude.{◌≡◌, ◌≤◌, IfOk, option_map};
+ghost use Rattle.word_rules.specs.declared.limits.TheConstants.{MOST_CONNECTIONS, MOST_PORT};
 ghost use Rattle.clap.specs.Words.{found_of, rows_of, subcommand_rows_of};
 ghost use Rattle.site_words.specs.Asked as spec;
 ghost use Rattle.site_words.specs.Asked.{IsWithin};
 ghost use Rattle.site_words.specs.Reading.{asked_by, saying};
 
 use crate::command::Command;
-use crate::ids::{COUNT, DIR, NODES, PORT, ROUNDS};
+use crate::ids::{COUNT, NODES, PORT, RESUME, ROUNDS};
 use crate::values::{
-    dir_of, given_workers_of, key_of, merge_of, node_of, number_of, word_of, workers_of,
+    dir_of, flag_of, given_workers_of, key_of, merge_of, node_of, number_of, workers_of,
 };
 use crate::word_stop::BadWord;
 use clap::ArgMatches;
@@ -117,11 +118,27 @@ fn serve<'a>(words: &ArgMatches<'a>) -> Result<Command<'a>, BadWord<'a>>
 {
     let port = number_of(words, PORT, MOST_PORT)?;
     let count = number_of(words, COUNT, MOST_CONNECTIONS)?;
-    Ok(Command::Serve {
-        port: port as u16,
-        count,
-        dir: word_of(words, DIR),
-    })
+    served(port as u16, count, dir_of(words), flag_of(words, RESUME))
+}
+
+/// The service over the site of a folder, or over the history of a journal where it goes on from one.
+fn served<'a>(
+    port: u16,
+    count: u32,
+    dir: Option<&'a str>,
+    goes_on: bool,
+) -> Result<Command<'a>, BadWord<'a>>
+    requires port { (1 ≤ port) × (port ≤ MOST_PORT) }
+    requires count { (1 ≤ count) × (count ≤ MOST_CONNECTIONS) }
+    ensures asked { saying asked_by result ≡ spec.served port count (option_map (λ d. d.now) dir.entry) goes_on }
+    ensures within { IfOk result (λ c. IsWithin (asked_by c)) }
+{
+    match dir {
+        Some(dir) if !goes_on => Ok(Command::Serve { port, count, dir }),
+        None if goes_on => Ok(Command::ServeOn { port, count }),
+        Some(_) => Err(BadWord { word: "--resume" }),
+        None => Err(BadWord { word: "--dir" }),
+    }
 }
 
 fn resume<'a>(words: &ArgMatches<'a>) -> Result<Command<'a>, BadWord<'a>>

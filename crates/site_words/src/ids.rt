@@ -16,4 +16,6 @@ pub const MERGE: &str = "merge";
 
 pub const DIR: &str = "dir";
 
+pub const RESUME: &str = "resume";
+
 pub const WORKERS: &str = "workers";

@@ -25,6 +25,17 @@ pub fn dir_of<'a>(words: &ArgMatches<'a>) -> Option<&'a str>
     words.get_str(DIR)
 }
 
+/// Whether the flag is there.
+#[tactic(auto, using(crate::proofs::Rows::found_in_rows))]
+pub fn flag_of(words: &ArgMatches<'_>, id: &str) -> bool
+    ensures { result ≡ spec.flag_in id.now (rows_of (found_of words.now)) }
+{
+    match words.get_str(id) {
+        Some(word) => word == "true",
+        None => false,
+    }
+}
+
 pub fn node_of<'a>(words: &ArgMatches<'a>) -> Result<&'a str, BadWord<'a>>
     ensures { saying (λ s. s.now) result ≡ spec.node_in (rows_of (found_of words.now)) }
 {

@@ -20,6 +20,6 @@ returns-in_ok-text-in-Ok g c = went_on c.args.workers c.output_of.result c.args.
     c.in_ok-text-in-Ok.ensures c.output_of.ensures
 
 pub returns-in-Err-Authors : goal.returns-in-Err-Authors
-returns-in-Err-Authors g c = told_great c.args.workers c.too_great.result c.args.history.entries c.args.requests.now
+returns-in-Err-Authors g c = told_great c.args.workers c.refuse_author.result c.args.history.entries c.args.requests.now
     c.in-Err-Authors.field-0 c.in-Err-Authors.author c.in-Err-Authors.field-0-is c.in-Err-Authors.ensures
-    c.too_great.ensures
+    c.refuse_author.ensures

@@ -7,11 +7,11 @@ use Rattle.site_commands.proofs.Served.{serves_told, serves_lacking}
 use Rattle.site_commands.proofs.serving.serve_site.Goals as goal
 
 pub returns-in-Ok : goal.returns-in-Ok
-returns-in-Ok g c = serves_told c.args.site c.args.count _ _ _ _ _ _ c.tell_service.result
+returns-in-Ok g c = serves_told 0 _ c.args.count _ _ _ _ _ _ c.tell_service.result
     c.in-Ok.served.history.entries c.in-Ok.served.ends.items c.in-Ok.served.stop c.in-Ok.ensures.ok c.tell_service.ensures
 
 pub returns-in-Err : goal.returns-in-Err
-returns-in-Err g c = serves_lacking c.args.site c.args.count _ _ _ _ _ _ c.refuse.result c.refuse.ensures.ending
+returns-in-Err g c = serves_lacking 0 _ c.args.count _ _ _ _ _ _ c.refuse.result c.refuse.ensures.ending
     c.refuse.ensures.line refl c.in-Err.ensures.err
 
 pub serve-requires-send-L-Site : goal.serve-requires-send-L-Site

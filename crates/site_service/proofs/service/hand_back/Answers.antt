@@ -1,4 +1,4 @@
-use Rattle.std.proofs.Common.{◌≡◌, ◌+◌, ◌≤◌, length, [], ◌∷◌, ap, arith}
+use Rattle.std.proofs.Common.{length, ap, arith}
 use Rattle.std.proofs.lemmas.List.{nil_from_length}
 use Rattle.site_service.proofs.Handing.{handed_none, number_below, site_of, site_now, gone, one_handed, handed_all}
 use Rattle.site_service.proofs.service.hand_back.Goals as goal

@@ -1,4 +1,4 @@
-use Rattle.std.proofs.Common.{◌≡◌, ◌+◌, ◌≤◌, refl, sym, subst, arith}
+use Rattle.std.proofs.Common.{refl, sym, subst, arith}
 use Rattle.site_serve.specs.Ends.{dialect}
 use Rattle.site_service.specs.Served.{HasServedAll}
 use Rattle.site_service.proofs.Wholes.{site_is, of_all, few, out, may_close, served}
@@ -61,7 +61,7 @@ pub returns : goal.returns
 returns g c =
     subst (λ n. HasServedAll g.L.Language.meaning g.L.Language.listed
     (dialect g.L.Language.said_site g.L.Language.catalog_form g.L.Language.fault_form) c.args.pass.terms.limit
-    c.args.pass.front c.args.count (g.N.Listener.net c.args.net.now) (g.N.Listener.net n) c.hand_back-pass.result.1.items
+    c.args.pass.terms.base c.args.pass.front c.args.count (g.N.Listener.net c.args.net.now) (g.N.Listener.net n) c.hand_back-pass.result.1.items
     c.run_door-door.result.0.stop c.close.result.entries)
     (sym (c.net-1.given.1 (sym c.run_door-door.ensures.same_reference)))
     (served g.L.Language.meaning g.L.Language.listed

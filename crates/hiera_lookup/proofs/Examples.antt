@@ -9,7 +9,8 @@ use Rattle.pp_values.specs.declared.fault.What.TheVariants as what
 use Rattle.hiera_config.specs.Cuts.{cut_at, trimmed_start, trimmed_end}
 use Rattle.hiera_config.specs.Literals.{is_literal}
 use Rattle.hiera_config.specs.Meant.{Meant, go_on}
-use Rattle.hiera_config.specs.OptionTables.{is_table, are_tables, first_options}
+use Rattle.hiera_config.specs.FileOptions.{is_table}
+use Rattle.hiera_config.specs.OptionTables.{are_tables, first_options}
 use Rattle.hiera_config.specs.Pieces.{pieces_from, form_of, method_of, whole_alias}
 use Rattle.hiera_config.specs.Sources.{Source}
 use Rattle.hiera_merge.specs.declared.merge.Merge.{Merge}
@@ -20,7 +21,7 @@ use Rattle.hiera_lookup.specs.AnswerPlaces.{place_for}
 use Rattle.hiera_lookup.specs.Filled.{Answer, Gives, answer_to, filled}
 use Rattle.hiera_lookup.specs.Found.{found, found_in}
 use Rattle.hiera_lookup.specs.Look.{answer, answers, interpolated, option_for, merge_for, look_within, look, looked_up}
-use Rattle.hiera_lookup.specs.OptionTables.{joined_tables, merge_by}
+use Rattle.hiera_lookup.specs.Plain.{joined_tables, merge_by}
 use Rattle.hiera_lookup.specs.Options.{options_key, option_in, bad_options}
 use Rattle.hiera_lookup.specs.World.{World}
 

@@ -4,7 +4,7 @@ use Rattle.pp_values.specs.Datum.{Datum, undef, flag, int, text, list, hash, ref
 use Rattle.pp_values.specs.Keys.{is_key, same_key, lacks, are_distinct, with_pair}
 use Rattle.hiera_config.specs.Cuts.{cut_at}
 use Rattle.hiera_config.specs.Meant.{go_on}
-use Rattle.hiera_config.proofs.Simple.{both_left, both_right}
+use Rattle.hiera_config.proofs.Booleans.{both_left, both_right}
 use Rattle.hiera_lookup.specs.Asks.{asks, list_asks, pair_asks}
 use Rattle.hiera_lookup.specs.Filled.{Gives, answer_to, as_key, filled, list_filled, pairs_filled}
 use Rattle.hiera_config.specs.Literals.{is_literal, are_literal, are_literal_pairs}

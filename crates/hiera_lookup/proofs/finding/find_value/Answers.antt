@@ -20,15 +20,15 @@ pub returns-in-First : goal.returns-in-First
 returns-in-First c =
     let is : c.root-root_key.result.now ≡ root_of c.args.key.now =
     c.root-root_key.ensures ∙ ap (λ xs. root (map (λ x. x.now) xs)) c.deref.ensures.value ∙ ap root c.in_ok-parts.ensures in
-    let stepped : map (λ x. x.now) c.steps-in-First.result.now ≡ steps_of c.args.key.now =
-    c.steps-in-First.ensures ∙ ap (λ xs. steps (map (λ x. x.now) xs)) c.deref-in-First.ensures.value
+    let stepped : map (λ x. x.now) c.steps.result.now ≡ steps_of c.args.key.now =
+    c.steps.ensures ∙ ap (λ xs. steps (map (λ x. x.now) xs)) c.deref-in-First.ensures.value
     ∙ ap steps c.in_ok-parts.ensures in
     same_meets
     (found_highest (seen c.args.world.now) (option_map (λ t. t.now) c.args.of_module) c.args.key.now c.args.merge
     c.in-First.is)
     (after_ok _ (rw is at c.in_ok-value-in-First.ensures)
     (gives (ap Ok (sym (c.in_ok-part_if-in-First.ensures
-    ∙ ap (λ ss. option_and_then (dug ss) (option_map view c.in_ok-value-in-First.field-0)) stepped)))))
+    ∙ ap (λ ss. option_and_then (dug ss) (option_map view c.in_ok-value-in-First.value)) stepped)))))
 
 pub returns-in_err-sources-in_default : goal.returns-in_err-sources-in_default
 unfolding found

@@ -32,12 +32,12 @@ option_for-returns-then-eq t c = same_meets (option_hash _ _ _ _ _ (sym c.eq.ens
 
 pub option_for-returns-in-Some : goal.option_for-returns-in-Some
 option_for-returns-in-Some t c =
-    gives (plain_is _ _ _ _ _ _ (sym c.in-Some.is ∙ c.in_ok-plain_option.ensures) (sym c.eq.ensures ∙ c.if-eq.false))
+    gives (plain_is _ _ _ _ _ _ (sym c.in-Some.is ∙ c.in_ok-merge.ensures) (sym c.eq.ensures ∙ c.if-eq.false))
 
 pub option_for-returns-in_err-options : goal.option_for-returns-in_err-options
 option_for-returns-in_err-options t c =
     same_meets (option_looked _ _ _ _ _ (sym c.eq.ensures ∙ c.if-eq.false))
-    (after_err _ c.in_err-options.ensures c.from_residual.ensures.1)
+    (after_err _ c.in_err-options.ensures c.from_residual-in_err-options.ensures.1)
 
 pub option_for-returns : goal.option_for-returns
 option_for-returns t c =

@@ -18,7 +18,7 @@ loop-turn-preserved c =
     let before = c.loop-turn.before.items in
     let found = sym c.in_ok-next.ensures ∙ ap option_copied c.in-Some.is in
     let one = one_more m book turn (class_name class.now) class.now (stack_of class_seen before) name _ last.now next
-        c.loop-turn.invariant c.in_ok-parent.ensures found in
+    c.loop-turn.invariant c.in_ok-parent.ensures found in
     moved m book (turn + 1) (class_name class.now) class.now _ _ _ _ next
     (sym (ap (stack_of class_seen) c.in_ok-push.ensures.items ∙ put_on class_seen before last))
     (sym c.or_name-name.ensures) one

@@ -6,7 +6,7 @@ use Rattle.pp_tree.specs.declared.expr.Expr.{Expr}
 use Rattle.pp_tree.specs.declared.expr.Form.TheVariants as f
 use Rattle.pp_tree.specs.declared.param.Param.{Param}
 use Rattle.pp_values.specs.Datum as d
-use Rattle.pp_values.specs.Datum.{Pair}
+use Rattle.pp_values.specs.Datum.{Datum, Pair}
 use Rattle.pp_values.specs.Faults as faults
 use Rattle.pp_values.specs.declared.fault.What.TheVariants as what
 use Rattle.pp_values.specs.declared.place.Place.{Place}

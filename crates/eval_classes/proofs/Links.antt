@@ -1,5 +1,5 @@
 -- The turns in which the classes of a chain are found.
-use Rattle.std.proofs.Common.{◌≡◌, ℕ, suc, ◌+◌, List, [], ◌∷◌, length, Option, None, Some, refl, ap, sym, ◌∙◌, arith}
+use Rattle.std.proofs.Common.{◌≡◌, ℕ, suc, ◌+◌, List, [], ◌∷◌, length, Option, None, Some, refl, ap, sym, subst, ◌∙◌, arith}
 use Rattle.std.specs.Prelude.{unwrap_or}
 use Rattle.pp_tree.specs.declared.definition.Class.{Class}
 use Rattle.res_book.specs.declared.row.Row.{Row}
@@ -18,6 +18,11 @@ module _ (m : Environment) (book : List Row) where
   pub begins : (x : List ℕ) (c : Class) → Linked 0 x c [] x c
   unfolding Linked
   begins x c n = let is : 0 + n ≡ n = omega arith in ap (λ k. chain_from k [] x c m book) is
+
+  -- what is linked, as it is told otherwise
+  pub moved : (turn : ℕ) (x : List ℕ) (c : Class) (bs cs : List Class) (n k : List ℕ) (last : Class) → bs ≡ cs → n ≡ k
+      → Linked turn x c bs n last → Linked turn x c cs k last
+  moved turn x c bs cs n k last e f is = subst (λ r. Linked turn x c cs r last) f (subst (λ r. Linked turn x c r n last) e is)
 
   linked : (n : ℕ) (before : List Class) (name : List ℕ) (last : Class) → chain_from (suc n) before name last m book
       ≡ parent_or_done (parent_of m name last) m book (chain_of last before (parent_of m name last))

@@ -1,10 +1,8 @@
-use Rattle.std.proofs.Common.{◌≡◌, Some, ap, sym, subst, ◌∙◌, ◌+◌, ◌∷◌}
+use Rattle.std.proofs.Common.{ap, sym, ◌∙◌, ◌+◌}
 use Rattle.std.specs.Option.{option_copied}
-use Rattle.std.specs.Prelude.{unwrap_or}
 use Rattle.eval_classes.specs.Definitions.{class_name}
-use Rattle.eval_classes.specs.Listing.{class_at, unless_declared}
 use Rattle.eval_classes.specs.Stacks.{stack_of, class_seen}
-use Rattle.eval_classes.proofs.Links.{Linked, one_more}
+use Rattle.eval_classes.proofs.Links.{moved, one_more}
 use Rattle.eval_classes.proofs.Stacks.{put_on}
 use Rattle.eval_classes.proofs.chains.chain_of.Goals as goal
 
@@ -20,8 +18,7 @@ loop-turn-preserved c =
     let before = c.loop-turn.before.items in
     let found = sym c.in_ok-next.ensures ∙ ap option_copied c.in-Some.is in
     let one = one_more m book turn (class_name class.now) class.now (stack_of class_seen before) name _ last.now next
-        c.loop-turn.invariant c.in_ok-parent.ensures found in
-    subst (λ cs. Linked m book (turn + 1) (class_name class.now) class.now cs _ next)
+    c.loop-turn.invariant c.in_ok-parent.ensures found in
+    moved m book (turn + 1) (class_name class.now) class.now _ _ _ _ next
     (sym (ap (stack_of class_seen) c.in_ok-push.ensures.items ∙ put_on class_seen before last))
-    (subst (λ n. Linked m book (turn + 1) (class_name class.now) class.now (last.now ∷ stack_of class_seen before) n next)
-    (sym c.or_name-name.ensures) one)
+    (sym c.or_name-name.ensures) one

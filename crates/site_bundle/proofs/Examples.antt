@@ -334,4 +334,4 @@ given = (refl, refl, refl, refl, refl, refl, refl, refl)
 -- how much a bundle may be: 64 MiB, 4 MiB a file, 65,536 files, 1,048,576 requests
 limits : (MOST_BUNDLE_BYTES ≡ 64 * 1024 * 1024) × (MOST_FILE_BYTES ≡ 4 * 1024 * 1024)
     × (MOST_FILES ≡ 65536) × (MOST_REQUESTS ≡ 1024 * 1024)
-limits = (refl, refl, refl, refl, refl)
+limits = (refl, refl, refl, refl)

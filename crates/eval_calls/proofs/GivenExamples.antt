@@ -1,6 +1,6 @@
 -- What templates are given, and their texts, at worked examples. Each line holds by computing.
 use Rattle.std.specs.Fmt.{digits}
-use Rattle.std.proofs.Common.{◌≡◌, ℕ, true, false, pos, List, [], ◌∷◌, None, Some, Ok, Err, refl, codes}
+use Rattle.std.proofs.Common.{◌≡◌, ℕ, true, false, pos, List, [], ◌∷◌, None, Some, Ok, Err, refl, codes, decimal}
 use Rattle.pp_tree.specs.Building.{expr_at, param}
 use Rattle.pp_tree.specs.declared.expr.Expr.{Expr}
 use Rattle.pp_tree.specs.declared.expr.Form.TheVariants as f
@@ -22,7 +22,7 @@ use Rattle.eval_world.specs.declared.world.World.{World}
 -- a block emits `1` where it is refused at line 1 if it stands too deep
 abbrev emits_line : ℕ → Step Datum
 emits_line line = do
-  emit (digits line)
+  emit (decimal line)
   pure d.undef
 
 -- each expression has the value `v`

@@ -3,7 +3,7 @@ mod ListedNames
 mod NodeTold
 mod Readable
 mod KeptReads
-mod Resumed
+pub mod Resumed
 pub mod Sent
 mod SentValue
 mod SentData

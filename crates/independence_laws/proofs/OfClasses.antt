@@ -152,11 +152,13 @@ module _ (two : Two) where
   scope_same c parent = told two (λ here w. w.scopes)
       (λ here s w. Ok (length s.scopes, record w { scopes = entered (kind.Class (class_name c)) parent s }))
       (λ first second v w alike f g. alike.scopes)
-      (λ s. record { comes = λ first second v w alike f g. gives (length s.scopes) first second v w
-          (record v { scopes = entered (kind.Class (class_name c)) parent s })
-          (record w { scopes = entered (kind.Class (class_name c)) parent s }) refl refl
-          (with_same_scopes alike (entered (kind.Class (class_name c)) parent s)
-          (entered (kind.Class (class_name c)) parent s) refl) })
+      (λ s. record {
+        comes = λ first second v w alike f g. gives (length s.scopes) first second v w
+            (record v { scopes = entered (kind.Class (class_name c)) parent s })
+            (record w { scopes = entered (kind.Class (class_name c)) parent s }) refl refl
+            (with_same_scopes alike (entered (kind.Class (class_name c)) parent s)
+            (entered (kind.Class (class_name c)) parent s) refl);
+      })
 
   scopes_same : (cs : List Class) (parent : ℕ) (done : List Entered) → Same two (λ here. enter_all cs parent done)
   unfolding enter_all
@@ -323,16 +325,20 @@ module _ (two : Two) where
   }
 
   put_containment : (x : Containment) → Same {A = Unit {0}} two (λ here w. Ok (tt, record w { relations = with_containment x w.relations }))
-  put_containment x = record { comes = λ first second v w alike f g. gives tt first second v w
-      (record v { relations = with_containment x v.relations }) (record w { relations = with_containment x w.relations })
-      refl refl (with_same_relations alike (with_containment x v.relations) (with_containment x w.relations)
-      (one_containment x first second v w alike)) }
+  put_containment x = record {
+    comes = λ first second v w alike f g. gives tt first second v w
+        (record v { relations = with_containment x v.relations }) (record w { relations = with_containment x w.relations })
+        refl refl (with_same_relations alike (with_containment x v.relations) (with_containment x w.relations)
+        (one_containment x first second v w alike));
+  }
 
   pub put_line : (x : RelationLine) → Same {A = Unit {0}} two (λ here w. Ok (tt, record w { relations = with_line x w.relations }))
-  put_line x = record { comes = λ first second v w alike f g. gives tt first second v w
-      (record v { relations = with_line x v.relations }) (record w { relations = with_line x w.relations })
-      refl refl (with_same_relations alike (with_line x v.relations) (with_line x w.relations)
-      (one_line x first second v w alike)) }
+  put_line x = record {
+    comes = λ first second v w alike f g. gives tt first second v w
+        (record v { relations = with_line x v.relations }) (record w { relations = with_line x w.relations })
+        refl refl (with_same_relations alike (with_line x v.relations) (with_line x w.relations)
+        (one_line x first second v w alike));
+  }
 
   resource_same : (first second : List LogLine) (v w : World) → AreAlike first second v w
       → OwnersGoOn two.first v.owners → OwnersGoOn two.second w.owners
@@ -392,8 +398,10 @@ module _ (inner : Inner) (same : SameInner inner) where
     unfolding chain_declared
     chain_same chain given at = and_then two (chain_scopes_same two chain) (λ es.
         and_then_like two AreSameListed Equal (λ here ls. known_parent chain.parent at >> run_all inner ls)
-        (record { comes = λ first second v w alike f g.
-            lists_same es given at two [] [] (none_listed two.first two.second) first second v w alike f g })
+        (record {
+          comes = λ first second v w alike f g.
+              lists_same es given at two [] [] (none_listed two.first two.second) first second v w alike f g;
+        })
         (λ first second ls ks x y alike r s all.
         bind_like Equal Equal (λ u. run_all inner ls) (λ u. run_all inner ks) first second x y
         (known_parent chain.parent at x) (known_parent chain.parent at y)
@@ -476,10 +484,12 @@ module _ (two : Two) where
   or_else_same (Some v) p f = pure_same two
 
   keep_same : (number : ℕ) (bound : List Setting) → Same two (λ own. keep number bound)
-  keep_same number bound = record { comes = λ first second v w alike f g. gives tt first second v w
-      (record v { book = with_bound number bound v.book }) (record w { book = with_bound number bound w.book })
-      refl refl (with_same_book alike (with_bound number bound v.book) (with_bound number bound w.book)
-      (ap (λ b. with_bound number bound b) alike.book)) }
+  keep_same number bound = record {
+    comes = λ first second v w alike f g. gives tt first second v w
+        (record v { book = with_bound number bound v.book }) (record w { book = with_bound number bound w.book })
+        refl refl (with_same_book alike (with_bound number bound v.book) (with_bound number bound w.book)
+        (ap (λ b. with_bound number bound b) alike.book));
+  }
 
 -- within the type of a parameter
 typed_two : Two → Two
@@ -513,8 +523,10 @@ module _ (inner : Inner) (same : SameInner inner) (two : Two) where
   pub type_same : (kind : Expr) (value : Datum) → Same two (λ own. has_type inner kind value own)
   unfolding has_type typed_two
   type_same kind value = and_then two
-      (record { comes = λ first second v w alike f g.
-          (same.value kind (typed_two two)).comes first second v w alike f g })
+      (record {
+        comes = λ first second v w alike f g.
+            (same.value kind (typed_two two)).comes first second v w alike f g;
+      })
       (λ of_kind. told two (λ own w. place_at w own (line_of kind)) (λ own at. answered (is_of value of_kind at))
       (λ first second v w alike f g. place_same two first second v w alike f g (line_of kind))
       (λ at. answer_same two (is_of value of_kind at)))

@@ -16,10 +16,11 @@ use Rattle.pp_values.specs.Faults.{fault}
 use Rattle.pp_values.specs.declared.fault.What.TheVariants as what
 use Rattle.attribute_lines.specs.Reading.{lines_from}
 use Rattle.class_eval.specs.Evaluating.{at_depth, value_at, block_at, has_nodes, node_of, node_owner, node_rule, nodes_rule}
-use Rattle.class_eval.specs.TopNames.{host_of, domain_of, is_variable}
+use Rattle.class_eval.specs.TopNames.{host_of, domain_of}
 use Rattle.class_eval.specs.Meaning.{within, value_rule}
 use Rattle.class_eval.specs.Statements.{statements_from, or_before}
 use Rattle.scope_core.specs.declared.scope_kind.ScopeKind.TheVariants as kind
+use Rattle.eval_calls.specs.VariableNames.{is_variable}
 use Rattle.eval_classes.specs.Entering.{enter_rule, with_body}
 use Rattle.eval_forms.specs.Accesses.{accessed_rule}
 use Rattle.eval_forms.specs.Answering.{combined}

@@ -16,7 +16,6 @@ no_level zero (goal.Words x) here w h = refl
 no_level zero (goal.Target r) here w h = refl
 no_level zero (goal.Class n line) here w h = refl
 no_level zero (goal.Instance n line) here w h = refl
-no_level zero (goal.Template r) here w h = refl
 no_level (suc n) g here w h = absurd (omega arith)
 
 pub one_level : (left : ℕ) (g : Goal) (here : Here) (w : World) → ¬ (left ≡ 0)

@@ -19,6 +19,7 @@ use Rattle.eval_calls.specs.Functions.{bind_rule, default_rule, defaults_from}
 use Rattle.eval_calls.specs.Renderings.{Rendering}
 use Rattle.eval_calls.specs.Templates.{are_given, are_params, has_param, param_rule, params_from, rendered_rule}
 use Rattle.eval_calls.specs.Templates.{written_rule}
+use Rattle.eval_world.specs.Inner.{Inner}
 use Rattle.eval_world.specs.Outcomes.{Step, ◌>>◌, pure}
 use Rattle.eval_world.specs.Worlds.{assign, emit, place_at, top}
 use Rattle.eval_world.specs.declared.world.World.{World}
@@ -70,14 +71,25 @@ block_at_last_depth w = refl
 
 -- ---- what statements emit
 
+-- each expression has the value `v`
+abbrev says_v : Inner
+says_v = record {
+  value = λ e here. pure (d.text (codes "v"));
+  block = λ b line here. pure d.undef;
+  words = λ x here. pure d.undef;
+  target = λ r here. pure d.undef;
+  class = λ n line here. pure d.undef;
+  instance = λ n line here. pure d.undef;
+}
+
 abbrev one : Expr
-one = expr_at 2 (f.Text (codes "v"))
+one = expr_at 2 f.Undef
 
 -- what was emitted before stays as it was
-text : (w : World) → emitted_rule (at_depth 1000)
+text : (w : World) → emitted_rule says_v
     (statement.Emit (codes "a") ∷ statement.EmitValue one ∷ statement.Emit (codes "b") ∷ []) top w
     ≡ Ok (d.text (codes "avb"), w)
-unfolding emitted_rule statements_from statement_rule emit statements.out-Statement denote.Hole.Carrier.out within value_rule forms.out-Form
+unfolding emitted_rule statements_from statement_rule emit statements.out-Statement denote.Hole.Carrier.out
 text w = refl
 
 no_text : (w : World) → emitted_rule (at_depth 1000) [] top w ≡ Ok (d.text [], w)
